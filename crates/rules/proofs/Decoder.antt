@@ -1,0 +1,164 @@
+-- The decoders read each unit of a form as the strict reader does, except those of the characters that decode does not give back.
+-- Assumes nothing.
+use mathlib.Core.Bool.{Bool, true, false, not, _&&_, _||_, cond}
+use mathlib.Core.Logic.{_⊎_, inl, inr}
+use mathlib.Core.Option.{Option, none, some, Option·none-ne-some}
+use mathlib.Core.Path.{_≡_, refl, ap, _∙_, subst}
+use mathlib.Core.List.{List, [], _∷_, _++_, map}
+use Prim.Native.Nat.{ℕ, pred}
+use lib.Dec.{T, eqb, eqb→eq, eqb-refl, T-not}
+use lib.ListN.{length}
+use Rattle.rules.specs.Bytes.{ascii, In, All, all, any, fits, stands, sameBytes, oneOf}
+use Rattle.rules.specs.Moves.{Move, keep, swap, stop, gives, taken, result}
+use Rattle.rules.specs.Tables.{Row, rowAt, key, value, htmlRows, rows, replacedChars}
+use Rattle.rules.specs.Units.{left, undecoded}
+use Rattle.rules.specs.declared.Context.{Context}
+use Rattle.rules.specs.declared.Context.the-variants.{InHtml, InScript, InStyle}
+use Rattle.rules.specs.Units.{IsUnit}
+use Rattle.rules.specs.Encoding.{closes, anyCase, terminators}
+use Rattle.rules.specs.Reading.{undo}
+use Rattle.rules.specs.Names.{names}
+use Rattle.rules.specs.References.{bodyWith, bodyOf, onBody, referenceBy, decodeChar, referenceStep}
+use Rattle.rules.specs.Escapes.{afterLess, escapeBy}
+use Rattle.rules.specs.Operations.{decodeStep, decodeOf}
+use Rattle.rules.proofs.Tests.{and-left, and-right, and-both, or-cases, or-false, is-false, all-in, first-none, same-bytes, same-in}
+use Rattle.rules.proofs.Machine.{Makes, Follows, singly, cut-moves, result-cut}
+use Rattle.rules.proofs.Chars.{isTail, char-singly}
+use Rattle.rules.proofs.Tables.{bar-stops, row-length, row-first}
+use Rattle.rules.proofs.Every.{every, values-code}
+
+-- ---- at any byte but one the decoder of a family keeps the byte
+
+-- `&` or `\`.
+abbrev mark : Context → ℕ
+mark (InHtml h) = 38
+mark (InScript q) = 92
+mark (InStyle q) = 92
+
+abbrev begins : ℕ → List ℕ → Bool
+begins b [] = false
+begins b (x ∷ v) = eqb x b
+
+begins-first : (b : ℕ) (v : List ℕ) (x : ℕ) (s : List ℕ) → T (begins b v) → T (stands v (x ∷ s)) → T (eqb x b)
+begins-first b [] x s t h = absurd t
+begins-first b (y ∷ v) x s t h = subst (λ (z : ℕ). T (eqb z b)) (eqb→eq y x (and-left (eqb y x) (stands v s) h)) t
+
+pub reference-quiet : (char : ℕ → Option (List ℕ)) (p x : ℕ) (s : List ℕ) → (T (eqb x 38) → ⊥) → referenceBy char p (x ∷ s) ≡ keep (x ∷ [])
+reference-quiet char p x s h = ap (λ (b : Bool). onBody char b (bodyOf s) x) (is-false (eqb x 38) h)
+
+escape-quiet : (name : List ℕ) (rs : List Row) → T (all (λ (e : Row). begins 92 (value e)) rs) → (p x : ℕ) (s : List ℕ) → (T (eqb x 92) → ⊥)
+    → escapeBy name rs p (x ∷ s) ≡ keep (x ∷ [])
+escape-quiet name rs ok p x s h =
+    ap (λ (o : Option Row). undo o (afterLess name p (x ∷ s)))
+    (first-none (λ (row : Row). stands (value row)) rs (x ∷ s) (λ e i t. h (begins-first 92 (value e) x s (all-in (λ (e : Row). begins 92 (value e)) rs ok e i) t)))
+    ∙ ap (λ (b : Bool). cond b (swap (ascii "\\!") (ascii "!")) (cond (eqb p 60 && closes (ascii "\\/" ++ name) (x ∷ s)) (swap (ascii "\\/") (ascii "/")) (keep (x ∷ []))))
+    (is-false (eqb p 60 && stands (ascii "\\!--") (x ∷ s))
+    (λ t. h (subst (λ (z : ℕ). T (eqb z 92)) (eqb→eq 92 x (and-left (eqb 92 x) (stands (ascii "!--") s) (and-right (eqb p 60) (stands (ascii "\\!--") (x ∷ s)) t))) tt)))
+    ∙ ap (λ (b : Bool). cond b (swap (ascii "\\/") (ascii "/")) (keep (x ∷ [])))
+    (is-false (eqb p 60 && closes (ascii "\\/" ++ name) (x ∷ s))
+    (λ t. h (or-false (eqb x 92) (and-left (oneOf (92 ∷ []) x) (fits oneOf (map anyCase (ascii "/" ++ name) ++ terminators ∷ []) s) (and-right (eqb p 60) (closes (ascii "\\/" ++ name) (x ∷ s)) t)))))
+
+decode-quiet : (c : Context) → T (all (λ (e : Row). begins (mark c) (value e)) (rows c)) → (p x : ℕ) (s : List ℕ) → (T (eqb x (mark c)) → ⊥)
+    → decodeStep c p (x ∷ s) ≡ keep (x ∷ [])
+unfolding decodeStep referenceStep
+decode-quiet (InHtml h) ok = reference-quiet decodeChar
+decode-quiet (InScript q) ok = escape-quiet (ascii "script") (rows (InScript q)) ok
+decode-quiet (InStyle q) ok = escape-quiet (ascii "style") (rows (InStyle q)) ok
+
+-- Every value begins with that byte, which is no byte 80 to BF and is no plain character of the context.
+abbrev marked : Context → Bool
+marked c = all (λ (e : Row). begins (mark c) (value e)) (rows c)
+
+abbrev markBarred : Context → Bool
+markBarred c = any (sameBytes (mark c ∷ [])) (replacedChars c)
+
+abbrev markLeads : Context → Bool
+markLeads c = not (isTail (mark c))
+
+-- ---- a reference that is read is read whatever follows
+
+body-append : (s r b : List ℕ) → bodyOf s ≡ some b → bodyOf (s ++ r) ≡ some b
+body-append [] r b e = absurd (Option·none-ne-some b e)
+body-append (x ∷ xs) r b e = go (eqb x 59) (eqb x 38) (bodyOf xs) refl (λ b. body-append xs r b) e
+  where
+    go : (p q : Bool) (o : Option (List ℕ)) → bodyOf xs ≡ o → ((b : List ℕ) → bodyOf xs ≡ some b → bodyOf (xs ++ r) ≡ some b)
+        → bodyWith p q x o ≡ some b → bodyWith p q x (bodyOf (xs ++ r)) ≡ some b
+    go true q o f ih e = e
+    go false true o f ih e = e
+    go false false none f ih e = absurd (Option·none-ne-some b e)
+    go false false (some b′) f ih e = ap (bodyWith false false x) (ih b′ f) ∙ e
+
+-- The move undoes the row.
+abbrev undoes : Move → Row → Bool
+undoes (keep a) e = false
+undoes (swap a b) e = sameBytes a (value e) && sameBytes b (key e)
+undoes stop e = false
+
+undoes-row : (m : Move) (e : Row) → T (undoes m e) → m ≡ swap (value e) (key e)
+undoes-row (keep a) e t = absurd t
+undoes-row (swap a b) e t =
+    λ i. swap (same-bytes a (value e) (and-left (sameBytes a (value e)) (sameBytes b (key e)) t) i) (same-bytes b (key e) (and-right (sameBytes a (value e)) (sameBytes b (key e)) t) i)
+undoes-row stop e t = absurd t
+
+reference-append : (p : ℕ) (s r : List ℕ) (e : Row) → T (undoes (referenceStep 0 s) e) → referenceStep p (s ++ r) ≡ swap (value e) (key e)
+unfolding referenceStep
+reference-append p [] r e t = absurd t
+reference-append p (x ∷ xs) r e t = go (eqb x 38) (bodyOf xs) refl t ∙ undoes-row (referenceStep 0 (x ∷ xs)) e t
+  where
+    go : (b : Bool) (o : Option (List ℕ)) → bodyOf xs ≡ o → T (undoes (onBody decodeChar b o x) e) → onBody decodeChar b (bodyOf (xs ++ r)) x ≡ onBody decodeChar b o x
+    go false o f t = refl
+    go true none f t = absurd t
+    go true (some body) f t = ap (λ (o : Option (List ℕ)). onBody decodeChar true o x) (body-append xs r body f)
+
+-- Each value of an HTML context is a reference to its key, but for the characters that decode does not give back.
+abbrev refers : List (List ℕ) → Row → Bool
+refers bad e = any (sameBytes (key e)) bad || undoes (referenceStep 0 (value e)) e
+
+abbrev refersIn : Context → Bool
+unfolding names referenceStep
+refersIn (InHtml h) = all (refers (left h)) (htmlRows h)
+refersIn (InScript q) = true
+refersIn (InStyle q) = true
+
+decode-row : (c : Context) (e : Row) → In e (rows c) → (In (key e) (undecoded c) → ⊥) → (r : List ℕ)
+    → rowAt value (rows c) (value e ++ r) ≡ some e → (p : ℕ) → decodeStep c p (value e ++ r) ≡ swap (value e) (key e)
+unfolding decodeStep referenceStep names
+decode-row (InHtml h) e i n r w p = go (or-cases (any (sameBytes (key e)) (left h)) (undoes (referenceStep 0 (value e)) e) (all-in (refers (left h)) (htmlRows h) (every refersIn tt (InHtml h)) e i))
+  where
+    go : T (any (sameBytes (key e)) (left h)) ⊎ T (undoes (referenceStep 0 (value e)) e) → referenceStep p (value e ++ r) ≡ swap (value e) (key e)
+    go (inl t) = absurd (n (same-in (key e) (left h) t))
+    go (inr t) = reference-append p (value e) r e t
+decode-row (InScript q) e i n r w p = ap (λ (o : Option Row). undo o (afterLess (ascii "script") p (value e ++ r))) w
+decode-row (InStyle q) e i n r w p = ap (λ (o : Option Row). undo o (afterLess (ascii "style") p (value e ++ r))) w
+
+-- ---- through a form
+
+-- A unit that decode gives back.
+abbrev pub IsDecoded : Context → Move → Type 0
+IsDecoded c u = IsUnit (rows c) (replacedChars c) u × (In (gives u) (undecoded c) → ⊥)
+
+module _ (c : Context) where
+  at-mark : (p x : ℕ) (s : List ℕ) → (T (eqb x (mark c)) → ⊥) → decodeStep c p (x ∷ s) ≡ keep (x ∷ [])
+  at-mark = decode-quiet c (every marked tt c)
+
+  decode-keeps : (a : List ℕ) → IsDecoded c (keep a) → (r : List ℕ) → Follows (decodeStep c) (singly a) r
+  decode-keeps [] u r = tt
+  decode-keeps (x ∷ a) u r =
+      char-singly (decodeStep c) (λ p y s t. at-mark p y s (λ h. T-not (isTail (mark c)) (every markLeads tt c) (subst (λ (z : ℕ). T (isTail z)) (eqb→eq y (mark c) h) t)))
+      x a r (u .0 .0) (λ p. at-mark p x (a ++ r) no-mark)
+    where
+      no-mark : T (eqb x (mark c)) → ⊥
+      no-mark h =
+          bar-stops value (rows c) (replacedChars c) (values-code c) (x ∷ a) r (u .0) (mark c ∷ []) (same-in (mark c ∷ []) (replacedChars c) (every markBarred tt c))
+          (subst (λ (z : ℕ). T (stands (z ∷ []) (x ∷ (a ++ r)))) (eqb→eq x (mark c) h) (and-both (eqb x x) true (eqb-refl x) tt))
+
+  decode-swaps : (v k : List ℕ) → IsDecoded c (swap v k) → (r : List ℕ) → Makes (decodeStep c) (swap v k) r
+  decode-swaps v k u r = (
+    pred (length v),
+    row-length value (rows c) (replacedChars c) (values-code c) (k, v) (u .0),
+    decode-row c (k, v) (u .0) (u .1) r (row-first value (rows c) (replacedChars c) (values-code c) (k, v) (u .0) r),
+  )
+
+  -- Through such a run the decoder gives what the run gives.
+  pub decode-run : (us : List Move) → All (IsDecoded c) us → decodeOf c (taken us) ≡ result us
+  decode-run us g = ap result (cut-moves (decodeStep c) (IsDecoded c) decode-keeps decode-swaps 0 us g) ∙ result-cut us

@@ -1,0 +1,142 @@
+-- The encoder writes each character of a text as its unit.
+-- Assumes nothing.
+use mathlib.Core.Bool.{Bool, false, not}
+use mathlib.Core.Logic.{_⊎_, inl, inr}
+use mathlib.Core.Option.{Option, none, some}
+use mathlib.Core.Path.{_≡_, refl, sym, ap, _∙_, subst}
+use mathlib.Core.List.{List, [], _∷_, _++_, map, append-nil}
+use Prim.Native.Nat.{ℕ, pred}
+use lib.Dec.{T, eqb, eqb→eq, T-not}
+use lib.ListN.{length}
+use Rattle.rules.specs.Bytes.{In, All, all, any, join, stands, sameBytes}
+use Rattle.rules.specs.Moves.{Move, keep, swap, stop, gives, taken, result, through}
+use Rattle.rules.specs.Utf8.{IsChar, IsFree}
+use Rattle.rules.specs.Tables.{Row, rowAt, key, rows, lossy, table, replacedChars}
+use Rattle.rules.specs.Units.{unread}
+use Rattle.rules.specs.declared.Context.{Context}
+use Rattle.rules.specs.Units.{IsUnit, IsRun}
+use Rattle.rules.specs.Encoding.{write, keepByte, encodeStep}
+use Rattle.rules.specs.Operations.{encodeOf}
+use Rattle.rules.proofs.Tests.{and-left, all-in, same-in, in-same, first-none, first-sound, none-fits, stands-self, stands-split, in-append, in-right, in-map, map-in}
+use Rattle.rules.proofs.Machine.{Makes, Follows, turn, singly, cut, cut-moves, taken-turn, result-turn, result-cut}
+use Rattle.rules.proofs.Chars.{isChar, is-char, isTail, char-unique, char-singly}
+use Rattle.rules.proofs.Tables.{code-chars, row-stops, row-length, row-first}
+use Rattle.rules.proofs.Every.{every, keys-code}
+
+-- No key begins with a byte 80 to BF.
+abbrev leads : Row → Bool
+leads e = elim (key e) [ [] ↦ false | x ∷ xs ↦ not (isTail x) ]
+
+keys-lead : (c : Context) → T (all leads (table c))
+keys-lead = every (λ (c : Context). all leads (table c)) tt
+
+lead-stops : (k v : List ℕ) (y : ℕ) (s : List ℕ) → T (leads (k, v)) → T (isTail y) → T (stands k (y ∷ s)) → ⊥
+lead-stops [] v y s l t h = l
+lead-stops (x ∷ k) v y s l t h = T-not (isTail x) l (subst (λ (z : ℕ). T (isTail z)) (sym (eqb→eq x y (and-left (eqb x y) (stands k s) h))) t)
+
+module _ (c : Context) where
+  kept-where : (p x : ℕ) (s : List ℕ) → ((e : Row) → In e (table c) → T (stands (key e) (x ∷ s)) → ⊥) → encodeStep c p (x ∷ s) ≡ keep (x ∷ [])
+  unfolding encodeStep
+  kept-where p x s h = ap (λ (o : Option Row). write o (keep (x ∷ []))) (first-none (λ (row : Row). stands (key row)) (table c) (x ∷ s) h)
+
+  encode-keeps : (a : List ℕ) → IsUnit (table c) (replacedChars c) (keep a) → (r : List ℕ) → Follows (encodeStep c) (singly a) r
+  encode-keeps [] u r = tt
+  encode-keeps (x ∷ a) u r =
+      char-singly (encodeStep c)
+      (λ p y s t. kept-where p y s (λ e i h. lead-stops (e .0) (e .1) y s (all-in leads (table c) (keys-lead c) e i) t h))
+      x a r (u .0) (λ p. kept-where p x (a ++ r) (row-stops key (table c) (replacedChars c) (keys-code c) (x ∷ a) r u))
+
+  encode-swaps : (k v : List ℕ) → In (k, v) (table c) → (r : List ℕ) → Makes (encodeStep c) (swap k v) r
+  unfolding encodeStep
+  encode-swaps k v i r = (
+    pred (length k),
+    row-length key (table c) (replacedChars c) (keys-code c) (k, v) i,
+    λ p. ap (λ (o : Option Row). write o (keepByte (k ++ r))) (row-first key (table c) (replacedChars c) (keys-code c) (k, v) i r),
+  )
+
+  turned : (us : List Move) → All (IsUnit (table c) (replacedChars c)) us → All (λ (m : Move). IsUnit (table c) (replacedChars c) (turn m)) (map turn us)
+  turned [] g = tt
+  turned (keep a ∷ us) g = (g .0, turned us (g .1))
+  turned (swap v k ∷ us) g = (g .0, turned us (g .1))
+  turned (stop ∷ us) g = absurd (g .0)
+
+  -- Through the text of a run the encoder goes the run back, byte by byte.
+  pub encode-moves : (us : List Move) → All (IsUnit (table c) (replacedChars c)) us → through (encodeStep c) (result us) ≡ cut (map turn us)
+  encode-moves us g =
+      ap (through (encodeStep c)) (sym (taken-turn us))
+      ∙ cut-moves (encodeStep c) (λ (m : Move). IsUnit (table c) (replacedChars c) (turn m)) encode-keeps encode-swaps 0 (map turn us) (turned us g)
+
+  -- What it writes is the form.
+  pub encode-run : (us : List Move) → All (IsUnit (table c) (replacedChars c)) us → encodeOf c (result us) ≡ taken us
+  encode-run us g = ap result (encode-moves us g) ∙ result-cut (map turn us) ∙ result-turn us
+
+  key-char : (e : Row) → In e (table c) → IsChar (key e)
+  key-char e i = is-char (key e) (all-in isChar (replacedChars c) (code-chars key (table c) (replacedChars c) (keys-code c)) (key e) (map-in key e (table c) i))
+
+  -- Each character has a unit.
+  unit-of : (a : List ℕ) → IsChar a → (u : Move) × IsUnit (table c) (replacedChars c) u × (gives u ≡ a)
+  unit-of a h = go (rowAt key (table c) a) refl
+    where
+      go : (o : Option Row) → rowAt key (table c) a ≡ o → (u : Move) × IsUnit (table c) (replacedChars c) u × (gives u ≡ a)
+      go (some e) q =
+          let (i, t) = first-sound (λ (row : Row). stands (key row)) (table c) a e q in
+          let (r, s) = stands-split (key e) a t in
+          (swap (e .1) (e .0), i, sym (char-unique a (key e) [] r h (key-char e i) (append-nil a ∙ s)))
+      go none q = (
+        keep a,
+        (
+          h,
+          λ i. let (e, j, w) = in-map key a (table c) i in
+              none-fits (λ (row : Row). stands (key row)) (table c) a q e j (subst (λ (s : List ℕ). T (stands (key e) s)) (append-nil (key e) ∙ sym w) (stands-self (key e) [])),
+        ),
+        refl,
+      )
+
+  -- The characters that read does not give back are replaced, by no row that is read.
+  unread-replaced : (a : List ℕ) → In a (unread c) → In a (replacedChars c)
+  unread-replaced a i = same-in a (replacedChars c)
+      (all-in (λ (a : List ℕ). any (sameBytes a) (replacedChars c)) (unread c) (every (λ (c : Context). all (λ (a : List ℕ). any (sameBytes a) (replacedChars c)) (unread c)) tt c) a i)
+
+  rows-readable : (e : Row) → In e (rows c) → In (key e) (unread c) → ⊥
+  rows-readable e i j =
+      T-not (any (sameBytes (key e)) (unread c))
+      (all-in (λ (e : Row). not (any (sameBytes (key e)) (unread c))) (rows c) (every (λ (c : Context). all (λ (e : Row). not (any (sameBytes (key e)) (unread c))) (rows c)) tt c) e i)
+      (in-same (key e) (unread c) j)
+
+  -- A unit that does not come from NUL in a style string is a unit of the context's forms.
+  readable : (u : Move) → IsUnit (table c) (replacedChars c) u → (In (gives u) (unread c) → ⊥) → IsUnit (rows c) (replacedChars c) u
+  readable (keep a) i s = i
+  readable stop i s = i
+  readable (swap v k) i s = go (in-append (k, v) (lossy c) (rows c) i)
+    where
+      go : In (k, v) (lossy c) ⊎ In (k, v) (rows c) → In (k, v) (rows c)
+      go (inl j) = absurd (s (map-in key (k, v) (lossy c) j))
+      go (inr j) = j
+
+  -- A text that is free of some characters is what a run of units gives, and each unit gives none of them.
+  pub run-of : (bad : List (List ℕ)) → ((a : List ℕ) → In a (unread c) → In a bad) → (cs : List (List ℕ)) → All IsChar cs → All (λ (a : List ℕ). In a bad → ⊥) cs
+      → (us : List Move) × IsRun c us × All (λ (u : Move). In (gives u) bad → ⊥) us × (join cs ≡ result us)
+  run-of bad sub [] h f = ([], tt, tt, refl)
+  run-of bad sub (a ∷ cs) h f =
+      let (u, i, e) = unit-of a (h .0) in
+      let (us, g, b, q) = run-of bad sub cs (h .1) (f .1) in
+      let ok : In (gives u) bad → ⊥ = subst (λ (l : List ℕ). In l bad → ⊥) (sym e) (f .0) in
+      (u ∷ us, (readable u i (λ j. ok (sub (gives u) j)), g), (ok, b), λ i. sym e i ++ q i)
+
+  -- And a run of units gives such a text.
+  pub run-free : (us : List Move) → IsRun c us → IsFree (unread c) (result us)
+  run-free [] g = ([], tt, tt, refl)
+  run-free (keep a ∷ us) g =
+      let (cs, h, f, e) = run-free us (g .1) in
+      (a ∷ cs, (g .0 .0, h), ((λ i. g .0 .1 (unread-replaced a i)), f), ap (λ (s : List ℕ). a ++ s) e)
+  run-free (swap v k ∷ us) g =
+      let (cs, h, f, e) = run-free us (g .1) in
+      (k ∷ cs, (key-char (k, v) (in-right (k, v) (lossy c) (rows c) (g .0)), h), ((λ i. rows-readable (k, v) (g .0) i), f), ap (λ (s : List ℕ). k ++ s) e)
+  run-free (stop ∷ us) g = absurd (g .0)
+
+  -- The units of a form are units of the whole table.
+  pub wide : (us : List Move) → IsRun c us → All (IsUnit (table c) (replacedChars c)) us
+  wide [] g = tt
+  wide (keep a ∷ us) g = (g .0, wide us (g .1))
+  wide (swap v k ∷ us) g = (in-right (k, v) (lossy c) (rows c) (g .0), wide us (g .1))
+  wide (stop ∷ us) g = absurd (g .0)

@@ -1,0 +1,153 @@
+-- encode and script_raw take the whole text; how long what they write can be, and when it is the text itself.
+-- Assumes nothing.
+use mathlib.Core.Bool.{Bool, true, false, _&&_, cond}
+use mathlib.Core.Option.{Option, none, some}
+use mathlib.Core.Path.{_≡_, refl, sym, ap, _∙_, subst}
+use mathlib.Core.List.{List, [], _∷_}
+use Prim.Native.Nat.{ℕ, pred, _+_, _*_, _≤_, _<_, _-_}
+use native.Mathlib.Omega.{arith}
+use lib.Dec.{leb, ltb, eqb, leb→le, ltb→lt}
+use lib.ListN.{length, length-append}
+use Rattle.rules.specs.Bytes.{ascii, All, all, stands}
+use Rattle.rules.specs.Moves.{Move, keep, swap, stop, takes, gives, Rule, taken, result, replaced, growth, through}
+use Rattle.rules.specs.Tables.{Row, rowAt, key, value, table, replacedChars}
+use Rattle.rules.specs.declared.Context.{Context}
+use Rattle.rules.specs.Encoding.{write, keepByte, encodeStep, rawStep, parted}
+use Rattle.rules.proofs.Tests.{and-left, and-right, all-in, first-sound, stands-split}
+use Rattle.rules.proofs.Machine.{Fair, Goes, moves-fair, whole}
+use Rattle.rules.proofs.Tables.{row-length}
+use Rattle.rules.proofs.Every.{every, keys-code}
+
+-- A move gives at most six times what it takes; and if it replaces something it gives more than it takes.
+abbrev pub Grows : Move → Type 0
+Grows m = (length (gives m) ≤ 6 * length (takes m)) × (replaced (m ∷ []) + length (takes m) ≤ length (gives m))
+
+kept-grows : (x : ℕ) → Grows (keep (x ∷ []))
+kept-grows x = (leb→le 1 6 tt, leb→le 1 1 tt)
+
+abbrev grown : Row → Bool
+grown e = leb (length (value e)) (6 * length (key e)) && ltb (length (key e)) (length (value e))
+
+encode-fair : (c : Context) (p : ℕ) (s : List ℕ) → Fair Grows (encodeStep c p s) s
+unfolding encodeStep
+encode-fair c p s = go (rowAt key (table c) s) refl s refl
+  where
+    go : (o : Option Row) → rowAt key (table c) s ≡ o → (l : List ℕ) → s ≡ l → Fair Grows (write o (keepByte l)) l
+    go none f [] e = tt
+    go none f (x ∷ xs) e = (kept-grows x, xs, refl, 0, refl)
+    go (some row) f l e =
+        let (i, t) = first-sound (λ (row : Row). stands (key row)) (table c) s row f in
+        let (r, w) = stands-split (key row) s t in
+        let g = all-in grown (table c) (every (λ (c : Context). all grown (table c)) tt c) row i in (
+          (
+            leb→le (length (value row)) (6 * length (key row)) (and-left (leb (length (value row)) (6 * length (key row))) (ltb (length (key row)) (length (value row))) g),
+            more (length (key row)) (length (value row)) (ltb→lt (length (key row)) (length (value row)) (and-right (leb (length (value row)) (6 * length (key row))) (ltb (length (key row)) (length (value row))) g)),
+          ),
+          r,
+          sym e ∙ w,
+          pred (length (key row)),
+          row-length key (table c) (replacedChars c) (keys-code c) row i,
+        )
+      where
+        more : (k v : ℕ) → k < v → 1 + k ≤ v
+        more k v h = omega arith
+
+encode-goes : (c : Context) (p x : ℕ) (xs : List ℕ) → Goes (encodeStep c p (x ∷ xs))
+unfolding encodeStep
+encode-goes c p x xs = go (rowAt key (table c) (x ∷ xs))
+  where
+    go : (o : Option Row) → Goes (write o (keep (x ∷ [])))
+    go none = tt
+    go (some row) = tt
+
+raw-fair : (p : ℕ) (s : List ℕ) → Fair Grows (rawStep p s) s
+unfolding rawStep
+raw-fair p [] = tt
+raw-fair p (b ∷ s) = go (eqb b 60 && parted s)
+  where
+    go : (t : Bool) → Fair Grows (cond t (swap (b ∷ []) (b ∷ ascii "\\")) (keep (b ∷ []))) (b ∷ s)
+    go true = ((leb→le 2 6 tt, leb→le 2 2 tt), s, refl, 0, refl)
+    go false = (kept-grows b, s, refl, 0, refl)
+
+raw-goes : (p x : ℕ) (xs : List ℕ) → Goes (rawStep p (x ∷ xs))
+unfolding rawStep
+raw-goes p x xs = go (eqb x 60 && parted xs)
+  where
+    go : (t : Bool) → Goes (cond t (swap (x ∷ []) (x ∷ ascii "\\")) (keep (x ∷ [])))
+    go true = tt
+    go false = tt
+
+add-up : (v k a b : ℕ) → v ≤ 6 * k → a ≤ 6 * b → v + a ≤ 6 * (k + b)
+add-up v k a b h i = omega arith
+
+pub at-most : (ms : List Move) → All Grows ms → length (result ms) ≤ 6 * length (taken ms)
+at-most [] g = omega arith
+at-most (m ∷ ms) g =
+    rw (length-append (gives m) (result ms), length-append (takes m) (taken ms))
+    (add-up (length (gives m)) (length (takes m)) (length (result ms)) (length (taken ms)) (g .0 .0) (at-most ms (g .1)))
+
+sum-up : (n v k m a b : ℕ) → n + k ≤ v → m + b ≤ a → n + m + (k + b) ≤ v + a
+sum-up n v k m a b h i = omega arith
+
+replaced-cons : (m : Move) (ms : List Move) → replaced (m ∷ ms) ≡ replaced (m ∷ []) + replaced ms
+replaced-cons (keep a) ms = omega arith
+replaced-cons (swap a b) ms = omega arith
+replaced-cons stop ms = omega arith
+
+pub at-least : (ms : List Move) → All Grows ms → replaced ms + length (taken ms) ≤ length (result ms)
+at-least [] g = omega arith
+at-least (m ∷ ms) g =
+    rw (replaced-cons m ms, length-append (gives m) (result ms), length-append (takes m) (taken ms))
+    (sum-up (replaced (m ∷ [])) (length (gives m)) (length (takes m)) (replaced ms) (length (result ms)) (length (taken ms)) (g .0 .1) (at-least ms (g .1)))
+
+kept-sum : (a r t g : ℕ) → r ≡ t + g → a + r ≡ a + t + g
+kept-sum a r t g e = omega arith
+
+swap-sum : (a b r t g : ℕ) → 1 + a ≤ b → r ≡ t + g → b + r ≡ a + t + (b - a + g)
+swap-sum a b r t g h e = omega arith
+
+pub sum : (ms : List Move) → All Grows ms → length (result ms) ≡ length (taken ms) + growth ms
+sum [] g = refl
+sum (keep a ∷ ms) g =
+    rw (length-append a (result ms), length-append a (taken ms)) (kept-sum (length a) (length (result ms)) (length (taken ms)) (growth ms) (sum ms (g .1)))
+sum (swap a b ∷ ms) g =
+    rw (length-append b (result ms), length-append a (taken ms))
+    (swap-sum (length a) (length b) (length (result ms)) (length (taken ms)) (growth ms) (g .0 .1) (sum ms (g .1)))
+sum (stop ∷ ms) g = sum ms (g .1)
+
+none-left : (n a b : ℕ) → n + a ≤ b → b ≡ a → n ≡ 0
+none-left n a b h e = omega arith
+
+-- A rule that grows and never stops: at most six times the length, and the same text exactly if nothing is replaced.
+module _ (rule : Rule) (fair : (p : ℕ) (s : List ℕ) → Fair Grows (rule p s) s) (goes : (p x : ℕ) (xs : List ℕ) → Goes (rule p (x ∷ xs))) where
+  six-times : (s : List ℕ) → length (result (through rule s)) ≤ 6 * length s
+  six-times s = subst (λ (l : List ℕ). length (result (through rule s)) ≤ 6 * length l) (whole Grows rule fair goes s) (at-most (through rule s) (moves-fair Grows rule fair 0 0 s .0))
+
+  grown-sum : (s : List ℕ) → length (result (through rule s)) ≡ length s + growth (through rule s)
+  grown-sum s = sum (through rule s) (moves-fair Grows rule fair 0 0 s .0) ∙ ap (λ (l : List ℕ). length l + growth (through rule s)) (whole Grows rule fair goes s)
+
+  none-replaced : (s : List ℕ) → result (through rule s) ≡ s → replaced (through rule s) ≡ 0
+  none-replaced s e =
+      none-left (replaced (through rule s)) (length (taken (through rule s))) (length (result (through rule s))) (at-least (through rule s) (moves-fair Grows rule fair 0 0 s .0))
+      (ap length (e ∙ sym (whole Grows rule fair goes s)))
+
+pub encode-whole : (c : Context) (s : List ℕ) → taken (through (encodeStep c) s) ≡ s
+encode-whole c = whole Grows (encodeStep c) (encode-fair c) (encode-goes c)
+
+pub raw-whole : (s : List ℕ) → taken (through rawStep s) ≡ s
+raw-whole = whole Grows rawStep raw-fair raw-goes
+
+pub encode-six : (c : Context) (s : List ℕ) → length (result (through (encodeStep c) s)) ≤ 6 * length s
+encode-six c = six-times (encodeStep c) (encode-fair c) (encode-goes c)
+
+pub encode-sum : (c : Context) (s : List ℕ) → length (result (through (encodeStep c) s)) ≡ length s + growth (through (encodeStep c) s)
+encode-sum c = grown-sum (encodeStep c) (encode-fair c) (encode-goes c)
+
+pub raw-six : (s : List ℕ) → length (result (through rawStep s)) ≤ 6 * length s
+raw-six = six-times rawStep raw-fair raw-goes
+
+pub encode-none : (c : Context) (s : List ℕ) → result (through (encodeStep c) s) ≡ s → replaced (through (encodeStep c) s) ≡ 0
+encode-none c = none-replaced (encodeStep c) (encode-fair c) (encode-goes c)
+
+pub raw-none : (s : List ℕ) → result (through rawStep s) ≡ s → replaced (through rawStep s) ≡ 0
+raw-none = none-replaced rawStep raw-fair raw-goes

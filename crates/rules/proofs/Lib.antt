@@ -1,0 +1,13 @@
+pub mod Tests
+pub mod Machine
+pub mod Codes
+pub mod Chars
+pub mod Tables
+pub mod Valid
+pub mod Every
+pub mod Encoder
+pub mod Decoder
+pub mod Growth
+pub mod Whole
+pub mod Laws
+pub mod Loops

@@ -1,0 +1,58 @@
+-- 4. "Fourteen contexts, five operations": the contexts with their names and numbers, and the operations with theirs.
+-- The types are those of the code: thirteen contexts have units, script_raw has none. view is with the refusal table.
+-- Assumes nothing.
+use mathlib.Core.List.{List, [], _∷_}
+use Prim.Native.Nat.{ℕ}
+use lib.ListN.{getD}
+use Rattle.rules.specs.Bytes.{ascii}
+use Rattle.rules.specs.declared.Html.{Html}
+use Rattle.rules.specs.declared.Html.the-variants.{TextMinimal, Text, DoubleQuoted, SingleQuoted, Quoted, Safe, Unquoted}
+use Rattle.rules.specs.declared.Quotes.{Quotes}
+use Rattle.rules.specs.declared.Quotes.the-variants.{Single, Double, Both}
+use Rattle.rules.specs.declared.Context.{Context}
+use Rattle.rules.specs.declared.Context.the-variants.{InHtml, InScript, InStyle}
+use Rattle.rules.specs.declared.Named.{Named}
+use Rattle.rules.specs.declared.Named.the-variants.{Units, ScriptRaw, Unknown}
+use Rattle.rules.specs.declared.Operation.{Operation}
+use Rattle.rules.specs.declared.Operation.the-variants.{Encode, Decode, Read, Browse}
+
+-- A name that document 01 gives, and what it names.
+pub record Label (A : Type 0) : Type 0 where
+  pub name : List ℕ
+  pub names : A
+
+-- A name and what it names.
+abbrev pub label : {A : Type 0} → List ℕ → A → Label A
+label n a = record { name = n; names = a }
+
+-- The fourteen contexts in document 01's order: the HTML seven, the script strings, the style strings, script_raw.
+abbrev pub contextNames : List (Label Named)
+contextNames =
+    label (ascii "text_minimal") (Units (InHtml TextMinimal))
+    ∷ label (ascii "text") (Units (InHtml Text))
+    ∷ label (ascii "double_quoted") (Units (InHtml DoubleQuoted))
+    ∷ label (ascii "single_quoted") (Units (InHtml SingleQuoted))
+    ∷ label (ascii "quoted") (Units (InHtml Quoted))
+    ∷ label (ascii "safe") (Units (InHtml Safe))
+    ∷ label (ascii "unquoted") (Units (InHtml Unquoted))
+    ∷ label (ascii "script_single") (Units (InScript Single))
+    ∷ label (ascii "script_double") (Units (InScript Double))
+    ∷ label (ascii "script_quoted") (Units (InScript Both))
+    ∷ label (ascii "style_single") (Units (InStyle Single))
+    ∷ label (ascii "style_double") (Units (InStyle Double))
+    ∷ label (ascii "style_quoted") (Units (InStyle Both))
+    ∷ label (ascii "script_raw") ScriptRaw
+    ∷ []
+
+-- The context of a number: its place in that list, from 0; any other number names none.
+unfoldable pub contextOf : ℕ → Named
+contextOf n = getD contextNames n (label [] Unknown) .names
+
+-- The operations that go through a text, by name.
+abbrev pub operationNames : List (Label Operation)
+operationNames =
+    label (ascii "encode") Encode
+    ∷ label (ascii "decode") Decode
+    ∷ label (ascii "read") Read
+    ∷ label (ascii "browse") Browse
+    ∷ []

@@ -1,0 +1,15 @@
+-- The definitions of document 01, in reading order.
+pub mod Bytes
+pub mod Moves
+pub mod Utf8
+pub mod Contexts
+pub mod Tables
+pub mod Units
+pub mod Encoding
+pub mod Reading
+pub mod Names
+pub mod References
+pub mod Escapes
+pub mod Operations
+pub mod Refusals
+pub mod Program

@@ -1,0 +1,87 @@
+-- 2. The one machine of every operation: moves through a text. Result, place and replaced places are read off the moves.
+-- Assumes nothing.
+use mathlib.Core.List.{List, [], _∷_, _++_}
+use Prim.Native.Nat.{ℕ, zero, suc, pred, _+_, _-_}
+use lib.ListN.{length, drop, getD}
+
+-- One move: bytes are kept as they are; bytes give way to others; or nothing can be taken here.
+pub data Move : Type 0 where
+  keep : List ℕ → Move
+  swap : List ℕ → List ℕ → Move
+  stop : Move
+
+-- The bytes of the text that a move takes.
+abbrev pub takes : Move → List ℕ
+takes (keep a) = a
+takes (swap a b) = a
+takes stop = []
+
+-- The bytes of the result that it gives.
+abbrev pub gives : Move → List ℕ
+gives (keep a) = a
+gives (swap a b) = b
+gives stop = []
+
+-- A rule says the move at a place from the byte before (0 at the start) and the text from there on.
+abbrev pub Rule : Type 0
+Rule = ℕ → List ℕ → Move
+
+-- No move comes after a stop.
+abbrev pub andThen : Move → List Move → List Move
+andThen (keep a) ms = keep a ∷ ms
+andThen (swap a b) ms = swap a b ∷ ms
+andThen stop ms = []
+
+-- The moves of a rule through a text: prev is the byte before, and skip bytes belong to the move before.
+abbrev pub moves : Rule → ℕ → ℕ → List ℕ → List Move
+moves rule prev skip [] = []
+moves rule prev (suc skip) (b ∷ text) = moves rule b skip text
+moves rule prev zero (b ∷ text) = andThen (rule prev (b ∷ text)) (moves rule b (pred (length (takes (rule prev (b ∷ text))))) text)
+
+-- The moves of a rule through a whole text.
+abbrev pub through : Rule → List ℕ → List Move
+through rule text = moves rule 0 0 text
+
+-- The bytes that the moves take, one after the other.
+abbrev pub taken : List Move → List ℕ
+taken [] = []
+taken (m ∷ ms) = takes m ++ taken ms
+
+-- The place where they end.
+abbrev pub place : List Move → ℕ
+place ms = length (taken ms)
+
+-- The result.
+abbrev pub result : List Move → List ℕ
+result [] = []
+result (m ∷ ms) = gives m ++ result ms
+
+-- How many places are replaced.
+abbrev pub replaced : List Move → ℕ
+replaced [] = 0
+replaced (keep a ∷ ms) = replaced ms
+replaced (swap a b ∷ ms) = suc (replaced ms)
+replaced (stop ∷ ms) = replaced ms
+
+-- By how much the replaced places that grow do so.
+abbrev pub growth : List Move → ℕ
+growth [] = 0
+growth (keep a ∷ ms) = growth ms
+growth (swap a b ∷ ms) = (length b - length a) + growth ms
+growth (stop ∷ ms) = growth ms
+
+-- By how much those that shrink do so.
+abbrev pub shrinkage : List Move → ℕ
+shrinkage [] = 0
+shrinkage (keep a ∷ ms) = shrinkage ms
+shrinkage (swap a b ∷ ms) = (length a - length b) + shrinkage ms
+shrinkage (stop ∷ ms) = shrinkage ms
+
+-- The byte before place i of the text, 0 at the start.
+abbrev pub before : List ℕ → ℕ → ℕ
+before text zero = 0
+before text (suc i) = getD text i 0
+
+-- The moves from place i on, as a loop meets them.
+abbrev pub from : Rule → List ℕ → ℕ → List Move
+from rule text i = moves rule (before text i) 0 (drop i text)

@@ -1,0 +1,69 @@
+-- 14. "Program `entity`": what it prints for what it reads.
+-- Assumes nothing.
+use mathlib.Core.Bool.{false, cond}
+use mathlib.Core.Option.{Option, none, some}
+use mathlib.Core.List.{List, [], _∷_, _++_}
+use Prim.Native.Nat.{ℕ, zero, suc, _+_, _*_, _/_, _%_}
+use lib.Dec.{ltb, eqb}
+use lib.ListN.{length as size, drop}
+use Rattle.rules.specs.Bytes.{ascii, first, stands}
+use Rattle.rules.specs.Moves.{result}
+use Rattle.rules.specs.Contexts.{Label, contextNames, operationNames}
+use Rattle.rules.specs.Refusals.{Call, Case, caseOf, movesIn, answer, answerAt}
+use Rattle.rules.specs.declared.Answer.{Answer}
+use Rattle.rules.specs.declared.Named.{Named}
+use Rattle.rules.specs.declared.Operation.{Operation}
+
+-- A line of the header: what it is of, `=` and all, a name, and byte 0A.
+abbrev pub line : {A : Type 0} → List ℕ → Label A → List ℕ
+line field l = field ++ l .name ++ 10 ∷ []
+
+-- The text of a request.
+abbrev pub textOf : Operation → Named → List ℕ → Option Call
+textOf op n s =
+    cond (stands (ascii "text=") s)
+    (some (record { operation = op; context = n; borrows = false; limit = 8192; text = drop 5 s; room = 6 * 8192 }))
+    none
+
+-- After `op=`: the line `context=` with one of the fourteen names.
+abbrev pub contextLine : Operation → List ℕ → Option Call
+contextLine op s =
+    elim (first (λ (l : Label Named). stands (line (ascii "context=") l)) contextNames s) [
+      | none ↦ none
+      | some l ↦ textOf op (l .names) (drop (size (line (ascii "context=") l)) s)
+    ]
+
+-- The request: the line `op=` first. Its text limit is 8,192 bytes, its calls are copying, and its output holds every result.
+abbrev pub requestOf : List ℕ → Option Call
+requestOf s =
+    elim (first (λ (l : Label Operation). stands (line (ascii "op=") l)) operationNames s) [
+      | none ↦ none
+      | some l ↦ contextLine (l .names) (drop (size (line (ascii "op=") l)) s)
+    ]
+
+-- The last k digits of a number, without leading zeros.
+abbrev pub lastDigits : ℕ → ℕ → List ℕ
+lastDigits zero n = []
+lastDigits (suc k) n = cond (ltb n 10) ((48 + n) ∷ []) (lastDigits k (n / 10) ++ (48 + n % 10) ∷ [])
+
+-- A number in decimal, of at most twenty digits.
+abbrev pub decimal : ℕ → List ℕ
+decimal n = lastDigits 20 n
+
+-- The five lines, with nothing after the text.
+abbrev pub printed : Answer → List ℕ → List ℕ
+printed a t =
+    ascii "status=" ++ decimal (a .status) ++ ascii "\nlength=" ++ decimal (a .length) ++ ascii "\nsame=" ++ decimal (a .same)
+    ++ ascii "\nplace=" ++ decimal (a .place) ++ ascii "\ntext=" ++ t
+
+-- The text that is printed: the result, and nothing after a refusal.
+abbrev pub shown : Answer → List ℕ → List ℕ
+shown a t = cond (eqb (a .status) 0) t []
+
+-- The answer to a call, printed.
+abbrev pub printedCall : Call → List ℕ
+printedCall k = let a = answerAt (caseOf k) (k .text) (movesIn k) in printed a (shown a (result (movesIn k)))
+
+-- What the program prints; BAD_REQUEST where the lines differ.
+unfoldable pub entityOf : List ℕ → List ℕ
+entityOf s = elim (requestOf s) [ none ↦ printed (answer 6 0 0 0) [] | some k ↦ printedCall k ]

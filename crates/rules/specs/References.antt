@@ -1,0 +1,110 @@
+-- 10. "Reading references": the rules of decode and browse in the HTML seven.
+-- Assumes nothing.
+use mathlib.Core.Bool.{Bool, true, false, not, _&&_, _||_, cond}
+use mathlib.Core.Option.{Option, none, some}
+use mathlib.Core.List.{List, [], _∷_, _++_}
+use Prim.Native.Nat.{ℕ, _+_, _-_, _*_}
+use lib.Dec.{leb, eqb}
+use Rattle.rules.specs.Bytes.{ascii, first, inside, oneOf, sameBytes}
+use Rattle.rules.specs.Moves.{Move, keep, swap, stop, Rule}
+use Rattle.rules.specs.Utf8.{utf8}
+use Rattle.rules.specs.Tables.{Row, key, value}
+use Rattle.rules.specs.Names.{names}
+
+-- ---- the body
+
+-- One byte more of a body: `;` ends it, `&` leaves none.
+abbrev pub bodyWith : Bool → Bool → ℕ → Option (List ℕ) → Option (List ℕ)
+bodyWith true amp b rest = some []
+bodyWith false true b rest = none
+bodyWith false false b none = none
+bodyWith false false b (some body) = some (b ∷ body)
+
+-- The body: the bytes from after the `&` up to the next `;`, if no `&` comes first.
+abbrev pub bodyOf : List ℕ → Option (List ℕ)
+bodyOf [] = none
+bodyOf (b ∷ s) = bodyWith (eqb b 59) (eqb b 38) b (bodyOf s)
+
+-- ---- numbers
+
+-- A digit.
+abbrev pub digit : ℕ → Option ℕ
+digit b = cond (inside (48, 57) b) (some (b - 48)) none
+
+-- A hex digit of either letter case.
+abbrev pub hexDigitAt : ℕ → Option ℕ
+hexDigitAt b = cond (inside (65, 70) b) (some (b - 55)) (cond (inside (97, 102) b) (some (b - 87)) (digit b))
+
+-- Digits only: the number so far, and the digits that follow. Leading zeros are free.
+abbrev pub digits : (ℕ → Option ℕ) → ℕ → ℕ → List ℕ → Option ℕ
+digits d base n [] = some n
+digits d base n (b ∷ s) = elim (d b) [ none ↦ none | some k ↦ digits d base (n * base + k) s ]
+
+-- Digits only, at least one.
+abbrev pub number : (ℕ → Option ℕ) → ℕ → List ℕ → Option ℕ
+number d base [] = none
+number d base (b ∷ s) = digits d base 0 (b ∷ s)
+
+-- The body after `#`: digits, or `x` or `X` and hex digits.
+abbrev pub numberOf : List ℕ → Option ℕ
+numberOf [] = none
+numberOf (b ∷ s) = cond (oneOf (ascii "xX") b) (number hexDigitAt 16 s) (number digit 10 (b ∷ s))
+
+-- No surrogate and at most 10FFFF, so that it fits 32 bits.
+abbrev pub scalar : ℕ → Bool
+scalar n = leb n 0x10FFFF && not (inside (0xD800, 0xDFFF) n)
+
+-- decode: such a number that is not 0 to 31, except 9, 10, 12, 13, which decode.
+abbrev pub decodeChar : ℕ → Option (List ℕ)
+decodeChar n = cond (scalar n && (leb 32 n || oneOf (9 ∷ 10 ∷ 12 ∷ 13 ∷ []) n)) (some (utf8 n)) none
+
+-- browse: 0, surrogates and anything above 10FFFF give U+FFFD; every other number stands for itself.
+abbrev pub browseChar : ℕ → Option (List ℕ)
+browseChar n = some (cond (scalar n && not (eqb n 0)) (utf8 n) (utf8 0xFFFD))
+
+-- ---- what a body stands for
+
+-- The character of a number, if there is a number and it has one.
+abbrev pub charOf : (ℕ → Option (List ℕ)) → Option ℕ → Option (List ℕ)
+charOf char none = none
+charOf char (some n) = char n
+
+-- The value of a row, if there is one.
+abbrev pub valueOf : Option Row → Option (List ℕ)
+valueOf none = none
+valueOf (some row) = some (value row)
+
+-- A name looked up whole; letter case counts.
+abbrev pub lookup : List Row → List ℕ → Option (List ℕ)
+lookup table body = valueOf (first (λ (row : Row). sameBytes (key row)) table body)
+
+-- What a body stands for: after `#` a number, otherwise a name.
+abbrev pub meaning : (ℕ → Option (List ℕ)) → List ℕ → Option (List ℕ)
+meaning char [] = none
+meaning char (b ∷ s) = cond (eqb b 35) (charOf char (numberOf s)) (lookup names (b ∷ s))
+
+-- ---- the rules
+
+-- The reference gives way to what its body stands for; otherwise its `&` is kept.
+abbrev pub onMeaning : Option (List ℕ) → ℕ → List ℕ → Move
+onMeaning none b body = keep (b ∷ [])
+onMeaning (some v) b body = swap (b ∷ body ++ ascii ";") v
+
+-- The same where there is an `&` and a body; otherwise the byte is kept.
+abbrev pub onBody : (ℕ → Option (List ℕ)) → Bool → Option (List ℕ) → ℕ → Move
+onBody char false body b = keep (b ∷ [])
+onBody char true none b = keep (b ∷ [])
+onBody char true (some body) b = onMeaning (meaning char body) b body
+
+-- At an `&` with a body, the reference is read; any other byte is kept.
+abbrev pub referenceBy : (ℕ → Option (List ℕ)) → Rule
+referenceBy char prev [] = stop
+referenceBy char prev (b ∷ s) = onBody char (eqb b 38) (bodyOf s) b
+
+-- decode in the HTML seven.
+unfoldable pub referenceStep : Rule
+referenceStep = referenceBy decodeChar
+
+-- browse: it differs for numbers only.
+unfoldable pub browseStep : Rule
+browseStep = referenceBy browseChar

@@ -1,0 +1,153 @@
+-- 13. "The answer record and the refusal table", for copying and borrowing calls of every operation; and view.
+-- Assumes nothing.
+use mathlib.Core.Bool.{Bool, true, _&&_, cond}
+use mathlib.Core.Option.{Option, none, some}
+use mathlib.Core.Path.{_≡_}
+use mathlib.Core.List.{List, [], _∷_}
+use Prim.Native.Nat.{ℕ, _<_}
+use lib.Dec.{ltb, leb, eqb}
+use lib.ListN.{length as size, take}
+use Rattle.rules.specs.Bytes.{All, over}
+use Rattle.rules.specs.Moves.{Move, Rule, through, result, place as placeOf, replaced}
+use Rattle.rules.specs.Utf8.{IsText, validTo}
+use Rattle.rules.specs.Units.{IsForm}
+use Rattle.rules.specs.Operations.{ruleOf}
+use Rattle.rules.specs.declared.Answer.{Answer}
+use Rattle.rules.specs.declared.Context.{Context}
+use Rattle.rules.specs.declared.Named.{Named}
+use Rattle.rules.specs.declared.Named.the-variants.{Units, ScriptRaw, Unknown}
+use Rattle.rules.specs.declared.Operation.{Operation}
+use Rattle.rules.specs.declared.Operation.the-variants.{Encode, Decode, Read, Browse}
+
+-- An answer record by its four numbers.
+abbrev pub answer : ℕ → ℕ → ℕ → ℕ → Answer
+answer s l m p = record { status = s; length = l; same = m; place = p }
+
+-- A call: its operation and the context that it names, whether it borrows, the most bytes that it takes, the text, and the output's length.
+pub record Call : Type 0 where
+  pub operation : Operation
+  pub context : Named
+  pub borrows : Bool
+  pub limit : ℕ
+  pub text : List ℕ
+  pub room : ℕ
+
+-- The moves of a rule through a text; none without a rule.
+abbrev pub movesOf : Option Rule → List ℕ → List Move
+movesOf none t = []
+movesOf (some rule) t = through rule t
+
+-- The moves of a call through its text.
+abbrev pub movesIn : Call → List Move
+movesIn k = movesOf (ruleOf (k .operation) (k .context)) (k .text)
+
+-- What becomes of a call: the rows of the table, and the two ways to pass it. BAD_REQUEST is the program's.
+pub data Case : Type 0 where
+  bad-context : Case
+  too-long : Case
+  not-utf8 : Case
+  not-a-form : Case
+  lent : Case
+  no-room : Case
+  written : Case
+
+-- ---- the table in its own words
+
+-- The order in which the rows are checked. A borrowing call needs no room where nothing is replaced, so `lent` goes before NO_ROOM.
+abbrev pub earlier : Case → List Case
+earlier bad-context = []
+earlier too-long = bad-context ∷ []
+earlier not-utf8 = bad-context ∷ too-long ∷ []
+earlier not-a-form = bad-context ∷ too-long ∷ not-utf8 ∷ []
+earlier lent = bad-context ∷ too-long ∷ not-utf8 ∷ not-a-form ∷ []
+earlier no-room = bad-context ∷ too-long ∷ not-utf8 ∷ not-a-form ∷ lent ∷ []
+earlier written = bad-context ∷ too-long ∷ not-utf8 ∷ not-a-form ∷ lent ∷ no-room ∷ []
+
+-- In read, the text is no run of the context's units.
+abbrev pub NoForm : Operation → Named → List ℕ → Type 0
+NoForm Encode n t = ⊥
+NoForm Decode n t = ⊥
+NoForm Read (Units c) t = IsForm c t → ⊥
+NoForm Read ScriptRaw t = ⊥
+NoForm Read Unknown t = ⊥
+NoForm Browse n t = ⊥
+
+-- "Given exactly when": the words of each row.
+abbrev pub Says : Call → Case → Type 0
+Says k bad-context = ruleOf (k .operation) (k .context) ≡ none
+Says k too-long = k .limit < size (k .text)
+Says k not-utf8 = IsText (k .text) → ⊥
+Says k not-a-form = NoForm (k .operation) (k .context) (k .text)
+Says k lent = (k .borrows ≡ true) × (replaced (movesIn k) ≡ 0)
+Says k no-room = k .room < size (result (movesIn k))
+Says k written = Unit {0}
+
+-- A row is given where its words hold and those of no earlier row do.
+abbrev pub Given : Call → Case → Type 0
+Given k row = Says k row × All (λ (other : Case). Says k other → ⊥) (earlier row)
+
+-- ---- the table as a computation
+
+-- The tests of the table, in its order, of a text that the moves ms go through.
+abbrev pub judge : Call → List Move → Case
+judge k ms =
+    cond (ltb (k .limit) (size (k .text))) too-long
+    (cond (ltb (validTo (k .text)) (size (k .text))) not-utf8
+    (cond (ltb (placeOf ms) (size (k .text))) not-a-form
+    (cond (k .borrows && eqb (replaced ms) 0) lent
+    (cond (ltb (k .room) (size (result ms))) no-room written))))
+
+-- The same where there is a rule; where there is none, BAD_CONTEXT.
+abbrev pub caseBy : Option Rule → Call → Case
+caseBy none k = bad-context
+caseBy (some rule) k = judge k (through rule (k .text))
+
+-- The case of a call.
+unfoldable pub caseOf : Call → Case
+caseOf k = caseBy (ruleOf (k .operation) (k .context)) k
+
+-- 1 exactly if nothing is replaced.
+abbrev pub sameOf : List Move → ℕ
+sameOf ms = cond (eqb (replaced ms) 0) 1 0
+
+-- The columns of the table: status, length, same and place of each case.
+abbrev pub answerAt : Case → List ℕ → List Move → Answer
+answerAt bad-context t ms = answer 5 0 0 0
+answerAt too-long t ms = answer 1 0 0 0
+answerAt not-utf8 t ms = answer 2 0 0 (validTo t)
+answerAt not-a-form t ms = answer 4 0 0 (placeOf ms)
+answerAt lent t ms = answer 0 (size (result ms)) 1 0
+answerAt no-room t ms = answer 3 (size (result ms)) 0 0
+answerAt written t ms = answer 0 (size (result ms)) (sameOf ms) 0
+
+-- The whole output after the call: the result over what stood there, or all of it unchanged.
+abbrev pub outAt : Case → List Move → List ℕ → List ℕ
+outAt bad-context ms out = out
+outAt too-long ms out = out
+outAt not-utf8 ms out = out
+outAt not-a-form ms out = out
+outAt lent ms out = out
+outAt no-room ms out = out
+outAt written ms out = over (result ms) out
+
+-- ---- a public call
+
+-- "Text above 65,536 bytes" is too long.
+abbrev pub textLimit : ℕ
+textLimit = 65536
+
+-- The public call of an operation in a context, on a text and a lent output.
+abbrev pub call : Operation → Named → Bool → List ℕ → List ℕ → Call
+call op n borrows t out = record { operation = op; context = n; borrows = borrows; limit = textLimit; text = t; room = size out }
+
+-- What it answers.
+abbrev pub answerOf : Operation → Named → Bool → List ℕ → List ℕ → Answer
+answerOf op n borrows t out = answerAt (caseOf (call op n borrows t out)) t (movesIn (call op n borrows t out))
+
+-- What it leaves in the output.
+abbrev pub outOf : Operation → Named → Bool → List ℕ → List ℕ → List ℕ
+outOf op n borrows t out = outAt (caseOf (call op n borrows t out)) (movesIn (call op n borrows t out)) out
+
+-- view: the whole text where same is 1, otherwise the first bytes of the output, or an empty part where the output is shorter.
+abbrev pub viewOf : List ℕ → List ℕ → ℕ → ℕ → List ℕ
+viewOf t out same length = cond (eqb same 1) t (cond (leb length (size out)) (take length out) [])

@@ -1,0 +1,141 @@
+-- 5. "What each encoder writes": a context is a table of rows, each a character and what is written for it.
+-- Assumes nothing.
+use mathlib.Core.Bool.{Bool, not, _||_, cond}
+use mathlib.Core.Option.{Option}
+use mathlib.Core.List.{List, [], _∷_, _++_, map}
+use Prim.Native.Nat.{ℕ, _+_, _/_, _%_}
+use lib.Dec.{ltb}
+use Rattle.rules.specs.Bytes.{ascii, count, only, first, stands, inside, oneOf}
+use Rattle.rules.specs.declared.Html.{Html}
+use Rattle.rules.specs.declared.Html.the-variants.{TextMinimal, Text, DoubleQuoted, SingleQuoted, Quoted, Safe, Unquoted}
+use Rattle.rules.specs.declared.Quotes.{Quotes}
+use Rattle.rules.specs.declared.Quotes.the-variants.{Single, Double, Both}
+use Rattle.rules.specs.declared.Context.{Context}
+use Rattle.rules.specs.declared.Context.the-variants.{InHtml, InScript, InStyle}
+
+-- A row: the key gives way to the value.
+abbrev pub Row : Type 0
+Row = List ℕ × List ℕ
+
+-- What a row replaces.
+abbrev pub key : Row → List ℕ
+key row = row .0
+
+-- What it writes.
+abbrev pub value : Row → List ℕ
+value row = row .1
+
+-- The first row whose key, or whose value, stands at the head of s.
+abbrev pub rowAt : (Row → List ℕ) → List Row → List ℕ → Option Row
+rowAt side rows s = first (λ (row : Row). stands (side row)) rows s
+
+-- An upper-case hex digit.
+abbrev pub hexDigit : ℕ → ℕ
+hexDigit n = cond (ltb n 10) (48 + n) (55 + n)
+
+-- A byte as two of them.
+abbrev pub hexPair : ℕ → List ℕ
+hexPair b = hexDigit (b / 16) ∷ hexDigit (b % 16) ∷ []
+
+-- ---- the HTML seven
+
+-- `&`→`&amp;`
+abbrev pub amp : Row
+amp = (ascii "&", ascii "&amp;")
+
+-- `<`→`&lt;`
+abbrev pub lt : Row
+lt = (ascii "<", ascii "&lt;")
+
+-- `>`→`&gt;`
+abbrev pub gt : Row
+gt = (ascii ">", ascii "&gt;")
+
+-- `"`→`&quot;`
+abbrev pub quot : Row
+quot = (ascii "\"", ascii "&quot;")
+
+-- A byte →`&#xHH;`
+abbrev pub reference : ℕ → Row
+reference b = (b ∷ [], ascii "&#x" ++ hexPair b ++ ascii ";")
+
+-- `'`→`&#x27;`
+abbrev pub apostrophe : Row
+apostrophe = reference 0x27
+
+-- `/`→`&#x2F;`
+abbrev pub solidus : Row
+solidus = reference 0x2F
+
+-- An ASCII letter or digit.
+abbrev pub letterOrDigit : ℕ → Bool
+letterOrDigit b = inside (48, 57) b || inside (65, 90) b || inside (97, 122) b
+
+-- Every other ASCII byte that is no letter or digit: those that the four named rows leave.
+abbrev pub others : List ℕ
+others = only (λ (b : ℕ). not (letterOrDigit b || oneOf (ascii "&<>\"") b)) (count 0 128)
+
+-- What each of the HTML seven replaces.
+abbrev pub htmlRows : Html → List Row
+htmlRows TextMinimal = amp ∷ lt ∷ []
+htmlRows Text = amp ∷ lt ∷ gt ∷ []
+htmlRows DoubleQuoted = amp ∷ lt ∷ gt ∷ quot ∷ []
+htmlRows SingleQuoted = amp ∷ lt ∷ gt ∷ apostrophe ∷ []
+htmlRows Quoted = amp ∷ lt ∷ gt ∷ quot ∷ apostrophe ∷ []
+htmlRows Safe = amp ∷ lt ∷ gt ∷ quot ∷ apostrophe ∷ solidus ∷ []
+htmlRows Unquoted = amp ∷ lt ∷ gt ∷ quot ∷ map reference others
+
+-- ---- script and style strings
+
+-- A backslash before the byte.
+abbrev pub slashed : ℕ → Row
+slashed b = (b ∷ [], ascii "\\" ++ b ∷ [])
+
+-- `\`→`\\`; `'`→`\'` in single and quoted; `"`→`\"` in double and quoted.
+abbrev pub quoteRows : Quotes → List Row
+quoteRows Single = slashed 0x5C ∷ slashed 0x27 ∷ []
+quoteRows Double = slashed 0x5C ∷ slashed 0x22 ∷ []
+quoteRows Both = slashed 0x5C ∷ slashed 0x27 ∷ slashed 0x22 ∷ []
+
+-- A byte →`\xHH`
+abbrev pub scriptHex : ℕ → Row
+scriptHex b = (b ∷ [], ascii "\\x" ++ hexPair b)
+
+-- Bytes 0 to 31 and `<`, U+2028 and U+2029 in a script string.
+abbrev pub scriptRows : List Row
+scriptRows =
+    map scriptHex (count 0 32)
+    ++ scriptHex 0x3C
+    ∷ (0xE2 ∷ 0x80 ∷ 0xA8 ∷ [], ascii "\\u2028")
+    ∷ (0xE2 ∷ 0x80 ∷ 0xA9 ∷ [], ascii "\\u2029")
+    ∷ []
+
+-- A byte →`\HH` and a space.
+abbrev pub styleHex : ℕ → Row
+styleHex b = (b ∷ [], ascii "\\" ++ hexPair b ++ ascii " ")
+
+-- Bytes 1 to 31 and `<` in a style string.
+abbrev pub styleRows : List Row
+styleRows = map styleHex (count 1 31) ++ styleHex 0x3C ∷ []
+
+-- ---- every context
+
+-- The replacements of each context that can be read back: its units beside the plain characters.
+abbrev pub rows : Context → List Row
+rows (InHtml h) = htmlRows h
+rows (InScript q) = quoteRows q ++ scriptRows
+rows (InStyle q) = quoteRows q ++ styleRows
+
+-- The one replacement that cannot: NUL becomes U+FFFD in a style string.
+abbrev pub lossy : Context → List Row
+lossy (InHtml h) = []
+lossy (InScript q) = []
+lossy (InStyle q) = (0x00 ∷ [], 0xEF ∷ 0xBF ∷ 0xBD ∷ []) ∷ []
+
+-- All that the encoder of the context replaces; the rest is copied.
+abbrev pub table : Context → List Row
+table c = lossy c ++ rows c
+
+-- The characters that it does not copy.
+abbrev pub replacedChars : Context → List (List ℕ)
+replacedChars c = map key (table c)

@@ -1,0 +1,62 @@
+-- 3. Valid UTF-8: a text is one character of RFC 3629 after the other.
+-- Assumes nothing.
+use mathlib.Core.Bool.{cond}
+use mathlib.Core.Option.{Option, none, some}
+use mathlib.Core.Path.{_≡_}
+use mathlib.Core.List.{List, [], _∷_}
+use Prim.Native.Nat.{ℕ, _+_, _/_, _%_}
+use lib.Dec.{T, ltb}
+use lib.ListN.{length, take}
+use Rattle.rules.specs.Bytes.{join, In, All, first, fits, Range, inside}
+use Rattle.rules.specs.Moves.{Move, keep, stop, Rule, place, through}
+
+-- RFC 3629, section 4: UTF8-1, UTF8-2, and the lines of UTF8-3 and UTF8-4.
+abbrev pub sequences : List (List Range)
+sequences =
+    ((0x00, 0x7F) ∷ [])
+    ∷ ((0xC2, 0xDF) ∷ (0x80, 0xBF) ∷ [])
+    ∷ ((0xE0, 0xE0) ∷ (0xA0, 0xBF) ∷ (0x80, 0xBF) ∷ [])
+    ∷ ((0xE1, 0xEC) ∷ (0x80, 0xBF) ∷ (0x80, 0xBF) ∷ [])
+    ∷ ((0xED, 0xED) ∷ (0x80, 0x9F) ∷ (0x80, 0xBF) ∷ [])
+    ∷ ((0xEE, 0xEF) ∷ (0x80, 0xBF) ∷ (0x80, 0xBF) ∷ [])
+    ∷ ((0xF0, 0xF0) ∷ (0x90, 0xBF) ∷ (0x80, 0xBF) ∷ (0x80, 0xBF) ∷ [])
+    ∷ ((0xF1, 0xF3) ∷ (0x80, 0xBF) ∷ (0x80, 0xBF) ∷ (0x80, 0xBF) ∷ [])
+    ∷ ((0xF4, 0xF4) ∷ (0x80, 0x8F) ∷ (0x80, 0xBF) ∷ (0x80, 0xBF) ∷ [])
+    ∷ []
+
+-- A character: as many bytes as one of the sequences has ranges, each byte in its range.
+abbrev pub IsChar : List ℕ → Type 0
+IsChar a = (q : List Range) × In q sequences × T (fits inside q a) × (length a ≡ length q)
+
+-- A text: characters, one after the other.
+abbrev pub IsText : List ℕ → Type 0
+IsText s = (cs : List (List ℕ)) × All IsChar cs × (s ≡ join cs)
+
+-- A text that is free of some characters.
+abbrev pub IsFree : List (List ℕ) → List ℕ → Type 0
+IsFree bad s = (cs : List (List ℕ)) × All IsChar cs × All (λ (a : List ℕ). In a bad → ⊥) cs × (s ≡ join cs)
+
+-- The sequence that stands at the head of s, if any.
+abbrev pub sequenceAt : List ℕ → Option (List Range)
+sequenceAt s = first (fits inside) sequences s
+
+-- The character at the head of s is kept; where none stands, stop.
+abbrev pub keepChar : Option (List Range) → List ℕ → Move
+keepChar (some q) s = keep (take (length q) s)
+keepChar none s = stop
+
+-- The rule of valid UTF-8: one character after the other.
+unfoldable pub charStep : Rule
+charStep prev s = keepChar (sequenceAt s) s
+
+-- The length of the longest valid prefix.
+abbrev pub validTo : List ℕ → ℕ
+validTo s = place (through charStep s)
+
+-- A number up to 10FFFF as the bytes of its character: RFC 3629, section 3.
+abbrev pub utf8 : ℕ → List ℕ
+utf8 n =
+    cond (ltb n 0x80) (n ∷ [])
+    (cond (ltb n 0x800) ((0xC0 + n / 64) ∷ (0x80 + n % 64) ∷ [])
+    (cond (ltb n 0x10000) ((0xE0 + n / 4096) ∷ (0x80 + n / 64 % 64) ∷ (0x80 + n % 64) ∷ [])
+    ((0xF0 + n / 262144) ∷ (0x80 + n / 4096 % 64) ∷ (0x80 + n / 64 % 64) ∷ (0x80 + n % 64) ∷ [])))

@@ -1,0 +1,74 @@
+// The types that document 01 names: contexts, operations and the answer record. Its rules are the definitions of specs/.
+ghost use mathlib.Core.Path.{_≡_};
+ghost use Rattle.rules.specs.Contexts.{contextOf};
+
+// The HTML seven.
+pub enum Html {
+    TextMinimal,
+    Text,
+    DoubleQuoted,
+    SingleQuoted,
+    Quoted,
+    Safe,
+    Unquoted,
+}
+
+// Which quotes a script or style string escapes; both in script_quoted and style_quoted.
+pub enum Quotes {
+    Single,
+    Double,
+    Both,
+}
+
+// The thirteen contexts that have units.
+pub enum Context {
+    InHtml(Html),
+    InScript(Quotes),
+    InStyle(Quotes),
+}
+
+// The context that a call names: one of the thirteen, script_raw, or none.
+pub enum Named {
+    Units(Context),
+    ScriptRaw,
+    Unknown,
+}
+
+// The operations that go through a text.
+pub enum Operation {
+    Encode,
+    Decode,
+    Read,
+    Browse,
+}
+
+// The answer record of every call.
+pub struct Answer {
+    pub status: usize,
+    pub length: usize,
+    pub same: usize,
+    pub place: usize,
+}
+
+// The context of a number, 0 to 13 in document 01's order.
+pub fn context_of(number: u32) -> Named
+    ensures { λ r. ⌜ r ≡ contextOf number ⌝ }
+{
+    match number {
+        0 => Named::Units(Context::InHtml(Html::TextMinimal)),
+        1 => Named::Units(Context::InHtml(Html::Text)),
+        2 => Named::Units(Context::InHtml(Html::DoubleQuoted)),
+        3 => Named::Units(Context::InHtml(Html::SingleQuoted)),
+        4 => Named::Units(Context::InHtml(Html::Quoted)),
+        5 => Named::Units(Context::InHtml(Html::Safe)),
+        6 => Named::Units(Context::InHtml(Html::Unquoted)),
+        7 => Named::Units(Context::InScript(Quotes::Single)),
+        8 => Named::Units(Context::InScript(Quotes::Double)),
+        9 => Named::Units(Context::InScript(Quotes::Both)),
+        10 => Named::Units(Context::InStyle(Quotes::Single)),
+        11 => Named::Units(Context::InStyle(Quotes::Double)),
+        12 => Named::Units(Context::InStyle(Quotes::Both)),
+        13 => Named::ScriptRaw,
+        _ => Named::Unknown,
+    }
+}
