@@ -12,4 +12,5 @@ pub mod References
 pub mod Escapes
 pub mod Operations
 pub mod Refusals
+pub mod Answers
 pub mod Program

@@ -1,4 +1,4 @@
--- 14. "Program `entity`": what it prints for what it reads.
+-- 15. "Program `entity`": what it prints for what it reads.
 -- Assumes nothing.
 use mathlib.Core.Bool.{false, cond}
 use mathlib.Core.Option.{Option, none, some}

@@ -1,4 +1,5 @@
-// The types that document 01 names: contexts, operations and the answer record. Its rules are the definitions of specs/.
+// The types that document 01 names: contexts, operations, the answer record, and what the readers and the string writer find. Its rules are the
+// definitions of specs/.
 ghost use mathlib.Core.Path.{_≡_};
 ghost use Rattle.rules.specs.Contexts.{contextOf};
 
@@ -48,6 +49,46 @@ pub struct Answer {
     pub length: usize,
     pub same: usize,
     pub place: usize,
+}
+
+// What a reference stands for: a text of the table of names, its bytes packed into one number, or a character by its number.
+pub enum DecodedEntityValue {
+    Named(u64),
+    Character(u32),
+}
+
+// What the body of a reference stands for.
+pub enum Meaning {
+    Value(DecodedEntityValue),
+    Nothing,
+}
+
+// A found reference: where its `&` is, the place past its `;`, and what it stands for.
+pub struct DecodedEntity {
+    pub start: usize,
+    pub end: usize,
+    pub value: DecodedEntityValue,
+}
+
+// What the reference reader finds at a place.
+pub enum Reference {
+    Found(DecodedEntity),
+    Nothing,
+}
+
+// What the reader of string escapes finds: how many bytes the escape takes, and the number of its character.
+pub enum Escape {
+    Taken(usize, u32),
+    Nothing,
+}
+
+// How the writer of strings replaces what stands at a place.
+pub enum Replacement {
+    Slashed,
+    Hex,
+    Separator,
+    Substitute,
+    Nothing,
 }
 
 // The context of a number, 0 to 13 in document 01's order.

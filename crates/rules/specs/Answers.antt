@@ -1,0 +1,61 @@
+-- 14. "For every answer that is an enum": what each case is on paper. The other enums are contexts and operations (4) and cases (13).
+-- Assumes nothing.
+use mathlib.Core.Bool.{Bool, cond}
+use mathlib.Core.Option.{Option, none, some}
+use mathlib.Core.List.{List, [], _∷_, _++_}
+use Prim.Native.Nat.{ℕ, zero, suc, _-_, _/_, _%_}
+use lib.Dec.{eqb}
+use lib.ListN.{take, drop, getD}
+use Rattle.rules.specs.Bytes.{ascii}
+use Rattle.rules.specs.Moves.{Move, swap}
+use Rattle.rules.specs.Utf8.{utf8}
+use Rattle.rules.specs.Tables.{Row, key, value, slashed, scriptHex, styleHex}
+use Rattle.rules.specs.Encoding.{keepByte}
+use Rattle.rules.specs.declared.DecodedEntityValue.{DecodedEntityValue}
+use Rattle.rules.specs.declared.DecodedEntityValue.the-variants.{Named, Character}
+use Rattle.rules.specs.declared.Meaning.{Meaning}
+use Rattle.rules.specs.declared.Meaning.the-variants.{Value, Nothing as NoMeaning}
+use Rattle.rules.specs.declared.Reference.{Reference}
+use Rattle.rules.specs.declared.Reference.the-variants.{Found, Nothing as NoReference}
+use Rattle.rules.specs.declared.Escape.{Escape}
+use Rattle.rules.specs.declared.Escape.the-variants.{Taken, Nothing as NoEscape}
+use Rattle.rules.specs.declared.Replacement.{Replacement}
+use Rattle.rules.specs.declared.Replacement.the-variants.{Slashed, Hex, Separator, Substitute, Nothing as NoReplacement}
+
+-- The bytes that are packed into a number, at most k, the first lowest; none of them is 0.
+abbrev pub unpackTo : ℕ → ℕ → List ℕ
+unpackTo zero n = []
+unpackTo (suc k) n = cond (eqb n 0) [] ((n % 256) ∷ unpackTo k (n / 256))
+
+-- The bytes of what a reference stands for.
+abbrev pub valueBytes : DecodedEntityValue → List ℕ
+valueBytes (Named n) = unpackTo 6 n
+valueBytes (Character n) = utf8 n
+
+-- What a body stands for.
+abbrev pub meaningBytes : Meaning → Option (List ℕ)
+meaningBytes (Value v) = some (valueBytes v)
+meaningBytes NoMeaning = none
+
+-- The move at place i of a text, where the reference reader was asked: the reference gives way, or the byte is kept.
+abbrev pub referenceMove : List ℕ → ℕ → Reference → Move
+referenceMove t i (Found e) = swap (take (e .end - e .start) (drop (e .start) t)) (valueBytes (e .value))
+referenceMove t i NoReference = keepByte (drop i t)
+
+-- The move at the head of s, where the reader of escapes was asked.
+abbrev pub escapeMove : List ℕ → Escape → Move
+escapeMove s (Taken n c) = swap (take n s) (utf8 c)
+escapeMove s NoEscape = keepByte s
+
+-- The row is written.
+abbrev pub writeRow : Row → Move
+writeRow row = swap (key row) (value row)
+
+-- The move at the head of s, where the writer of strings was asked, in a style string or a script string.
+-- U+2028 and U+2029 differ in their last byte: A8 is written `8`, A9 `9`.
+abbrev pub replacementMove : Bool → List ℕ → Replacement → Move
+replacementMove style s Slashed = writeRow (slashed (getD s 0 0))
+replacementMove style s Hex = writeRow (cond style (styleHex (getD s 0 0)) (scriptHex (getD s 0 0)))
+replacementMove style s Separator = swap (take 3 s) (ascii "\\u202" ++ (getD s 2 0 - 0x70) ∷ [])
+replacementMove style s Substitute = swap (take 1 s) (0xEF ∷ 0xBF ∷ 0xBD ∷ [])
+replacementMove style s NoReplacement = keepByte s
