@@ -11,3 +11,5 @@ pub mod Growth
 pub mod Whole
 pub mod Laws
 pub mod Loops
+pub mod Blind
+pub mod Below

@@ -1,0 +1,4 @@
+pub mod Heads
+pub mod Finds
+pub mod Sums
+pub mod Cuts
