@@ -14,7 +14,7 @@ use Rattle.rules.specs.Tables.{Row, rowAt, key, value, table, replacedCh
 use Rattle.rules.specs.declared.Context.{Context}
 use Rattle.rules.specs.Encoding.{write, keepByte, encodeStep, rawStep, parted}
 use Rattle.rules.proofs.Tests.{and-left, and-right, all-in, first-sound, stands-split}
-use Rattle.rules.proofs.Machine.{Fair, Goes, moves-fair, whole}
+use Rattle.rules.proofs.Machine.{Fair, Goes, moves-fair, whole, same-result}
 use Rattle.rules.proofs.Tables.{row-length}
 use Rattle.rules.proofs.Every.{every, keys-code}
 
@@ -131,6 +131,15 @@ module _ (rule : Rule) (fair : (p : ℕ) (s : List ℕ) → Fair Grows (rule p s
       none-left (replaced (through rule s)) (length (taken (through rule s))) (length (result (through rule s))) (at-least (through rule s) (moves-fair Grows rule fair 0 0 s .0))
       (ap length (e ∙ sym (whole Grows rule fair goes s)))
 
+  -- What is no longer than the text is the text.
+  no-longer : (s : List ℕ) → length (result (through rule s)) ≡ length s → result (through rule s) ≡ s
+  no-longer s e =
+      let w = whole Grows rule fair goes s in
+      same-result (through rule s)
+      (none-left (replaced (through rule s)) (length (taken (through rule s))) (length (result (through rule s))) (at-least (through rule s) (moves-fair Grows rule fair 0 0 s .0))
+      (e ∙ ap length (sym w)))
+      ∙ w
+
 pub encode-whole : (c : Context) (s : List ℕ) → taken (through (encodeStep c) s) ≡ s
 encode-whole c = whole Grows (encodeStep c) (encode-fair c) (encode-goes c)
 
@@ -145,6 +154,9 @@ encode-sum c = grown-sum (encodeStep c) (encode-fair c) (encode-goes c)
 
 pub raw-six : (s : List ℕ) → length (result (through rawStep s)) ≤ 6 * length s
 raw-six = six-times rawStep raw-fair raw-goes
+
+pub encode-no-longer : (c : Context) (s : List ℕ) → length (result (through (encodeStep c) s)) ≡ length s → result (through (encodeStep c) s) ≡ s
+encode-no-longer c = no-longer (encodeStep c) (encode-fair c) (encode-goes c)
 
 pub encode-none : (c : Context) (s : List ℕ) → result (through (encodeStep c) s) ≡ s → replaced (through (encodeStep c) s) ≡ 0
 encode-none c = none-replaced (encodeStep c) (encode-fair c) (encode-goes c)

@@ -9,7 +9,7 @@ use native.Mathlib.Nat.{add-zero}
 use native.Mathlib.Omega.{arith}
 use borrow.Author.Tests.{ne-eqb, eqb-true, eqb-false, ltb-true, ltb-false}
 use lib.Dec.{T, eqb, ltb}
-use lib.ListN.{length, take, drop, getD, length-drop, take-append-drop, drop-of-length-le}
+use lib.ListN.{length, take, drop, getD, length-append, length-drop, take-append-drop, drop-of-length-le}
 use lib.Seq.{drop-drop, getD-drop, getD-take, length-take-le}
 use Rattle.rules.specs.Moves.{Move, keep, takes}
 use Rattle.rules.specs.Encoding.{encodeStep}
@@ -108,19 +108,30 @@ module _ (strings : Strings) where
       go true e = let u = eqb-true x 0xE2 e in rw u (local-lead (strings .style) (strings .quotes) a b (rw u at h))
       go false e = local-byte strings x a b (eqb-false x 0xE2 e)
 
-  -- The next part, and the rest after it.
-  pub next-part : (t : List ℕ) (i e : ℕ) → i ≤ e → e ≤ length t → Apart t e
-      → Next (encodeOf (contextIn strings) (drop i t)) (encodeOf (contextIn strings) (take (e - i) (drop i t))) (encodeOf (contextIn strings) (drop e t))
-  next-part t i e h l p =
-      let n : i + (e - i) ≡ e = omega arith in
-      let d : drop i t ≡ take (e - i) (drop i t) ++ drop e t =
-      sym (take-append-drop (e - i) (drop i t)) ∙ rw (drop-drop, n) in
-      record { next = ap (encodeOf (contextIn strings)) d ∙ parted-result (encodeStep (contextIn strings)) (encode-blind (contextIn strings)) (take (e - i) (drop i t)) (drop e t) (parted (take (e - i) (drop i t)) (drop e t) (clear p)) }
-    where
-      w : length (take (e - i) (drop i t)) ≡ e - i
-      w = length-take-le (e - i) (drop i t) (rw length-drop (omega arith))
+  module _ (t : List ℕ) (i e : ℕ) (h : i ≤ e) (l : e ≤ length t) where
+    -- The part from i to e is as long as it says.
+    pub part-length : length (take (e - i) (drop i t)) ≡ e - i
+    part-length = length-take-le (e - i) (drop i t) (rw length-drop (omega arith))
 
-      clear : Apart t e → Clear (take (e - i) (drop i t)) (drop e t)
-      clear (inl q) = inl (drop-of-length-le t q)
-      clear (inr (inl q)) = inr (inl (getD-drop e t 0 0 ∙ rw add-zero q))
-      clear (inr (inr f)) = inr (inr (λ k u v r. f (i + k) (omega (arith, w)) (omega (arith, w)) (sym (getD-take (e - i) (drop i t) k 0 (omega (arith, w)) ∙ getD-drop i t k 0) ∙ r)))
+    clear-part : Apart t e → Clear (take (e - i) (drop i t)) (drop e t)
+    clear-part (inl q) = inl (drop-of-length-le t q)
+    clear-part (inr (inl q)) = inr (inl (getD-drop e t 0 0 ∙ rw add-zero q))
+    clear-part (inr (inr f)) =
+        let w = part-length in
+        inr (inr (λ k u v r. f (i + k) (omega arith) (omega arith) (sym (getD-take (e - i) (drop i t) k 0 (omega arith) ∙ getD-drop i t k 0) ∙ r)))
+
+    -- What is written for it comes first, and then what is written for the rest after it.
+    pub next-part : Apart t e → Next (encodeOf (contextIn strings) (drop i t)) (encodeOf (contextIn strings) (take (e - i) (drop i t))) (encodeOf (contextIn strings) (drop e t))
+    next-part p =
+        let n : i + (e - i) ≡ e = omega arith in
+        let d : drop i t ≡ take (e - i) (drop i t) ++ drop e t = sym (take-append-drop (e - i) (drop i t)) ∙ rw (drop-drop, n) in
+        record {
+          next =
+              ap (encodeOf (contextIn strings)) d
+              ∙ parted-result (encodeStep (contextIn strings)) (encode-blind (contextIn strings)) (take (e - i) (drop i t)) (drop e t)
+              (parted (take (e - i) (drop i t)) (drop e t) (clear-part p));
+        }
+
+    pub next-length : Apart t e
+        → length (encodeOf (contextIn strings) (drop i t)) ≡ length (encodeOf (contextIn strings) (take (e - i) (drop i t))) + length (encodeOf (contextIn strings) (drop e t))
+    next-length p = ap length (next-part p .next) ∙ length-append (encodeOf (contextIn strings) (take (e - i) (drop i t))) (encodeOf (contextIn strings) (drop e t))

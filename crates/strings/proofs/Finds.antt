@@ -240,18 +240,18 @@ module _ (strings : Strings) where
   found-none (x ∷ s) h e p = sym (kept (contextIn strings) p x s e)
 
   -- A key begins with it, and it is not E2.
-  pub found-kind : (s : List ℕ) → 0 < length s → getD s 0 0 < 256 → starts (table (contextIn strings)) (getD s 0 0) ≡ true → (getD s 0 0 ≡ 0xE2 → ⊥)
-      → (p : ℕ) → replacementMove (strings .style) s (kindOf (strings .style) (getD s 0 0)) ≡ encodeStep (contextIn strings) p s
-  found-kind [] h l e ne p = absurd (not-suc-le-zero h)
-  found-kind (x ∷ s) h l e ne p = byte-kind strings x l ne e p s
+  pub found-kind : (s : List ℕ) (r : Replacement) → 0 < length s → getD s 0 0 < 256 → starts (table (contextIn strings)) (getD s 0 0) ≡ true → (getD s 0 0 ≡ 0xE2 → ⊥)
+      → kindOf (strings .style) (getD s 0 0) ≡ r → (p : ℕ) → replacementMove (strings .style) s r ≡ encodeStep (contextIn strings) p s
+  found-kind [] r h l e ne k p = absurd (not-suc-le-zero h)
+  found-kind (x ∷ s) r h l e ne k p = rw (← k) (byte-kind strings x l ne e p s)
 
   -- A key begins with it, and it is E2.
-  pub found-lead : (s : List ℕ) → 0 < length s → getD s 0 0 ≡ 0xE2 → starts (table (contextIn strings)) (getD s 0 0) ≡ true
-      → (p : ℕ) → replacementMove (strings .style) s (separatorAt (drop 1 s)) ≡ encodeStep (contextIn strings) p s
-  found-lead [] h e k p = absurd (not-suc-le-zero h)
-  found-lead (x ∷ s) h e k p =
-      let o : strings .style ≡ false = lead-only (strings .style) (strings .quotes) (rw e at k) in
-      rw (o, e) (lead-script (strings .quotes) p s)
+  pub found-lead : (s : List ℕ) (r : Replacement) → 0 < length s → getD s 0 0 ≡ 0xE2 → starts (table (contextIn strings)) (getD s 0 0) ≡ true
+      → separatorAt (drop 1 s) ≡ r → (p : ℕ) → replacementMove (strings .style) s r ≡ encodeStep (contextIn strings) p s
+  found-lead [] r h e l k p = absurd (not-suc-le-zero h)
+  found-lead (x ∷ s) r h e l k p =
+      let o : strings .style ≡ false = lead-only (strings .style) (strings .quotes) (rw e at l) in
+      rw (o, e, ← k) (lead-script (strings .quotes) p s)
 
 -- Less than two bytes after it end no separator; otherwise the two tell.
 pub ended-short : (s : List ℕ) → length s < 3 → ended (drop 1 s) ≡ false

@@ -2,3 +2,4 @@ pub mod Heads
 pub mod Finds
 pub mod Sums
 pub mod Cuts
+pub mod Steps

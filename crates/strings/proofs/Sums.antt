@@ -4,7 +4,7 @@ use mathlib.Core.Bool.{Bool, true, false, _&&_, cond}
 use mathlib.Core.Logic.{_⊎_, inl, inr}
 use mathlib.Core.Path.{_≡_, refl, sym, ap, _∙_, subst}
 use mathlib.Core.List.{List, [], _∷_, _++_}
-use Prim.Native.Nat.{ℕ, zero, suc, _+_, _*_, _≤_, _<_}
+use Prim.Native.Nat.{ℕ, zero, suc, _+_, _-_, _*_, _≤_, _<_}
 use native.Mathlib.Nat.{not-suc-le-zero}
 use native.Mathlib.Numerals.{add-one}
 use native.Mathlib.Omega.{arith}
@@ -24,6 +24,7 @@ use Rattle.rules.specs.declared.Context.the-variants.{InScript, InStyle}
 use Rattle.rules.specs.declared.Replacement.the-variants.{Separator, Nothing}
 use Rattle.rules.proofs.Blind.{Blind, blind-next}
 use Rattle.rules.proofs.Loops.{drop-next}
+use Rattle.rules.proofs.Growth.{encode-sum}
 use Rattle.strings.specs.declared.Strings.{Strings}
 use Rattle.strings.specs.Strings.{contextIn, starts, singleKey, doubleKey, gainOf, sameOf, total, endsOf, ended, separatorsIn}
 use Rattle.strings.proofs.Heads.{kept, lone, no-byte}
@@ -38,8 +39,21 @@ module _ (f : ℕ → ℕ) (s : List ℕ) (i : ℕ) where
   pub total-none : length s ≤ i → total f (drop i s) ≡ 0
   total-none h = rw (drop-of-length-le s h)
 
-pub separators-more : (s : List ℕ) (i : ℕ) → i < length s → separatorsIn (drop i s) ≡ cond (eqb (getD s i 0) 0xE2 && ended (drop (i + 1) s)) 1 0 + separatorsIn (drop (i + 1) s)
-separators-more s i h = rw (drop-next s i h)
+module _ (s : List ℕ) (i : ℕ) (h : i + 2 < length s) where
+  separators-more : separatorsIn (drop i s) ≡ cond (eqb (getD s i 0) 0xE2 && endsOf (getD s (i + 1) 0) (getD s (i + 2) 0)) 1 0 + separatorsIn (drop (i + 1) s)
+  separators-more =
+      let a : i + 1 + 1 ≡ i + 2 = omega arith in
+      let e : drop (i + 1) s ≡ getD s (i + 1) 0 ∷ getD s (i + 2) 0 ∷ drop (i + 2 + 1) s =
+      drop-next s (i + 1) (omega arith) ∙ rw a (ap (λ (l : List ℕ). getD s (i + 1) 0 ∷ l) (drop-next s (i + 2) h)) in
+      rw (drop-next s i (omega arith), e)
+
+  -- E2 stands at i, and the two bytes after it tell.
+  pub separators-lead : (t : Bool) → getD s i 0 ≡ 0xE2 → endsOf (getD s (i + 1) 0) (getD s (i + 2) 0) ≡ t → separatorsIn (drop i s) ≡ cond t 1 0 + separatorsIn (drop (i + 1) s)
+  separators-lead t e f = separators-more ∙ rw (e, f)
+
+  -- Another byte stands there.
+  pub separators-other : (getD s i 0 ≡ 0xE2 → ⊥) → separatorsIn (drop i s) ≡ separatorsIn (drop (i + 1) s)
+  separators-other n = separators-more ∙ rw (ne-eqb (getD s i 0) 0xE2 n) (omega arith)
 
 pub separators-none : (s : List ℕ) → length s ≤ 2 → separatorsIn s ≡ 0
 separators-none [] h = refl
@@ -182,3 +196,26 @@ module _ (q : Quotes) where
       go false u e f i j = grown-byte b (x ∷ y ∷ s) (rw e) i
       go true false e f i j = grown-byte b (x ∷ y ∷ s) (rw (e, f)) i
       go true true e f i j = rw (eqb-true b 0xE2 e) (grown-separator x y s f j)
+
+-- ---- as the code counts
+
+-- Where E2 does not stand there is no separator.
+pub lead-free : (s : List ℕ) → total (sameOf 0xE2) s ≡ 0 → separatorsIn s ≡ 0
+unfolding sameOf
+lead-free [] h = refl
+lead-free (b ∷ s) h = go (eqb b 0xE2) refl (lead-free s)
+  where
+    go : (t : Bool) → eqb b 0xE2 ≡ t → (total (sameOf 0xE2) s ≡ 0 → separatorsIn s ≡ 0) → cond (eqb b 0xE2 && ended s) 1 0 + separatorsIn s ≡ 0
+    go true e ih = let z : _≡_ {A = ℕ} (cond (eqb 0xE2 b) 1 0) 1 = rw (eqb-true b 0xE2 e) in absurd (omega arith)
+    go false e ih = let z : _≡_ {A = ℕ} (cond (eqb 0xE2 b) 1 0) 0 = rw (ne-eqb 0xE2 b (λ q. eqb-false b 0xE2 e (sym q))) in rw (e, ih (omega arith))
+
+module _ (strings : Strings) (s : List ℕ) (g : ℕ) (e : g ≡ total (gainOf (singleKey (strings .quotes)) (doubleKey (strings .quotes))) s) where
+  pub gained-style : strings .style ≡ true → (z : ℕ) → z ≡ total (sameOf 0) s → (z ≤ g) × (length s + (g - z) ≡ length (encodeOf (contextIn strings) s))
+  gained-style h z f =
+      let q = strings .quotes in
+      let w = grows-style q s in
+      let l = encode-sum (InStyle q) s in
+      rw h (omega arith, omega arith)
+
+  pub gained-script : strings .style ≡ false → (n : ℕ) → n ≡ separatorsIn s → length s + (g + 3 * n) ≡ length (encodeOf (contextIn strings) s)
+  gained-script h n f = let w = grows-script (strings .quotes) s in rw h (omega arith)

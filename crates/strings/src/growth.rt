@@ -97,7 +97,7 @@ fn separators(part: &[u8]) -> usize
 // By how much a part grows: in a style sheet NUL grows by two only, in a script each line separator by three.
 pub fn gained(strings: Strings, part: &[u8]) -> usize
     requires { ⌜ length (now part) ≤ 64 ⌝ }
-    ensures { λ r. ⌜ (length (now (part .entry)) + r ≡ length (encodeOf (contextIn strings) (now (part .entry)))) × (r ≤ 6 * length (now (part .entry))) ⌝ }
+    ensures { λ r. ⌜ length (now (part .entry)) + r ≡ length (encodeOf (contextIn strings) (now (part .entry))) ⌝ }
 {
     let quotes = strings.quotes;
     let single = single_key(quotes);

@@ -1,3 +1,5 @@
+use Prim.Native.Nat.{_+_}
+use Rattle.strings.proofs.Cuts.{two-before}
 use native.Mathlib.Omega.{arith}
 use mathlib.Core.Logic.{inl, inr}
 use borrow.Author.Needs.{needs}
@@ -52,7 +54,7 @@ returns-3 c = (search needs, search needs, search needs, inr (inl (c .if3 .taken
 
 -- src/lib.rt:21:1
 returns-4 : tie.Need-returns-4
-returns-4 c = (search needs, search needs, search needs, inr (inr (?)))
+returns-4 c = (search needs, search needs, search needs, inr (inr (two-before (c .before .before .before .before .before .args .text .now) (c .before .before .before .before .before .args .at + c .before .before .before .before .before .args .step) (c .before .before .if2 .left) (c .if3 .left))))
 
 pub cut-spec : {M : Type 1} → statement M
 cut-spec =

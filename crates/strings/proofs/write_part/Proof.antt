@@ -1,3 +1,6 @@
+use Rattle.strings.proofs.Steps.{no-growth}
+use Rattle.strings.specs.Strings.{contextIn}
+use native.Mathlib.Omega.{arith}
 use borrow.Author.Needs.{needs}
 use Rattle.strings.proofs.write_part.Statement.{statement}
 use Rattle.strings.proofs.write_part.Tie as tie
@@ -13,7 +16,7 @@ gained-requires c κs = search needs
 
 -- src/lib.rt:59:9
 put-requires : tie.Need-put-requires
-put-requires c κs = search needs
+put-requires c κs = omega (arith, c .before .before .gained .ensures, c .before .before .before .before .before .pre .2)
 
 -- src/lib.rt:59:9
 same-length : tie.Need-same-length
@@ -21,7 +24,9 @@ same-length c = search needs
 
 -- src/lib.rt:59:9
 returns : tie.Need-returns
-returns c = ?
+returns c = let a = c .before .before .before .before .before .before .before .before .args in
+    let w = no-growth (contextIn (a .strings)) (a .part .now) (c .before .before .before .before .before .gained .result) (c .before .before .before .before .before .gained .ensures) (c .before .before .before .before .if1 .taken) in
+    rw w (c .before .before .put .ensures)
 
 -- src/lib.rt:61:5
 write-bytes-requires : tie.Need-write-bytes-requires

@@ -1,3 +1,6 @@
+use Rattle.strings.specs.Strings.{endsOf}
+use Rattle.rules.specs.declared.Replacement.the-variants.{Slashed, Hex, Separator, Substitute, Nothing}
+use mathlib.Core.Bool.{true}
 use Rattle.strings.proofs.Finds.{found-none, found-kind, found-lead, ended-short, ended-long, ends-are}
 use borrow.Author.Tests.{ne-eqb, not-true, not-false}
 use native.Mathlib.Omega.{arith}
@@ -25,7 +28,6 @@ returns : tie.Need-returns
 returns c = let a = c .before .before .before .before .args in
     let s = a .rest .now in
     let h : 0 < length s = c .before .before .before .before .pre .0 in
-    let known = c .before .before .before .shared-slice-known in
     (found-none (a .strings) s h (sym (c .before .needs-escape .ensures) ∙ not-true _ (c .if1 .taken)), search needs)
 
 -- src/escapes.rt:49:17
@@ -33,9 +35,7 @@ returns-2 : tie.Need-returns-2
 returns-2 c = let a = c .before .before .before .before .before .before .args in
     let s = a .rest .now in
     let h : 0 < length s = c .before .before .before .before .before .before .pre .0 in
-    let known = c .before .before .before .before .before .shared-slice-known in
-    let m = found-lead (a .strings) s h (c .before .match .keys5) (sym (c .before .before .before .needs-escape .ensures) ∙ not-false _ (c .before .before .if1 .left)) in
-    (rw (ended-short s (c .if3 .taken)) at m, search needs)
+    (found-lead (a .strings) s Nothing h (c .before .match .keys5) (sym (c .before .before .before .needs-escape .ensures) ∙ not-false _ (c .before .before .if1 .left)) (rw (ended-short s (c .if3 .taken))), search needs)
 
 -- src/escapes.rt:51:31
 shared-slice-read-ends-separator : tie.Need-shared-slice-read-ends-separator
@@ -54,78 +54,68 @@ returns-3 : tie.Need-returns-3
 returns-3 c = let a = c .before .before .before .before .before .before .before .before .before .before .args in
     let s = a .rest .now in
     let h : 0 < length s = c .before .before .before .before .before .before .before .before .before .before .pre .0 in
-    let known = c .before .before .before .before .before .before .before .before .before .shared-slice-known in
-    let m = found-lead (a .strings) s h (c .before .before .before .before .before .match .keys5) (sym (c .before .before .before .before .before .before .before .needs-escape .ensures) ∙ not-false _ (c .before .before .before .before .before .before .if1 .left)) in
-    (rw (ended-long s (c .before .before .before .before .if3 .left), ← c .before .ends-separator .ensures, c .if4 .taken) at m, (c .before .before .before .before .if3 .left, omega (arith, ends-are (getD s 1 0) (getD s 2 0) (sym (c .before .ends-separator .ensures) ∙ c .if4 .taken) .1)))
+    let l : 3 ≤ length s = c .before .before .before .before .if3 .left in
+    let e : endsOf (getD s 1 0) (getD s 2 0) ≡ true = sym (c .before .ends-separator .ensures) ∙ c .if4 .taken in
+    (found-lead (a .strings) s Separator h (c .before .before .before .before .before .match .keys5) (sym (c .before .before .before .before .before .before .before .needs-escape .ensures) ∙ not-false _ (c .before .before .before .before .before .before .if1 .left)) (rw (ended-long s l, e)), (l, omega (arith, ends-are (getD s 1 0) (getD s 2 0) e .1)))
 
 -- src/escapes.rt:30:1
 returns-4 : tie.Need-returns-4
 returns-4 c = let a = c .before .before .before .before .before .args in
     let s = a .rest .now in
     let h : 0 < length s = c .before .before .before .before .before .pre .0 in
-    let known = c .before .before .before .before .shared-slice-known in
     let k : getD s 0 0 ≡ 34 = c .match .keys1 in
-    let m = found-kind (a .strings) s h (omega arith) (sym (c .before .before .needs-escape .ensures) ∙ not-false _ (c .before .if1 .left)) (λ e. omega arith) in
-    (rw k at m, search needs)
+    (found-kind (a .strings) s Slashed h (omega arith) (sym (c .before .before .needs-escape .ensures) ∙ not-false _ (c .before .if1 .left)) (λ e. omega arith) (rw k), search needs)
 
 -- src/escapes.rt:30:1
 returns-5 : tie.Need-returns-5
 returns-5 c = let a = c .before .before .before .before .before .args in
     let s = a .rest .now in
     let h : 0 < length s = c .before .before .before .before .before .pre .0 in
-    let known = c .before .before .before .before .shared-slice-known in
     let k : getD s 0 0 ≡ 39 = c .match .keys2 in
-    let m = found-kind (a .strings) s h (omega arith) (sym (c .before .before .needs-escape .ensures) ∙ not-false _ (c .before .if1 .left)) (λ e. omega arith) in
-    (rw k at m, search needs)
+    (found-kind (a .strings) s Slashed h (omega arith) (sym (c .before .before .needs-escape .ensures) ∙ not-false _ (c .before .if1 .left)) (λ e. omega arith) (rw k), search needs)
 
 -- src/escapes.rt:30:1
 returns-6 : tie.Need-returns-6
 returns-6 c = let a = c .before .before .before .before .before .args in
     let s = a .rest .now in
     let h : 0 < length s = c .before .before .before .before .before .pre .0 in
-    let known = c .before .before .before .before .shared-slice-known in
     let k : getD s 0 0 ≡ 92 = c .match .keys3 in
-    let m = found-kind (a .strings) s h (omega arith) (sym (c .before .before .needs-escape .ensures) ∙ not-false _ (c .before .if1 .left)) (λ e. omega arith) in
-    (rw k at m, search needs)
+    (found-kind (a .strings) s Slashed h (omega arith) (sym (c .before .before .needs-escape .ensures) ∙ not-false _ (c .before .if1 .left)) (λ e. omega arith) (rw k), search needs)
 
 -- src/escapes.rt:30:1
 returns-7 : tie.Need-returns-7
 returns-7 c = let a = c .before .before .before .before .before .before .args in
     let s = a .rest .now in
     let h : 0 < length s = c .before .before .before .before .before .before .pre .0 in
-    let known = c .before .before .before .before .before .shared-slice-known in
     let k : getD s 0 0 ≡ 0 = c .before .match .keys4 in
-    let m = found-kind (a .strings) s h (omega arith) (sym (c .before .before .before .needs-escape .ensures) ∙ not-false _ (c .before .before .if1 .left)) (λ e. omega arith) in
-    (rw (k, c .if2 .taken) at m, search needs)
+    (found-kind (a .strings) s Substitute h (omega arith) (sym (c .before .before .before .needs-escape .ensures) ∙ not-false _ (c .before .before .if1 .left)) (λ e. omega arith) (rw (k, c .if2 .taken)), search needs)
 
 -- src/escapes.rt:30:1
 returns-8 : tie.Need-returns-8
 returns-8 c = let a = c .before .before .before .before .before .before .args in
     let s = a .rest .now in
     let h : 0 < length s = c .before .before .before .before .before .before .pre .0 in
-    let known = c .before .before .before .before .before .shared-slice-known in
     let k : getD s 0 0 ≡ 0 = c .before .match .keys4 in
-    let m = found-kind (a .strings) s h (omega arith) (sym (c .before .before .before .needs-escape .ensures) ∙ not-false _ (c .before .before .if1 .left)) (λ e. omega arith) in
-    (rw (k, c .if2 .left) at m, search needs)
+    (found-kind (a .strings) s Hex h (omega arith) (sym (c .before .before .before .needs-escape .ensures) ∙ not-false _ (c .before .before .if1 .left)) (λ e. omega arith) (rw (k, c .if2 .left)), search needs)
 
 -- src/escapes.rt:30:1
 returns-9 : tie.Need-returns-9
 returns-9 c = let a = c .before .before .before .before .before .before .before .before .before .before .args in
     let s = a .rest .now in
     let h : 0 < length s = c .before .before .before .before .before .before .before .before .before .before .pre .0 in
-    let known = c .before .before .before .before .before .before .before .before .before .shared-slice-known in
-    let m = found-lead (a .strings) s h (c .before .before .before .before .before .match .keys5) (sym (c .before .before .before .before .before .before .before .needs-escape .ensures) ∙ not-false _ (c .before .before .before .before .before .before .if1 .left)) in
-    (rw (ended-long s (c .before .before .before .before .if3 .left), ← c .before .ends-separator .ensures, c .if4 .left) at m, search needs)
+    let l : 3 ≤ length s = c .before .before .before .before .if3 .left in
+    (found-lead (a .strings) s Nothing h (c .before .before .before .before .before .match .keys5) (sym (c .before .before .before .before .before .before .before .needs-escape .ensures) ∙ not-false _ (c .before .before .before .before .before .before .if1 .left)) (rw (ended-long s l, ← c .before .ends-separator .ensures, c .if4 .left)), search needs)
 
 -- src/escapes.rt:30:1
 returns-10 : tie.Need-returns-10
 returns-10 c = let a = c .before .before .before .before .before .args in
     let s = a .rest .now in
     let h : 0 < length s = c .before .before .before .before .before .pre .0 in
-    let known = c .before .before .before .before .shared-slice-known in
-    let r = c .match .rest in
-    let m = found-kind (a .strings) s h (known .given 0) (sym (c .before .before .needs-escape .ensures) ∙ not-false _ (c .before .if1 .left)) (r .1) in
-    (rw (ne-eqb _ 34 (r .0 .0 .0 .0 .1), ne-eqb _ 39 (r .0 .0 .0 .1), ne-eqb _ 92 (r .0 .0 .1), ne-eqb _ 0 (r .0 .1)) at m, search needs)
+    let r = c .match .rest in (
+      found-kind (a .strings) s Hex h (c .before .before .before .before .shared-slice-known .given 0 .fits) (sym (c .before .before .needs-escape .ensures) ∙ not-false _ (c .before .if1 .left)) (r .1)
+          (rw (ne-eqb _ 34 (r .0 .0 .0 .0 .1), ne-eqb _ 39 (r .0 .0 .0 .1), ne-eqb _ 92 (r .0 .0 .1), ne-eqb _ 0 (r .0 .1))),
+      search needs,
+    )
 
 pub escape-spec : {M : Type 1} → statement M
 escape-spec =

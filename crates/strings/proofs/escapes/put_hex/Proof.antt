@@ -20,7 +20,7 @@ slice-aggregate-put c = search needs
 
 -- src/escapes.rt:92:9
 put-requires : tie.Need-put-requires
-put-requires c κs = rw (c .before .before .before .before .digit .ensures, c .before .before .before .digit2 .ensures) (rw c .before .before .if1 .taken at c .before .before .before .before .before .before .pre)
+put-requires c κs = rw (c .before .before .if1 .taken) at (c .before .before .before .before .before .before .pre)
 
 -- src/escapes.rt:92:9
 same-length : tie.Need-same-length
@@ -36,7 +36,7 @@ slice-aggregate-put-2 c = search needs
 
 -- src/escapes.rt:94:5
 put-requires-2 : tie.Need-put-requires-2
-put-requires-2 c κs = rw (c .before .before .before .before .digit .ensures, c .before .before .before .digit2 .ensures) (rw c .before .before .if1 .left at c .before .before .before .before .before .before .pre)
+put-requires-2 c κs = rw (c .before .before .if1 .left) at (c .before .before .before .before .before .before .pre)
 
 -- src/escapes.rt:85:1
 same-length-2 : tie.Need-same-length-2

@@ -1,3 +1,7 @@
+use Rattle.strings.proofs.Sums.{lead-free, gained-style, gained-script}
+use native.Mathlib.Omega.{arith}
+use Prim.Native.Nat.{ℕ, _+_, _-_, _*_, _≤_, _<_}
+use mathlib.Core.Path.{_≡_, refl, sym, ap, _∙_}
 use borrow.Author.Needs.{needs}
 use Rattle.strings.proofs.growth.gained.Statement.{statement}
 use Rattle.strings.proofs.growth.gained.Tie as tie
@@ -22,7 +26,10 @@ weigh-requires c κs = search needs
 
 -- src/growth.rt:107:17
 sub-result : tie.Need-sub-result
-sub-result c = ?
+sub-result c = let a = c .before .before .before .before .before .before .args in
+    let e = rw (c .before .before .before .before .single-key .ensures, c .before .before .before .double-key .ensures) at (c .before .weigh .ensures .0) in
+    let g = gained-style (a .strings) (a .part .now) (c .before .weigh .result .growth) e (c .before .before .if1 .taken) (c .before .weigh .result .odd) (c .before .weigh .ensures .1) in
+    g .0
 
 -- src/growth.rt:107:16
 cast-result : tie.Need-cast-result
@@ -30,7 +37,10 @@ cast-result c = search needs
 
 -- src/growth.rt:107:9
 returns : tie.Need-returns
-returns c = ?
+returns c = let a = c .before .before .before .before .before .before .args in
+    let e = rw (c .before .before .before .before .single-key .ensures, c .before .before .before .double-key .ensures) at (c .before .weigh .ensures .0) in
+    let g = gained-style (a .strings) (a .part .now) (c .before .weigh .result .growth) e (c .before .before .if1 .taken) (c .before .weigh .result .odd) (c .before .weigh .ensures .1) in
+    g .1
 
 -- src/growth.rt:109:9
 weigh-requires-2 : tie.Need-weigh-requires-2
@@ -42,7 +52,11 @@ cast-growth c = search needs
 
 -- src/growth.rt:112:9
 returns-2 : tie.Need-returns-2
-returns-2 c = ?
+returns-2 c = let a = c .before .before .before .before .before .before .before .before .args in
+    let e = rw (c .before .before .before .before .before .before .single-key .ensures, c .before .before .before .before .before .double-key .ensures) at (c .before .before .before .weigh2 .ensures .0) in
+    let z = lead-free (a .part .now) (sym (c .before .before .before .weigh2 .ensures .1) ∙ c .if2 .taken) in
+    let g = gained-script (a .strings) (a .part .now) (c .before .before .before .weigh2 .result .growth) e (c .before .before .before .before .if1 .left) 0 (sym z) in
+    omega arith
 
 -- src/growth.rt:114:18
 separators-requires : tie.Need-separators-requires
@@ -50,15 +64,18 @@ separators-requires c κs = search needs
 
 -- src/growth.rt:114:14
 mul-result : tie.Need-mul-result
-mul-result c = search needs
+mul-result c = omega (arith, c .separators .ensures .1)
 
 -- src/growth.rt:114:5
 add-result : tie.Need-add-result
-add-result c = search needs
+add-result c = omega (arith, c .before .before .before .before .weigh2 .ensures .2, c .separators .ensures .1)
 
 -- src/growth.rt:98:1
 returns-3 : tie.Need-returns-3
-returns-3 c = ?
+returns-3 c = let a = c .before .before .before .before .before .before .before .before .before .args in
+    let e = rw (c .before .before .before .before .before .before .before .single-key .ensures, c .before .before .before .before .before .before .double-key .ensures) at (c .before .before .before .before .weigh2 .ensures .0) in
+    let g = gained-script (a .strings) (a .part .now) (c .before .before .before .before .weigh2 .result .growth) e (c .before .before .before .before .before .if1 .left) (c .separators .result) (c .separators .ensures .0) in
+    g
 
 pub gained-spec : {M : Type 1} → statement M
 gained-spec =
