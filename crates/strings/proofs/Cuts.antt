@@ -9,8 +9,8 @@ use native.Mathlib.Nat.{add-zero}
 use native.Mathlib.Omega.{arith}
 use borrow.Author.Tests.{ne-eqb, eqb-true, eqb-false, ltb-true, ltb-false}
 use lib.Dec.{T, eqb, ltb}
-use lib.ListN.{length, take, drop, getD, length-append, length-drop, take-append-drop, drop-of-length-le}
-use lib.Seq.{drop-drop, getD-drop, getD-take, length-take-le}
+use lib.ListN.{length, take, drop, getD, length-append, drop-of-length-le}
+use lib.Seq.{getD-drop, getD-take}
 use Rattle.rules.specs.Moves.{Move, keep, takes}
 use Rattle.rules.specs.Encoding.{encodeStep}
 use Rattle.rules.specs.Operations.{encodeOf}
@@ -19,6 +19,7 @@ use Rattle.rules.specs.declared.Context.{Context}
 use Rattle.rules.specs.declared.Context.the-variants.{InScript, InStyle}
 use Rattle.rules.proofs.Tests.{is-false}
 use Rattle.rules.proofs.Blind.{Local, Parted, parted-result}
+use Rattle.parts.proofs.Part.{part-length, part-split}
 use Rattle.parts.proofs.Filled.{Next}
 use Rattle.strings.specs.declared.Strings.{Strings}
 use Rattle.strings.specs.Strings.{contextIn, endsOf, ended, Apart}
@@ -109,25 +110,19 @@ module _ (strings : Strings) where
       go false e = local-byte strings x a b (eqb-false x 0xE2 e)
 
   module _ (t : List ℕ) (i e : ℕ) (h : i ≤ e) (l : e ≤ length t) where
-    -- The part from i to e is as long as it says.
-    pub part-length : length (take (e - i) (drop i t)) ≡ e - i
-    part-length = length-take-le (e - i) (drop i t) (rw length-drop (omega arith))
-
     clear-part : Apart t e → Clear (take (e - i) (drop i t)) (drop e t)
     clear-part (inl q) = inl (drop-of-length-le t q)
     clear-part (inr (inl q)) = inr (inl (getD-drop e t 0 0 ∙ rw add-zero q))
     clear-part (inr (inr f)) =
-        let w = part-length in
+        let w = part-length t i e h l in
         inr (inr (λ k u v r. f (i + k) (omega arith) (omega arith) (sym (getD-take (e - i) (drop i t) k 0 (omega arith) ∙ getD-drop i t k 0) ∙ r)))
 
     -- What is written for it comes first, and then what is written for the rest after it.
     pub next-part : Apart t e → Next (encodeOf (contextIn strings) (drop i t)) (encodeOf (contextIn strings) (take (e - i) (drop i t))) (encodeOf (contextIn strings) (drop e t))
     next-part p =
-        let n : i + (e - i) ≡ e = omega arith in
-        let d : drop i t ≡ take (e - i) (drop i t) ++ drop e t = sym (take-append-drop (e - i) (drop i t)) ∙ rw (drop-drop, n) in
         record {
           next =
-              ap (encodeOf (contextIn strings)) d
+              ap (encodeOf (contextIn strings)) (part-split t i e h)
               ∙ parted-result (encodeStep (contextIn strings)) (encode-blind (contextIn strings)) (take (e - i) (drop i t)) (drop e t)
               (parted (take (e - i) (drop i t)) (drop e t) (clear-part p));
         }

@@ -9,7 +9,7 @@ use mathlib.Core.List.{List, [], _∷_}
 use Prim.Native.Nat.{ℕ, _+_, _<_, _≤_}
 use native.Mathlib.Nat.{zero-add, not-suc-le-zero}
 use native.Mathlib.Omega.{arith}
-use borrow.Author.Tests.{eq-eqb, ne-eqb, le-ltb, eqb-true, eqb-false, ltb-true, ltb-false}
+use borrow.Author.Tests.{ne-eqb, le-ltb, eqb-true, eqb-false, ltb-true, ltb-false}
 use lib.Bits.{bitAnd, and-zero-l}
 use lib.Dec.{T, eqb, ltb, eqb→eq}
 use lib.ListN.{length, drop, getD}
@@ -25,20 +25,10 @@ use Rattle.rules.specs.declared.Context.the-variants.{InScript, InStyle}
 use Rattle.rules.specs.declared.Replacement.{Replacement}
 use Rattle.rules.specs.declared.Replacement.the-variants.{Slashed, Hex, Separator, Substitute, Nothing}
 use Rattle.rules.proofs.Tests.{and-left, and-right, or-cases, same-bytes}
-use Rattle.rules.proofs.Below.{below, counted}
+use Rattle.rules.proofs.Below.{below, counted, agree, agrees, eqb-comm}
 use Rattle.strings.specs.declared.Strings.{Strings}
 use Rattle.strings.specs.Strings.{contextIn, flagOf, escapeFlags, maskOf, starts, Held, singleKey, doubleKey, gainOf, sameOf, endsOf, ended}
 use Rattle.strings.proofs.Heads.{kept, no-start, lone}
-
-abbrev agree : Bool → Bool → Bool
-agree true b = b
-agree false b = not b
-
-agrees : (a b : Bool) → T (agree a b) → a ≡ b
-agrees true true t = refl
-agrees true false t = absurd t
-agrees false true t = absurd t
-agrees false false t = refl
 
 abbrev sameMove : Move → Move → Bool
 sameMove (keep a) (keep b) = sameBytes a b
@@ -180,13 +170,6 @@ byte-kind strings b ne e p s =
     go false l = absurd (subst T (sym e ∙ no-start (contextIn strings) b (ltb-false b 0x80 l) ne) tt)
 
 -- ---- the line separators
-
-eqb-comm : (m n : ℕ) → eqb m n ≡ eqb n m
-eqb-comm m n = go (eqb m n) refl
-  where
-    go : (t : Bool) → eqb m n ≡ t → t ≡ eqb n m
-    go true e = sym (eq-eqb n m (sym (eqb-true m n e)))
-    go false e = sym (ne-eqb n m (λ q. eqb-false m n e (sym q)))
 
 -- What ends a separator is 80, and A8 or A9.
 pub ends-are : (b c : ℕ) → endsOf b c ≡ true → (b ≡ 0x80) × (0xA8 ≤ c) × (c ≤ 0xA9)

@@ -1,7 +1,8 @@
+use Rattle.parts.proofs.Part.{part-length}
 use Rattle.rules.proofs.Growth.{encode-six}
 use borrow.Author.Needs.{needs}
 use Rattle.strings.proofs.Steps.{encode-end}
-use Rattle.strings.proofs.Cuts.{part-length, next-length}
+use Rattle.strings.proofs.Cuts.{next-length}
 use Rattle.strings.specs.Strings.{contextIn}
 use Rattle.rules.specs.Operations.{encodeOf}
 use lib.Seq.{length-take-le}
@@ -54,7 +55,7 @@ gained-requires c κs = let a = c .before .before .before .before .before .args 
     let t = a .text .now in
     let l = c .before .before .before .loop in
     let e = c .before .cut .ensures in
-    let p = part-length (a .strings) t (l .i) (c .before .cut .result) (search needs) (e .1) in
+    let p = part-length t (l .i) (c .before .cut .result) (search needs) (e .1) in
     omega (arith, e .2)
 
 -- src/lib.rt:47:14
@@ -63,7 +64,7 @@ add-n c = let a = c .before .before .before .before .before .before .args in
     let t = a .text .now in
     let l = c .before .before .before .before .loop in
     let e = c .before .before .cut .ensures in
-    let p = part-length (a .strings) t (l .i) (c .before .before .cut .result) (search needs) (e .1) in
+    let p = part-length t (l .i) (c .before .before .cut .result) (search needs) (e .1) in
     let s = next-length (a .strings) t (l .i) (c .before .before .cut .result) (search needs) (e .1) (e .3) in
     let m = encode-six (contextIn (a .strings)) t in
     omega (arith, c .gained .ensures)
@@ -74,7 +75,7 @@ add-n-2 c = let a = c .before .before .before .before .before .before .args in
     let t = a .text .now in
     let l = c .before .before .before .before .loop in
     let e = c .before .before .cut .ensures in
-    let p = part-length (a .strings) t (l .i) (c .before .before .cut .result) (search needs) (e .1) in
+    let p = part-length t (l .i) (c .before .before .cut .result) (search needs) (e .1) in
     let s = next-length (a .strings) t (l .i) (c .before .before .cut .result) (search needs) (e .1) (e .3) in
     let m = encode-six (contextIn (a .strings)) t in
     omega (arith, c .gained .ensures)
@@ -89,7 +90,7 @@ loop-again c = let a = c .before .before .before .before .before .before .args i
     let t = a .text .now in
     let l = c .before .before .before .before .loop in
     let e = c .before .before .cut .ensures in
-    let p = part-length (a .strings) t (l .i) (c .before .before .cut .result) (search needs) (e .1) in
+    let p = part-length t (l .i) (c .before .before .cut .result) (search needs) (e .1) in
     let s = next-length (a .strings) t (l .i) (c .before .before .cut .result) (search needs) (e .1) (e .3) in
     let m = encode-six (contextIn (a .strings)) t in
     (e .1, omega (arith, c .gained .ensures))

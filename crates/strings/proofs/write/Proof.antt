@@ -1,6 +1,7 @@
+use Rattle.parts.proofs.Part.{part-length}
 use borrow.Author.Needs.{needs}
 use Rattle.strings.proofs.Steps.{encode-end}
-use Rattle.strings.proofs.Cuts.{part-length, next-part}
+use Rattle.strings.proofs.Cuts.{next-part}
 use Rattle.strings.specs.Strings.{contextIn, escapeFlags}
 use Rattle.parts.proofs.Filled.{Filled, filled-start, filled-next, filled-room, filled-put, filled-end}
 use Rattle.rules.specs.Operations.{encodeOf}
@@ -76,7 +77,7 @@ write-part-requires c κs = let a = c .before .before .before .before .before .b
     let l = c .before .before .before .before .before .loop in
     let e = c .before .before .before .cut .ensures in
     let x = next-part (a .strings) t (l .i) (c .before .before .before .cut .result) (search needs) (e .1) (e .3) in
-    (omega (arith, part-length (a .strings) t (l .i) (c .before .before .before .cut .result) (search needs) (e .1), e .2), refl, filled-room (l .inv .1) x)
+    (omega (arith, part-length t (l .i) (c .before .before .before .cut .result) (search needs) (e .1), e .2), refl, filled-room (l .inv .1) x)
 
 -- src/lib.rt:77:9
 add-at : tie.Need-add-at Inv-loop μ-loop
