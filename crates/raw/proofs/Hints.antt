@@ -1,9 +1,8 @@
 -- Where no `<` stands, or none of the hints, each byte gives itself: what is parted from a `<` begins with `!-` or with `/s` in either letter case.
 -- Assumes nothing.
-use mathlib.Core.Bool.{Bool, true, false, _&&_, _||_}
-use mathlib.Core.Logic.{_⊎_, inl, inr}
-use mathlib.Core.Path.{_≡_, refl, sym, ap, _∙_, subst}
-use mathlib.Core.List.{List, [], _∷_, map}
+use mathlib.Core.Bool.{Bool, true, false, _&&_}
+use mathlib.Core.Path.{_≡_, refl, sym, _∙_, subst}
+use mathlib.Core.List.{List, [], _∷_}
 use Prim.Native.Nat.{ℕ, _+_, _-_, _≤_, _<_}
 use native.Mathlib.Nat.{not-suc-le-zero, add-zero}
 use native.Mathlib.Omega.{arith}
@@ -11,10 +10,9 @@ use borrow.Author.Tests.{eqb-true, eqb-false, ltb-true, ltb-false}
 use lib.Dec.{T, eqb, ltb}
 use lib.ListN.{length, take, drop, getD, length-drop}
 use lib.Seq.{getD-take, getD-drop}
-use Rattle.rules.specs.Bytes.{ascii, fits, stands, oneOf}
-use Rattle.rules.specs.Moves.{gives}
-use Rattle.rules.specs.Encoding.{anyCase, terminators, closes, closesAtEnd, parted, rawStep}
-use Rattle.rules.proofs.Tests.{and-left, and-right, and-both, or-cases, or-left, or-right, is-false}
+use Rattle.rules.specs.Bytes.{stands}
+use Rattle.rules.specs.Encoding.{parted}
+use Rattle.rules.proofs.Tests.{is-false}
 use Rattle.parts.proofs.Part.{part-length}
 use Rattle.raw.specs.Marks.{hintOf, rawTo}
 use Rattle.raw.proofs.Names.{begins, parted-begins}

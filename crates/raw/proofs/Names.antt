@@ -4,14 +4,13 @@ use mathlib.Core.Bool.{Bool, true, false, _&&_, _||_, cond}
 use mathlib.Core.Logic.{_⊎_, inl, inr}
 use mathlib.Core.Path.{_≡_, refl, sym, ap, _∙_, subst}
 use mathlib.Core.List.{List, [], _∷_, _++_, map}
-use Prim.Native.Nat.{ℕ, zero, suc, _+_, _-_, _≤_, _<_}
-use native.Mathlib.Nat.{not-suc-le-zero}
+use Prim.Native.Nat.{ℕ, _+_, _-_, _≤_, _<_}
 use native.Mathlib.Omega.{arith}
 use borrow.Author.Tests.{ne-eqb}
 use lib.Dec.{T, eqb, ltb, leb}
 use lib.ListN.{length, drop, getD, drop-of-length-le}
 use lib.Seq.{drop-cons, take-all}
-use Rattle.rules.specs.Bytes.{ascii, all, count, any, fits, stands, inside, oneOf}
+use Rattle.rules.specs.Bytes.{ascii, any, fits, stands, oneOf}
 use Rattle.rules.specs.Encoding.{anyCase, terminators, closes, closesAtEnd, parted}
 use Rattle.rules.proofs.Tests.{fits-length, and-left, and-right, and-both, or-cases, or-left, or-right, or-false}
 use Rattle.rules.proofs.Loops.{drop-next}

@@ -20,7 +20,6 @@ use Rattle.rules.specs.Encoding.{write, keepByte, encodeStep}
 use Rattle.rules.specs.Answers.{replacementMove}
 use Rattle.rules.specs.declared.Quotes.{Quotes}
 use Rattle.rules.specs.declared.Quotes.the-variants.{Single, Double, Both}
-use Rattle.rules.specs.declared.Context.{Context}
 use Rattle.rules.specs.declared.Context.the-variants.{InScript, InStyle}
 use Rattle.rules.specs.declared.Replacement.{Replacement}
 use Rattle.rules.specs.declared.Replacement.the-variants.{Slashed, Hex, Separator, Substitute, Nothing}
@@ -28,7 +27,7 @@ use Rattle.rules.proofs.Tests.{and-left, and-right, or-cases, same-bytes}
 use Rattle.rules.proofs.Below.{below, counted, agree, agrees, eqb-comm}
 use Rattle.strings.specs.declared.Strings.{Strings}
 use Rattle.strings.specs.Strings.{contextIn, flagOf, escapeFlags, maskOf, starts, Held, singleKey, doubleKey, gainOf, sameOf, endsOf, ended}
-use Rattle.strings.proofs.Heads.{kept, no-start, lone}
+use Rattle.strings.proofs.Heads.{not-ascii, kept, no-start, lone}
 
 abbrev sameMove : Move → Move → Bool
 sameMove (keep a) (keep b) = sameBytes a b
@@ -136,10 +135,14 @@ lead-flags false Both = refl
 high-flags : (b : ℕ) → 0x80 ≤ b → (b ≡ 0xE2 → ⊥) → flagOf b ≡ 0
 high-flags b h ne =
     let l : ltb b 32 ≡ false = le-ltb b 32 (omega arith) in
-    rw (l, far 0x5C (omega arith), far 0x3C (omega arith), far 0x27 (omega arith), far 0x22 (omega arith), ne-eqb b 0xE2 ne)
-  where
-    far : (k : ℕ) → k < 0x80 → eqb b k ≡ false
-    far k l = ne-eqb b k (λ e. omega arith)
+    rw (
+      l,
+      not-ascii b 0x5C h (omega arith),
+      not-ascii b 0x3C h (omega arith),
+      not-ascii b 0x27 h (omega arith),
+      not-ascii b 0x22 h (omega arith),
+      ne-eqb b 0xE2 ne,
+    )
 
 -- The flags of a byte that count say whether a key begins with it.
 pub flags-right : (strings : Strings) (b : ℕ) → b < 256 → not (eqb (bitAnd (getD escapeFlags b 0) (maskOf strings)) 0) ≡ starts (table (contextIn strings)) b

@@ -1,91 +1,84 @@
--- The first byte of a text settles the move there: where no key begins with it the byte is kept, and only E2 begins a key of more than one byte.
+-- The first byte of a text settles the move there: where no key begins with it the byte is kept, and a key is one ASCII byte unless E2 begins it.
 -- Assumes nothing.
-use mathlib.Core.Bool.{Bool, true, false, _&&_, _||_}
+use mathlib.Core.Bool.{Bool, true, false, _||_}
 use mathlib.Core.Logic.{_⊎_, inl, inr}
-use mathlib.Core.Option.{Option, none, some}
+use mathlib.Core.Option.{Option, some}
 use mathlib.Core.Path.{_≡_, refl, sym, ap, _∙_, subst}
 use mathlib.Core.List.{List, [], _∷_}
 use Prim.Native.Nat.{ℕ, _≤_, _<_}
 use native.Mathlib.Omega.{arith}
 use borrow.Author.Tests.{ne-eqb}
 use lib.Dec.{T, eqb, ltb, eqb→eq, ltb→lt}
-use Rattle.rules.specs.Bytes.{all, any, stands}
+use Rattle.rules.specs.Bytes.{In, all, stands}
 use Rattle.rules.specs.Moves.{keep}
 use Rattle.rules.specs.Tables.{Row, rowAt, key, table}
 use Rattle.rules.specs.Encoding.{write, encodeStep}
 use Rattle.rules.specs.declared.Context.{Context}
-use Rattle.rules.proofs.Tests.{and-left, and-right, or-cases}
+use Rattle.rules.proofs.Tests.{and-left, and-right, or-cases, is-false, all-in, any-in, any-intro, first-none}
 use Rattle.rules.proofs.Every.{every}
 use Rattle.strings.specs.Strings.{headed, starts}
 
-or-left-false : (a b : Bool) → a || b ≡ false → a ≡ false
-or-left-false true b e = e
-or-left-false false b e = refl
+-- A byte that is not ASCII is no ASCII byte.
+pub not-ascii : (b k : ℕ) → 0x80 ≤ b → k < 0x80 → eqb b k ≡ false
+not-ascii b k h l = ne-eqb b k (λ e. omega arith)
 
-or-right-false : (a b : Bool) → a || b ≡ false → b ≡ false
-or-right-false true b e = absurd (subst T e tt)
-or-right-false false b e = e
+-- A key of one ASCII byte, or one that E2 begins.
+abbrev short : List ℕ → Bool
+short [] = false
+short (x ∷ []) = ltb x 0x80 || eqb x 0xE2
+short (x ∷ y ∷ k) = eqb x 0xE2
 
--- ---- a byte that begins no key is kept
+keys-short : (c : Context) → T (all (λ (row : Row). short (key row)) (table c))
+keys-short = every (λ (c : Context). all (λ (row : Row). short (key row)) (table c)) tt
 
-unheaded : (k : List ℕ) (b : ℕ) (s : List ℕ) → headed b k ≡ false → stands k (b ∷ s) ≡ false
-unheaded [] b s e = absurd (subst T e tt)
-unheaded (x ∷ k) b s e = rw e
+stands-headed : (k : List ℕ) (b : ℕ) (s : List ℕ) → T (stands k (b ∷ s)) → T (headed b k)
+stands-headed [] b s t = tt
+stands-headed (x ∷ k) b s t = and-left (eqb x b) (stands k s) t
 
-none-starts : (rows : List Row) (b : ℕ) (s : List ℕ) → starts rows b ≡ false → rowAt key rows (b ∷ s) ≡ none
-unfolding starts
-none-starts [] b s e = refl
-none-starts (row ∷ rows) b s e =
-    let f : Row → Bool = λ row. headed b (key row) in
-    ap (λ (t : Bool). elim t [ true ↦ some row | false ↦ rowAt key rows (b ∷ s) ]) (unheaded (key row) b s (or-left-false (f row) (any f rows) e))
-    ∙ none-starts rows b s (or-right-false (f row) (any f rows) e)
-
-pub kept : (c : Context) (p b : ℕ) (s : List ℕ) → starts (table c) b ≡ false → encodeStep c p (b ∷ s) ≡ keep (b ∷ [])
-unfolding encodeStep
-kept c p b s e = ap (λ (o : Option Row). write o (keep (b ∷ []))) (none-starts (table c) b s e)
-
--- ---- the keys begin with ASCII bytes and E2
-
-abbrev early : Row → Bool
-early row = elim (key row) [ [] ↦ false | x ∷ xs ↦ ltb x 0x80 || eqb x 0xE2 ]
-
-unstarted : (rows : List Row) (b : ℕ) → T (all early rows) → 0x80 ≤ b → (b ≡ 0xE2 → ⊥) → starts rows b ≡ false
-unfolding starts
-unstarted [] b t h ne = refl
-unstarted (row ∷ rows) b t h ne =
-    rw (go (key row) (and-left (early row) (all early rows) t)) (unstarted rows b (and-right (early row) (all early rows) t) h ne)
+short-head : (k : List ℕ) (b : ℕ) → T (short k) → T (headed b k) → (b < 0x80) ⊎ (b ≡ 0xE2)
+short-head [] b t h = absurd t
+short-head (x ∷ []) b t h = go (or-cases (ltb x 0x80) (eqb x 0xE2) t)
   where
-    apart : (x : ℕ) → T (ltb x 0x80) ⊎ T (eqb x 0xE2) → x ≡ b → ⊥
-    apart x (inl u) e = omega (arith, ltb→lt x 0x80 u)
-    apart x (inr u) e = ne (sym e ∙ eqb→eq x 0xE2 u)
+    go : T (ltb x 0x80) ⊎ T (eqb x 0xE2) → (b < 0x80) ⊎ (b ≡ 0xE2)
+    go (inl u) = inl (omega (arith, ltb→lt x 0x80 u, eqb→eq x b h))
+    go (inr u) = inr (sym (eqb→eq x b h) ∙ eqb→eq x 0xE2 u)
+short-head (x ∷ y ∷ k) b t h = inr (sym (eqb→eq x b h) ∙ eqb→eq x 0xE2 t)
 
-    go : (k : List ℕ) → T (elim k [ [] ↦ false | x ∷ xs ↦ ltb x 0x80 || eqb x 0xE2 ]) → headed b k ≡ false
-    go [] u = absurd u
-    go (x ∷ k) u = ne-eqb x b (apart x (or-cases (ltb x 0x80) (eqb x 0xE2) u))
+lone-key : (k : List ℕ) (b : ℕ) (s : List ℕ) → T (short k) → (b ≡ 0xE2 → ⊥) → stands k (b ∷ s) ≡ stands k (b ∷ [])
+lone-key [] b s t n = absurd t
+lone-key (x ∷ []) b s t n = refl
+lone-key (x ∷ y ∷ k) b s t n = let e : eqb x b ≡ false = ne-eqb x b (λ e. n (sym e ∙ eqb→eq x 0xE2 t)) in rw e
 
--- No other byte begins one.
-pub no-start : (c : Context) (b : ℕ) → 0x80 ≤ b → (b ≡ 0xE2 → ⊥) → starts (table c) b ≡ false
-no-start c b h ne = unstarted (table c) b (every (λ (c : Context). all early (table c)) tt c) h ne
-
--- ---- only E2 begins a key of more than one byte
-
-abbrev single : Row → Bool
-single row = elim (key row) [ [] ↦ false | x ∷ xs ↦ elim xs [ [] ↦ true | y ∷ ys ↦ eqb x 0xE2 ] ]
-
-lone-key : (k : List ℕ) (b : ℕ) (s : List ℕ) → T (elim k [ [] ↦ false | x ∷ xs ↦ elim xs [ [] ↦ true | y ∷ ys ↦ eqb x 0xE2 ] ]) → (b ≡ 0xE2 → ⊥)
-    → stands k (b ∷ s) ≡ stands k (b ∷ [])
-lone-key [] b s t h = absurd t
-lone-key (x ∷ []) b s t h = refl
-lone-key (x ∷ y ∷ k) b s t h = let e : eqb x b ≡ false = ne-eqb x b (λ e. h (sym e ∙ eqb→eq x 0xE2 t)) in rw e
-
-lone-row : (rows : List Row) (b : ℕ) (s : List ℕ) → T (all single rows) → (b ≡ 0xE2 → ⊥) → rowAt key rows (b ∷ s) ≡ rowAt key rows (b ∷ [])
-lone-row [] b s t h = refl
-lone-row (row ∷ rows) b s t h =
-    let e = lone-key (key row) b s (and-left (single row) (all single rows) t) h in
-    let r = lone-row rows b s (and-right (single row) (all single rows) t) h in
+lone-row : (rows : List Row) (b : ℕ) (s : List ℕ) → T (all (λ (row : Row). short (key row)) rows) → (b ≡ 0xE2 → ⊥) → rowAt key rows (b ∷ s) ≡ rowAt key rows (b ∷ [])
+lone-row [] b s t n = refl
+lone-row (row ∷ rows) b s t n =
+    let all-short = all (λ (row : Row). short (key row)) rows in
+    let e = lone-key (key row) b s (and-left (short (key row)) all-short t) n in
+    let r = lone-row rows b s (and-right (short (key row)) all-short t) n in
     λ i. elim (e i) [ true ↦ some row | false ↦ r i ]
 
--- So the move at any other byte is its own.
-pub lone : (c : Context) (p b : ℕ) (s : List ℕ) → (b ≡ 0xE2 → ⊥) → encodeStep c p (b ∷ s) ≡ encodeStep c 0 (b ∷ [])
-unfolding encodeStep
-lone c p b s h = ap (λ (o : Option Row). write o (keep (b ∷ []))) (lone-row (table c) b s (every (λ (c : Context). all single (table c)) tt c) h)
+module _ (c : Context) where
+  -- A byte that begins no key is kept.
+  pub kept : (p b : ℕ) (s : List ℕ) → starts (table c) b ≡ false → encodeStep c p (b ∷ s) ≡ keep (b ∷ [])
+  unfolding encodeStep starts
+  kept p b s e =
+      ap (λ (o : Option Row). write o (keep (b ∷ [])))
+      (first-none (λ (row : Row). stands (key row)) (table c) (b ∷ s)
+      (λ row i t. subst T e (any-intro (λ (row : Row). headed b (key row)) (table c) row i (stands-headed (key row) b s t))))
+
+  -- Beside ASCII only E2 begins keys.
+  pub no-start : (b : ℕ) → 0x80 ≤ b → (b ≡ 0xE2 → ⊥) → starts (table c) b ≡ false
+  unfolding starts
+  no-start b h n = is-false (starts (table c) b) (λ t. found (any-in (λ (row : Row). headed b (key row)) (table c) t))
+    where
+      none : (b < 0x80) ⊎ (b ≡ 0xE2) → ⊥
+      none (inl l) = omega arith
+      none (inr e) = n e
+
+      found : (row : Row) × In row (table c) × T (headed b (key row)) → ⊥
+      found f = none (short-head (key (f .0)) b (all-in (λ (row : Row). short (key row)) (table c) (keys-short c) (f .0) (f .1)) (f .2))
+
+  -- The move at any byte but E2 is its own.
+  pub lone : (p b : ℕ) (s : List ℕ) → (b ≡ 0xE2 → ⊥) → encodeStep c p (b ∷ s) ≡ encodeStep c 0 (b ∷ [])
+  unfolding encodeStep
+  lone p b s n = ap (λ (o : Option Row). write o (keep (b ∷ []))) (lone-row (table c) b s (keys-short c) n)

@@ -1,7 +1,7 @@
 -- A turn of the writing loops: what is found at a place is what is written next.
 -- Assumes nothing.
 use mathlib.Core.Bool.{Bool, true, false}
-use mathlib.Core.Path.{_≡_, refl, sym, ap, _∙_}
+use mathlib.Core.Path.{_≡_, refl, sym, _∙_}
 use mathlib.Core.List.{List, [], _∷_}
 use Prim.Native.Nat.{ℕ, _+_, _-_, _≤_, _<_}
 use native.Mathlib.Nat.{not-suc-le-zero, add-zero}
@@ -20,7 +20,7 @@ use Rattle.rules.proofs.Growth.{encode-no-longer}
 use Rattle.parts.proofs.Filled.{Next, lent-rest}
 use Rattle.strings.specs.declared.Strings.{Strings}
 use Rattle.strings.specs.Strings.{contextIn, takenBy, Held}
-use Rattle.strings.proofs.Finds.{held-some, kept-gives}
+use Rattle.strings.proofs.Finds.{kept-gives}
 use Rattle.strings.proofs.Sums.{encode-blind}
 
 -- What a replacement takes is there.

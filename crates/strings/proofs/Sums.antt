@@ -1,19 +1,14 @@
 -- By how much a text grows in a string: what its bytes grow by themselves, less one for each NUL in a style sheet, and three more for each line
 -- separator in a script. Assumes nothing.
 use mathlib.Core.Bool.{Bool, true, false, _&&_, cond}
-use mathlib.Core.Logic.{_⊎_, inl, inr}
-use mathlib.Core.Path.{_≡_, refl, sym, ap, _∙_, subst}
+use mathlib.Core.Path.{_≡_, refl, sym, ap, _∙_}
 use mathlib.Core.List.{List, [], _∷_, _++_}
-use Prim.Native.Nat.{ℕ, zero, suc, _+_, _-_, _*_, _≤_, _<_}
-use native.Mathlib.Nat.{not-suc-le-zero}
-use native.Mathlib.Numerals.{add-one}
+use Prim.Native.Nat.{ℕ, suc, _+_, _-_, _*_, _≤_, _<_}
 use native.Mathlib.Omega.{arith}
 use borrow.Author.Tests.{ne-eqb, le-ltb, ltb-true, ltb-false, eqb-true, eqb-false}
-use lib.Dec.{T, eqb, ltb, ltb→lt}
-use lib.ListN.{length, drop, getD, length-append, length-drop, drop-of-length-le}
-use lib.Seq.{drop-cons}
-use Rattle.rules.specs.Moves.{Move, keep, gives, takes, through, result}
-use Rattle.rules.specs.Tables.{table}
+use lib.Dec.{eqb, ltb}
+use lib.ListN.{length, drop, getD, length-append, drop-of-length-le}
+use Rattle.rules.specs.Moves.{keep, gives, result}
 use Rattle.rules.specs.Encoding.{encodeStep}
 use Rattle.rules.specs.Operations.{encodeOf}
 use Rattle.rules.specs.Answers.{replacementMove}
@@ -21,13 +16,13 @@ use Rattle.rules.specs.declared.Quotes.{Quotes}
 use Rattle.rules.specs.declared.Quotes.the-variants.{Single, Double, Both}
 use Rattle.rules.specs.declared.Context.{Context}
 use Rattle.rules.specs.declared.Context.the-variants.{InScript, InStyle}
-use Rattle.rules.specs.declared.Replacement.the-variants.{Separator, Nothing}
+use Rattle.rules.specs.declared.Replacement.the-variants.{Separator}
 use Rattle.rules.proofs.Blind.{Blind, blind-next}
 use Rattle.rules.proofs.Loops.{drop-next}
 use Rattle.rules.proofs.Growth.{encode-sum}
 use Rattle.strings.specs.declared.Strings.{Strings}
-use Rattle.strings.specs.Strings.{contextIn, starts, singleKey, doubleKey, gainOf, sameOf, total, endsOf, ended, separatorsIn}
-use Rattle.strings.proofs.Heads.{kept, lone, no-start}
+use Rattle.strings.specs.Strings.{contextIn, singleKey, doubleKey, gainOf, sameOf, total, endsOf, ended, separatorsIn}
+use Rattle.strings.proofs.Heads.{not-ascii, kept, no-start, lone}
 use Rattle.strings.proofs.Finds.{alone, at, Grows, ascii-grows, ends-are, lead-kept, lead-taken, lead-style}
 
 -- ---- the sums as a loop meets them
@@ -55,20 +50,14 @@ module _ (s : List ℕ) (i : ℕ) (h : i + 2 < length s) where
   pub separators-other : (getD s i 0 ≡ 0xE2 → ⊥) → separatorsIn (drop i s) ≡ separatorsIn (drop (i + 1) s)
   separators-other n = separators-more ∙ rw (ne-eqb (getD s i 0) 0xE2 n) (omega arith)
 
+and-none : (t : Bool) → t && false ≡ false
+and-none true = refl
+and-none false = refl
+
 pub separators-none : (s : List ℕ) → length s ≤ 2 → separatorsIn s ≡ 0
 separators-none [] h = refl
-separators-none (a ∷ []) h = go (eqb a 0xE2)
-  where
-    go : (t : Bool) → _≡_ {A = ℕ} (cond (t && false) 1 0 + 0) 0
-    go true = refl
-    go false = refl
-separators-none (a ∷ b ∷ []) h = go (eqb a 0xE2) (eqb b 0xE2)
-  where
-    go : (t u : Bool) → _≡_ {A = ℕ} (cond (t && false) 1 0 + (cond (u && false) 1 0 + 0)) 0
-    go true true = refl
-    go true false = refl
-    go false true = refl
-    go false false = refl
+separators-none (a ∷ []) h = rw (and-none (eqb a 0xE2))
+separators-none (a ∷ b ∷ []) h = let e = and-none (eqb a 0xE2) in let f = and-none (eqb b 0xE2) in λ i. cond (e i) 1 0 + (cond (f i) 1 0 + 0)
 separators-none (a ∷ b ∷ c ∷ s) h = absurd (omega arith)
 
 -- ---- one byte
@@ -88,10 +77,13 @@ unfolding gainOf
 gain-high q b h =
     let k = key-low q in
     let l : ltb b 32 ≡ false = le-ltb b 32 (omega arith) in
-    rw (far 0x5C (omega arith), far (singleKey q) (k .0), far (doubleKey q) (k .1), far 0x3C (omega arith), l)
-  where
-    far : (k : ℕ) → k < 0x80 → eqb b k ≡ false
-    far k l = ne-eqb b k (λ e. omega arith)
+    rw (
+      not-ascii b 0x5C h (omega arith),
+      not-ascii b (singleKey q) h (k .0),
+      not-ascii b (doubleKey q) h (k .1),
+      not-ascii b 0x3C h (omega arith),
+      l,
+    )
 
 module _ (strings : Strings) where
   -- The other bytes are copied.
@@ -180,16 +172,8 @@ module _ (q : Quotes) where
 
   pub grows-script : (s : List ℕ) → Grown q s
   grows-script [] = refl
-  grows-script (b ∷ []) = grown-byte b [] (no (eqb b 0xE2)) (grows-script [])
-    where
-      no : (t : Bool) → t && false ≡ false
-      no true = refl
-      no false = refl
-  grows-script (b ∷ x ∷ []) = grown-byte b (x ∷ []) (no (eqb b 0xE2)) (grows-script (x ∷ []))
-    where
-      no : (t : Bool) → t && false ≡ false
-      no true = refl
-      no false = refl
+  grows-script (b ∷ []) = grown-byte b [] (and-none (eqb b 0xE2)) (grows-script [])
+  grows-script (b ∷ x ∷ []) = grown-byte b (x ∷ []) (and-none (eqb b 0xE2)) (grows-script (x ∷ []))
   grows-script (b ∷ x ∷ y ∷ s) = go (eqb b 0xE2) (endsOf x y) refl refl (grows-script (x ∷ y ∷ s)) (grows-script s)
     where
       go : (t u : Bool) → eqb b 0xE2 ≡ t → endsOf x y ≡ u → Grown q (x ∷ y ∷ s) → Grown q s → Grown q (b ∷ x ∷ y ∷ s)

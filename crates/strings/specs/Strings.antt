@@ -41,7 +41,7 @@ quoteFlags Both = 6
 abbrev pub maskOf : Strings → ℕ
 maskOf strings = cond (strings .style) (quoteFlags (strings .quotes) + 1) (quoteFlags (strings .quotes) + 9)
 
--- The bytes begin with b, if they are any.
+-- The bytes begin with b, if there are any.
 abbrev pub headed : ℕ → List ℕ → Bool
 headed b [] = true
 headed b (x ∷ xs) = eqb x b
@@ -60,11 +60,11 @@ takenBy Separator = 3
 takenBy Substitute = 1
 takenBy Nothing = 1
 
--- How a byte is written by its hex digits.
+-- What is written for a byte by its hex digits.
 abbrev pub hexIn : Bool → ℕ → List ℕ
 hexIn style b = value (cond style (styleHex b) (scriptHex b))
 
--- What its writer needs of the bytes that it is found at: they are there, and the last byte of a separator is no less than 70.
+-- What its writer needs of the bytes s that it is found at: all that it takes is there, and the third byte of a separator is at least 70.
 abbrev pub Held : Replacement → List ℕ → Type 0
 Held Slashed s = 1 ≤ length s
 Held Hex s = 1 ≤ length s
@@ -74,7 +74,7 @@ Held Nothing s = 1 ≤ length s
 
 -- ---- growth
 
--- The quote that grows, or the backslash in its place.
+-- The single quote where it is escaped, else the backslash, which grows as much.
 abbrev pub singleKey : Quotes → ℕ
 singleKey Single = 0x27
 singleKey Double = 0x5C
@@ -103,7 +103,7 @@ total f (b ∷ s) = f b + total f s
 unfoldable pub endsOf : ℕ → ℕ → Bool
 endsOf b c = eqb b 0x80 && (eqb c 0xA8 || eqb c 0xA9)
 
--- So the bytes s do.
+-- The bytes s begin with two that do.
 abbrev pub ended : List ℕ → Bool
 ended [] = false
 ended (b ∷ []) = false

@@ -1,17 +1,15 @@
-use borrow.Author.Needs.{needs}
-use Rattle.raw.proofs.Places.{next-length, raw-end}
-use Rattle.rules.proofs.Growth.{raw-six}
-use Rattle.rules.specs.Operations.{rawOf}
-use lib.ListN.{length, drop}
+-- `raw::measure_raw` meets its contract: the invariant: what is counted, with what is written for the rest, is the whole length. The measure is what is left of the text.
+-- Assumes nothing.
+use mathlib.Core.Path.{_≡_}
+use Prim.Native.Nat.{_+_, _-_, _≤_}
 use native.Mathlib.Omega.{arith}
-use Prim.Native.Nat.{ℕ, _+_, _-_, _*_, _≤_, _<_}
-use mathlib.Core.Path.{_≡_, refl, sym, ap, _∙_}
+use borrow.Author.Needs.{needs}
+use lib.ListN.{length, drop}
+use Rattle.rules.specs.Operations.{rawOf}
+use Rattle.rules.proofs.Growth.{raw-six}
+use Rattle.raw.proofs.Places.{next-length, raw-end}
 use Rattle.raw.proofs.measure_raw.Statement.{statement}
 use Rattle.raw.proofs.measure_raw.Tie as tie
-use Rattle.raw.proofs.measure_raw.Reads as reads
-use Rattle.raw.proofs.measure_raw.Lts as lts
-use Rattle.parts.proofs.clip.Reads as clip-reads
-use Rattle.raw.proofs.part_length.Reads as part-length-reads
 
 abbrev Inv-loop : tie.InvT-loop
 Inv-loop text n₀ i₀ n i =
@@ -20,19 +18,15 @@ Inv-loop text n₀ i₀ n i =
 abbrev μ-loop : tie.MeasureT-loop
 μ-loop text n₀ i₀ n i = length text - i
 
--- src/lib.rt:49:5
 loop-holds : tie.Need-loop-holds Inv-loop μ-loop
 loop-holds c = (search needs, omega arith)
 
--- src/lib.rt:50:13
 clip-requires : tie.Need-clip-requires Inv-loop μ-loop
 clip-requires c κs = search needs
 
--- src/lib.rt:51:14
 part-length-requires : tie.Need-part-length-requires Inv-loop μ-loop
 part-length-requires c κs = (search needs, search needs, search needs, search needs)
 
--- src/lib.rt:51:9
 add-n : tie.Need-add-n Inv-loop μ-loop
 add-n c = let t = c .before .before .before .before .before .args .text .now in
     let l = c .before .before .before .loop in
@@ -40,11 +34,9 @@ add-n c = let t = c .before .before .before .before .before .args .text .now in
     let s = next-length t (l .i) (c .before .clip .result) (search needs) in
     omega (arith, raw-six t, c .part-length .ensures)
 
--- src/lib.rt:49:5
 loop-less : tie.Need-loop-less Inv-loop μ-loop
 loop-less c = omega (arith, c .before .clip .ensures .0, c .before .clip .ensures .1)
 
--- src/lib.rt:49:5
 loop-again : tie.Need-loop-again Inv-loop μ-loop
 loop-again c = let t = c .before .before .before .before .before .args .text .now in
     let l = c .before .before .before .loop in
@@ -52,7 +44,6 @@ loop-again c = let t = c .before .before .before .before .before .args .text .no
     let s = next-length t (l .i) (c .before .clip .result) (search needs) in
     (e .1, omega (arith, c .part-length .ensures))
 
--- src/lib.rt:43:1
 returns : tie.Need-returns Inv-loop μ-loop
 returns c = let t = c .before .before .before .args .text .now in
     let z = rw (raw-end t (c .before .loop .i) (c .loop-test .left)) at (c .before .loop .inv .1) in

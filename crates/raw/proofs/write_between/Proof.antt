@@ -1,18 +1,14 @@
-use borrow.Author.Needs.{needs}
-use Rattle.raw.proofs.Places.{next-other, next-less, to-end}
-use Rattle.raw.specs.Marks.{rawTo}
-use Rattle.parts.proofs.Filled.{Filled, filled-start, filled-next, filled-room, filled-put, filled-end}
-use lib.ListN.{length, drop}
+-- `raw::write_between` meets its contract: each byte is written next. The invariant is that of every writing loop, `Filled`; the measure is the bytes left.
+-- Assumes nothing.
+use Prim.Native.Nat.{_-_, _≤_}
 use native.Mathlib.Omega.{arith}
-use Prim.Native.Nat.{ℕ, _+_, _-_, _*_, _≤_, _<_}
-use mathlib.Core.Path.{_≡_, refl, sym, ap, _∙_}
+use borrow.Author.Needs.{needs}
+use lib.ListN.{drop}
+use Rattle.parts.proofs.Filled.{Filled, filled-start, filled-next, filled-room, filled-put, filled-end}
+use Rattle.raw.specs.Marks.{rawTo}
+use Rattle.raw.proofs.Places.{next-other, next-less, to-end}
 use Rattle.raw.proofs.write_between.Statement.{statement}
 use Rattle.raw.proofs.write_between.Tie as tie
-use Rattle.raw.proofs.write_between.Reads as reads
-use Rattle.raw.proofs.write_between.Lts as lts
-use Rattle.parts.proofs.put.Reads as put-reads
-use Rattle.raw.proofs.marks.is_parted.Reads as is-parted-reads
-use Rattle.raw.proofs.marks.put_less.Reads as put-less-reads
 
 abbrev Inv-loop : tie.InvT-loop
 Inv-loop text from to output₀ at₀ i₀ output at i =
@@ -21,35 +17,27 @@ Inv-loop text from to output₀ at₀ i₀ output at i =
 abbrev μ-loop : tie.MeasureT-loop
 μ-loop text from to output₀ at₀ i₀ output at i = to - i
 
--- src/lib.rt:64:5
 loop-holds : tie.Need-loop-holds Inv-loop μ-loop
 loop-holds c = (search needs, filled-start _ _ (c .before .before .pre .2))
 
--- src/lib.rt:65:17
 shared-slice-read-b : tie.Need-shared-slice-read-b Inv-loop μ-loop
 shared-slice-read-b c = search needs
 
--- src/lib.rt:66:9
 add-i : tie.Need-add-i Inv-loop μ-loop
 add-i c = search needs
 
--- src/lib.rt:68:30
 slice-aggregate-put : tie.Need-slice-aggregate-put Inv-loop μ-loop
 slice-aggregate-put c = search needs
 
--- src/lib.rt:68:36
 sub-put : tie.Need-sub-put Inv-loop μ-loop
 sub-put c = search needs
 
--- src/lib.rt:68:36
 part-put-start : tie.Need-part-put-start Inv-loop μ-loop
 part-put-start c = search needs
 
--- src/lib.rt:68:36
 part-put-end : tie.Need-part-put-end Inv-loop μ-loop
 part-put-end c = search needs
 
--- src/lib.rt:68:19
 put-requires : tie.Need-put-requires Inv-loop μ-loop
 put-requires c κs = let a = c .before .before .before .before .before .before .before .before .args in
     let t = a .text .now in
@@ -58,7 +46,6 @@ put-requires c κs = let a = c .before .before .before .before .before .before .
     let x = next-other t (l .i) (a .to) h (c .before .before .before .before .before .before .before .before .pre .1) (c .before .before .if1 .taken) in
     filled-room (l .inv .1) x
 
--- src/lib.rt:68:13
 add-at : tie.Need-add-at Inv-loop μ-loop
 add-at c = let a = c .before .before .before .before .before .before .before .before .before .before .before .args in
     let t = a .text .now in
@@ -67,11 +54,9 @@ add-at c = let a = c .before .before .before .before .before .before .before .be
     let x = next-other t (l .i) (a .to) h (c .before .before .before .before .before .before .before .before .before .before .before .pre .1) (c .before .before .before .before .before .if1 .taken) in
     omega (arith, c .before .before .put .ensures .0, filled-next (l .inv .1) x)
 
--- src/lib.rt:64:5
 loop-less : tie.Need-loop-less Inv-loop μ-loop
 loop-less c = search needs
 
--- src/lib.rt:64:5
 loop-again : tie.Need-loop-again Inv-loop μ-loop
 loop-again c = let a = c .before .before .before .before .before .before .before .before .before .before .before .args in
     let t = a .text .now in
@@ -81,35 +66,27 @@ loop-again c = let a = c .before .before .before .before .before .before .before
     let p = c .before .before .put in
     (search needs, filled-put (l .inv .1) x (p .last .1 .0) (p .result) (p .ensures .0) (p .ensures .1))
 
--- src/lib.rt:71:48
 sub-is-parted : tie.Need-sub-is-parted Inv-loop μ-loop
 sub-is-parted c = search needs
 
--- src/lib.rt:71:48
 part-is-parted-start : tie.Need-part-is-parted-start Inv-loop μ-loop
 part-is-parted-start c = search needs
 
--- src/lib.rt:71:48
 part-is-parted-end : tie.Need-part-is-parted-end Inv-loop μ-loop
 part-is-parted-end c = search needs
 
--- src/lib.rt:71:31
 is-parted-requires : tie.Need-is-parted-requires Inv-loop μ-loop
 is-parted-requires c κs = search needs
 
--- src/lib.rt:71:61
 sub-put-less : tie.Need-sub-put-less Inv-loop μ-loop
 sub-put-less c = search needs
 
--- src/lib.rt:71:61
 part-put-less-start : tie.Need-part-put-less-start Inv-loop μ-loop
 part-put-less-start c = search needs
 
--- src/lib.rt:71:61
 part-put-less-end : tie.Need-part-put-less-end Inv-loop μ-loop
 part-put-less-end c = search needs
 
--- src/lib.rt:71:15
 put-less-requires : tie.Need-put-less-requires Inv-loop μ-loop
 put-less-requires c κs = let a = c .before .before .before .before .before .before .before .before .before .args in
     let t = a .text .now in
@@ -118,7 +95,6 @@ put-less-requires c κs = let a = c .before .before .before .before .before .bef
     let x = next-less t (l .i) (a .to) h (c .before .before .before .before .before .before .before .before .before .pre .1) (c .before .before .before .if1 .left) (c .before .is-parted .result) (c .before .is-parted .ensures) in
     filled-room (l .inv .1) x
 
--- src/lib.rt:71:9
 add-at-2 : tie.Need-add-at-2 Inv-loop μ-loop
 add-at-2 c = let a = c .before .before .before .before .before .before .before .before .before .before .before .before .args in
     let t = a .text .now in
@@ -127,11 +103,9 @@ add-at-2 c = let a = c .before .before .before .before .before .before .before .
     let x = next-less t (l .i) (a .to) h (c .before .before .before .before .before .before .before .before .before .before .before .before .pre .1) (c .before .before .before .before .before .before .if1 .left) (c .before .before .before .before .is-parted .result) (c .before .before .before .before .is-parted .ensures) in
     omega (arith, c .before .before .put-less .ensures .0, filled-next (l .inv .1) x)
 
--- src/lib.rt:64:5
 loop-less-2 : tie.Need-loop-less-2 Inv-loop μ-loop
 loop-less-2 c = search needs
 
--- src/lib.rt:64:5
 loop-again-2 : tie.Need-loop-again-2 Inv-loop μ-loop
 loop-again-2 c = let a = c .before .before .before .before .before .before .before .before .before .before .before .before .args in
     let t = a .text .now in
@@ -141,11 +115,9 @@ loop-again-2 c = let a = c .before .before .before .before .before .before .befo
     let p = c .before .before .put-less in
     (search needs, filled-put (l .inv .1) x (p .last .1 .0) (p .result) (p .ensures .0) (p .ensures .1))
 
--- src/lib.rt:58:1
 same-length : tie.Need-same-length Inv-loop μ-loop
 same-length c = search needs
 
--- src/lib.rt:58:1
 returns : tie.Need-returns Inv-loop μ-loop
 returns c = let a = c .before .before .before .before .args in
     let t = a .text .now in

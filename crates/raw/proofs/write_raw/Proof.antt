@@ -1,17 +1,15 @@
-use borrow.Author.Needs.{needs}
-use Rattle.raw.proofs.Places.{next-part, raw-end}
-use Rattle.parts.proofs.Filled.{Filled, filled-start, filled-next, filled-room, filled-put, filled-end}
-use Rattle.rules.specs.Operations.{rawOf}
-use lib.ListN.{length, drop}
+-- `raw::write_raw` meets its contract: the parts are written one after the other. The invariant is that of every writing loop, `Filled`; the measure is what is left of
+-- the text.
+-- Assumes nothing.
+use Prim.Native.Nat.{_-_, _≤_}
 use native.Mathlib.Omega.{arith}
-use Prim.Native.Nat.{ℕ, _+_, _-_, _*_, _≤_, _<_}
-use mathlib.Core.Path.{_≡_, refl, sym, ap, _∙_}
+use borrow.Author.Needs.{needs}
+use lib.ListN.{length, drop}
+use Rattle.rules.specs.Operations.{rawOf}
+use Rattle.parts.proofs.Filled.{Filled, filled-start, filled-next, filled-room, filled-put, filled-end}
+use Rattle.raw.proofs.Places.{next-part, raw-end}
 use Rattle.raw.proofs.write_raw.Statement.{statement}
 use Rattle.raw.proofs.write_raw.Tie as tie
-use Rattle.raw.proofs.write_raw.Reads as reads
-use Rattle.raw.proofs.write_raw.Lts as lts
-use Rattle.parts.proofs.clip.Reads as clip-reads
-use Rattle.raw.proofs.write_part.Reads as write-part-reads
 
 abbrev Inv-loop : tie.InvT-loop
 Inv-loop text output₀ at₀ i₀ output at i =
@@ -20,27 +18,21 @@ Inv-loop text output₀ at₀ i₀ output at i =
 abbrev μ-loop : tie.MeasureT-loop
 μ-loop text output₀ at₀ i₀ output at i = length text - i
 
--- src/lib.rt:94:5
 loop-holds : tie.Need-loop-holds Inv-loop μ-loop
 loop-holds c = (search needs, filled-start _ _ (c .before .before .pre))
 
--- src/lib.rt:95:13
 clip-requires : tie.Need-clip-requires Inv-loop μ-loop
 clip-requires c κs = search needs
 
--- src/lib.rt:96:40
 sub-write-part : tie.Need-sub-write-part Inv-loop μ-loop
 sub-write-part c = search needs
 
--- src/lib.rt:96:40
 part-write-part-start : tie.Need-part-write-part-start Inv-loop μ-loop
 part-write-part-start c = search needs
 
--- src/lib.rt:96:40
 part-write-part-end : tie.Need-part-write-part-end Inv-loop μ-loop
 part-write-part-end c = search needs
 
--- src/lib.rt:96:15
 write-part-requires : tie.Need-write-part-requires Inv-loop μ-loop
 write-part-requires c κs = let t = c .before .before .before .before .before .before .args .text .now in
     let l = c .before .before .before .loop in
@@ -48,7 +40,6 @@ write-part-requires c κs = let t = c .before .before .before .before .before .b
     let x = next-part t (l .i) (c .before .clip .result) (search needs) in
     (search needs, search needs, search needs, filled-room (l .inv .1) x)
 
--- src/lib.rt:96:9
 add-at : tie.Need-add-at Inv-loop μ-loop
 add-at c = let t = c .before .before .before .before .before .before .before .before .before .args .text .now in
     let l = c .before .before .before .before .before .before .loop in
@@ -56,11 +47,9 @@ add-at c = let t = c .before .before .before .before .before .before .before .be
     let x = next-part t (l .i) (c .before .before .before .before .clip .result) (search needs) in
     omega (arith, c .before .before .write-part .ensures .0, filled-next (l .inv .1) x)
 
--- src/lib.rt:94:5
 loop-less : tie.Need-loop-less Inv-loop μ-loop
 loop-less c = omega (arith, c .before .before .before .before .clip .ensures .0, c .before .before .before .before .clip .ensures .1)
 
--- src/lib.rt:94:5
 loop-again : tie.Need-loop-again Inv-loop μ-loop
 loop-again c = let t = c .before .before .before .before .before .before .before .before .before .args .text .now in
     let l = c .before .before .before .before .before .before .loop in
@@ -69,11 +58,9 @@ loop-again c = let t = c .before .before .before .before .before .before .before
     let p = c .before .before .write-part in
     (e .1, filled-put (l .inv .1) x (p .last .1 .1 .1 .0) (p .result) (p .ensures .0) (p .ensures .1))
 
--- src/lib.rt:88:1
 same-length : tie.Need-same-length Inv-loop μ-loop
 same-length c = search needs
 
--- src/lib.rt:88:1
 returns : tie.Need-returns Inv-loop μ-loop
 returns c = let t = c .before .before .before .before .args .text .now in
     let f = rw (raw-end t (c .before .loop .i) (c .loop-test .left)) at (c .before .loop .inv .1) in

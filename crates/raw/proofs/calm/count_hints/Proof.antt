@@ -1,18 +1,17 @@
-use borrow.Author.Needs.{needs}
-use Rattle.raw.proofs.Hints.{none-left, none-right}
-use Rattle.raw.specs.Marks.{hintOf}
-use lib.ListN.{length, getD}
-use borrow.Author.Count.{below-more}
-use native.Mathlib.Nat.{not-suc-le-zero}
+-- `raw::calm::count_hints` meets its contract: the invariant: where nothing is counted so far, no hint stands so far. The measure is what is left of the window.
+-- Assumes nothing.
 use mathlib.Core.Bool.{false}
+use mathlib.Core.Path.{_≡_}
+use Prim.Native.Nat.{ℕ, _+_, _-_, _≤_, _<_}
+use native.Mathlib.Nat.{not-suc-le-zero}
 use native.Mathlib.Omega.{arith}
-use Prim.Native.Nat.{ℕ, _+_, _-_, _*_, _≤_, _<_}
-use mathlib.Core.Path.{_≡_, refl, sym, ap, _∙_}
+use borrow.Author.Needs.{needs}
+use borrow.Author.Count.{below-more}
+use lib.ListN.{length, getD}
+use Rattle.raw.specs.Marks.{hintOf}
+use Rattle.raw.proofs.Hints.{none-left, none-right}
 use Rattle.raw.proofs.calm.count_hints.Statement.{statement}
 use Rattle.raw.proofs.calm.count_hints.Tie as tie
-use Rattle.raw.proofs.calm.count_hints.Reads as reads
-use Rattle.raw.proofs.calm.count_hints.Lts as lts
-use Rattle.raw.proofs.calm.hint.Reads as hint-reads
 
 abbrev Inv-loop : tie.InvT-loop
 Inv-loop window n₀ i₀ n i =
@@ -21,51 +20,39 @@ Inv-loop window n₀ i₀ n i =
 abbrev μ-loop : tie.MeasureT-loop
 μ-loop window n₀ i₀ n i = length window - i
 
--- src/calm.rt:49:5
 loop-holds : tie.Need-loop-holds Inv-loop μ-loop
 loop-holds c = (search needs, search needs, λ z k h. absurd (not-suc-le-zero h))
 
--- src/calm.rt:49:11
 add-loop : tie.Need-add-loop Inv-loop μ-loop
 add-loop c = search needs
 
--- src/calm.rt:50:19
 shared-slice-read-hint : tie.Need-shared-slice-read-hint Inv-loop μ-loop
 shared-slice-read-hint c = search needs
 
--- src/calm.rt:50:37
 add-hint : tie.Need-add-hint Inv-loop μ-loop
 add-hint c = search needs
 
--- src/calm.rt:50:30
 shared-slice-read-hint-2 : tie.Need-shared-slice-read-hint-2 Inv-loop μ-loop
 shared-slice-read-hint-2 c = search needs
 
--- src/calm.rt:50:52
 add-hint-2 : tie.Need-add-hint-2 Inv-loop μ-loop
 add-hint-2 c = search needs
 
--- src/calm.rt:50:45
 shared-slice-read-hint-3 : tie.Need-shared-slice-read-hint-3 Inv-loop μ-loop
 shared-slice-read-hint-3 c = search needs
 
--- src/calm.rt:50:14
 hint-requires : tie.Need-hint-requires Inv-loop μ-loop
 hint-requires c κs = search needs
 
--- src/calm.rt:50:9
 add-n : tie.Need-add-n Inv-loop μ-loop
 add-n c = omega (arith, c .hint .ensures .0)
 
--- src/calm.rt:51:9
 add-i : tie.Need-add-i Inv-loop μ-loop
 add-i c = search needs
 
--- src/calm.rt:49:5
 loop-less : tie.Need-loop-less Inv-loop μ-loop
 loop-less c = search needs
 
--- src/calm.rt:49:5
 loop-again : tie.Need-loop-again Inv-loop μ-loop
 loop-again c = let l = c .before .before .before .before .before .loop in
     let r = c .hint in (
@@ -74,7 +61,6 @@ loop-again c = let l = c .before .before .before .before .before .loop in
       λ z. below-more _ _ (l .inv .2 (none-left (l .n) (r .result) z)) (r .ensures .1 (none-right (l .n) (r .result) z)),
     )
 
--- src/calm.rt:43:1
 returns : tie.Need-returns Inv-loop μ-loop
 returns c = λ z k h. c .before .loop .inv .2 z k (omega arith)
 

@@ -1,16 +1,15 @@
-use borrow.Author.Needs.{needs}
-use Rattle.raw.proofs.Hints.{none-left, none-right}
-use lib.ListN.{length, getD}
-use borrow.Author.Count.{below-more}
+-- `raw::calm::count_less` meets its contract: the invariant: where nothing is counted so far, no `<` stands so far. The measure is what is left of the part.
+-- Assumes nothing.
+use mathlib.Core.Path.{_≡_}
+use Prim.Native.Nat.{ℕ, _-_, _≤_, _<_}
 use native.Mathlib.Nat.{not-suc-le-zero}
 use native.Mathlib.Omega.{arith}
-use Prim.Native.Nat.{ℕ, _+_, _-_, _*_, _≤_, _<_}
-use mathlib.Core.Path.{_≡_, refl, sym, ap, _∙_}
+use borrow.Author.Needs.{needs}
+use borrow.Author.Count.{below-more}
+use lib.ListN.{length, getD}
+use Rattle.raw.proofs.Hints.{none-left, none-right}
 use Rattle.raw.proofs.calm.count_less.Statement.{statement}
 use Rattle.raw.proofs.calm.count_less.Tie as tie
-use Rattle.raw.proofs.calm.count_less.Reads as reads
-use Rattle.raw.proofs.calm.count_less.Lts as lts
-use Rattle.raw.proofs.calm.less.Reads as less-reads
 
 abbrev Inv-loop : tie.InvT-loop
 Inv-loop part n₀ i₀ n i =
@@ -19,31 +18,24 @@ Inv-loop part n₀ i₀ n i =
 abbrev μ-loop : tie.MeasureT-loop
 μ-loop part n₀ i₀ n i = length part - i
 
--- src/calm.rt:25:5
 loop-holds : tie.Need-loop-holds Inv-loop μ-loop
 loop-holds c = (search needs, search needs, λ z k h. absurd (not-suc-le-zero h))
 
--- src/calm.rt:26:19
 shared-slice-read-less : tie.Need-shared-slice-read-less Inv-loop μ-loop
 shared-slice-read-less c = search needs
 
--- src/calm.rt:26:14
 less-requires : tie.Need-less-requires Inv-loop μ-loop
 less-requires c κs = search needs
 
--- src/calm.rt:26:9
 add-n : tie.Need-add-n Inv-loop μ-loop
 add-n c = omega (arith, c .less .ensures .0)
 
--- src/calm.rt:27:9
 add-i : tie.Need-add-i Inv-loop μ-loop
 add-i c = search needs
 
--- src/calm.rt:25:5
 loop-less : tie.Need-loop-less Inv-loop μ-loop
 loop-less c = search needs
 
--- src/calm.rt:25:5
 loop-again : tie.Need-loop-again Inv-loop μ-loop
 loop-again c = let l = c .before .before .before .loop in
     let r = c .less in (
@@ -52,7 +44,6 @@ loop-again c = let l = c .before .before .before .loop in
       λ z. below-more _ _ (l .inv .2 (none-left (l .n) (r .result) z)) (r .ensures .1 (none-right (l .n) (r .result) z)),
     )
 
--- src/calm.rt:19:1
 returns : tie.Need-returns Inv-loop μ-loop
 returns c = λ z k h. c .before .loop .inv .2 z k (omega arith)
 

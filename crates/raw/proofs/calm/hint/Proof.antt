@@ -1,17 +1,15 @@
+-- `raw::calm::hint` meets its contract: by its test.
+-- Assumes nothing.
 use borrow.Author.Needs.{needs}
-use Rattle.raw.proofs.Hints.{one-zero}
 use Rattle.raw.specs.Marks.{hintOf}
+use Rattle.raw.proofs.Hints.{one-zero}
 use Rattle.raw.proofs.calm.hint.Statement.{statement}
 use Rattle.raw.proofs.calm.hint.Tie as tie
-use Rattle.raw.proofs.calm.hint.Reads as reads
-use Rattle.raw.proofs.calm.hint.Lts as lts
 
--- src/calm.rt:37:9
 returns : tie.Need-returns
 unfolding hintOf
 returns c = (search needs, λ z. absurd (one-zero z))
 
--- src/calm.rt:33:1
 returns-2 : tie.Need-returns-2
 unfolding hintOf
 returns-2 c = (search needs, λ z. c .if1 .left)

@@ -1,66 +1,52 @@
-use Rattle.parts.proofs.Part.{part-length}
+-- `raw::calm::is_calm` meets its contract: no `<` stands in the part, or no hint in the part and the two bytes after it.
+-- Assumes nothing.
 use native.Mathlib.Omega.{arith}
-use Rattle.raw.proofs.Hints.{calm-less, calm-hints}
 use borrow.Author.Tests.{eqb-true}
 use borrow.Author.Needs.{needs}
+use Rattle.parts.proofs.Part.{part-length}
+use Rattle.raw.proofs.Hints.{calm-less, calm-hints}
 use Rattle.raw.proofs.calm.is_calm.Statement.{statement}
 use Rattle.raw.proofs.calm.is_calm.Tie as tie
-use Rattle.raw.proofs.calm.is_calm.Reads as reads
-use Rattle.raw.proofs.calm.is_calm.Lts as lts
-use Rattle.raw.proofs.calm.count_hints.Reads as count-hints-reads
-use Rattle.raw.proofs.calm.count_less.Reads as count-less-reads
-use Rattle.raw.proofs.calm.past.Reads as past-reads
 
--- src/calm.rt:72:19
 sub-count-less : tie.Need-sub-count-less
 sub-count-less c = search needs
 
--- src/calm.rt:72:19
 part-count-less-start : tie.Need-part-count-less-start
 part-count-less-start c = search needs
 
--- src/calm.rt:72:19
 part-count-less-end : tie.Need-part-count-less-end
 part-count-less-end c = search needs
 
--- src/calm.rt:72:8
 count-less-requires : tie.Need-count-less-requires
 count-less-requires c κs = let a = c .before .before .args in
     let t = a .text .now in
     let p = c .before .before .pre in
     omega (arith, part-length t (a .from) (a .to) (p .0) (p .1), p .2)
 
--- src/calm.rt:73:9
 returns : tie.Need-returns
 returns c = let a = c .before .before .before .before .args in
     let t = a .text .now in
     let p = c .before .before .before .before .pre in
     λ z. calm-less t (a .from) (a .to) (p .0) (p .1) (c .before .count-less .ensures (c .if1 .taken))
 
--- src/calm.rt:75:9
 past-requires : tie.Need-past-requires
 past-requires c κs = search needs
 
--- src/calm.rt:76:17
 sub-count-hints : tie.Need-sub-count-hints
 sub-count-hints c = search needs
 
--- src/calm.rt:76:17
 part-count-hints-start : tie.Need-part-count-hints-start
 part-count-hints-start c = search needs
 
--- src/calm.rt:76:17
 part-count-hints-end : tie.Need-part-count-hints-end
 part-count-hints-end c = search needs
 
--- src/calm.rt:76:5
 count-hints-requires : tie.Need-count-hints-requires
 count-hints-requires c κs = let a = c .before .before .before .before .before .before .args in
     let t = a .text .now in
     let p = c .before .before .before .before .before .before .pre in
     let e = c .before .past .ensures in omega (arith, part-length t (a .from) (c .before .past .result) (omega (arith, p .0, e .0)) (e .1), p .2, e .2)
 
--- src/calm.rt:68:1
 returns-2 : tie.Need-returns-2
 returns-2 c = let a = c .before .before .before .before .before .before .before .args in
     let t = a .text .now in

@@ -1,35 +1,28 @@
-use Rattle.raw.proofs.Names.{ends, ends-test}
-use lib.Dec.{eqb}
+-- `raw::marks::ends_name` meets its contract: its tests agree with the set of terminators, by a computed test of all bytes.
+-- Assumes nothing.
 use mathlib.Core.Bool.{true, false}
-use mathlib.Core.Path.{_≡_, refl, sym, ap, _∙_}
-use borrow.Author.Needs.{needs}
+use mathlib.Core.Path.{_≡_, _∙_}
 use borrow.Author.Tests.{lt-ltb, le-ltb, lt-leb, le-leb, ne-eqb, eq-eqb}
+use lib.Dec.{eqb}
+use Rattle.raw.proofs.Names.{ends, ends-test}
 use Rattle.raw.proofs.marks.ends_name.Statement.{statement}
 use Rattle.raw.proofs.marks.ends_name.Tie as tie
-use Rattle.raw.proofs.marks.ends_name.Reads as reads
-use Rattle.raw.proofs.marks.ends_name.Lts as lts
 
--- src/marks.rt:48:9
 returns : tie.Need-returns
 returns c = let b = c .before .args .b in let w : false ≡ ends b = rw (lt-ltb _ _ (c .if1 .taken)) in w ∙ ends-test b (c .before .fits .b .fits)
 
--- src/marks.rt:51:9
 returns-2 : tie.Need-returns-2
 returns-2 c = let b = c .before .before .args .b in let w : true ≡ ends b = rw (le-ltb _ _ (c .before .if1 .left), le-leb _ _ (c .if2 .taken)) in w ∙ ends-test b (c .before .before .fits .b .fits)
 
--- src/marks.rt:54:9
 returns-3 : tie.Need-returns-3
 returns-3 c = let b = c .before .before .before .args .b in let w : false ≡ ends b = rw (le-ltb _ _ (c .before .before .if1 .left), lt-leb _ _ (c .before .if2 .left), lt-ltb _ _ (c .if3 .taken)) in w ∙ ends-test b (c .before .before .before .fits .b .fits)
 
--- src/marks.rt:57:9
 returns-4 : tie.Need-returns-4
 returns-4 c = let b = c .before .before .before .before .args .b in let w : true ≡ ends b = rw (le-ltb _ _ (c .before .before .before .if1 .left), lt-leb _ _ (c .before .before .if2 .left), le-ltb _ _ (c .before .if3 .left), le-leb _ _ (c .if4 .taken)) in w ∙ ends-test b (c .before .before .before .before .fits .b .fits)
 
--- src/marks.rt:60:9
 returns-5 : tie.Need-returns-5
 returns-5 c = let b = c .before .before .before .before .before .args .b in let w : true ≡ ends b = rw (le-ltb _ _ (c .before .before .before .before .if1 .left), lt-leb _ _ (c .before .before .before .if2 .left), le-ltb _ _ (c .before .before .if3 .left), lt-leb _ _ (c .before .if4 .left), eq-eqb _ _ (c .if5 .taken)) in w ∙ ends-test b (c .before .before .before .before .before .fits .b .fits)
 
--- src/marks.rt:44:1
 returns-6 : tie.Need-returns-6
 returns-6 c = let b = c .before .before .before .before .before .args .b in let w : eqb b 62 ≡ ends b = rw (le-ltb _ _ (c .before .before .before .before .if1 .left), lt-leb _ _ (c .before .before .before .if2 .left), le-ltb _ _ (c .before .before .if3 .left), lt-leb _ _ (c .before .if4 .left), ne-eqb _ _ (c .if5 .left)) in w ∙ ends-test b (c .before .before .before .before .before .fits .b .fits)
 

@@ -1,39 +1,30 @@
+-- `raw::marks::put_less` meets its contract: a copy of one byte or two.
+-- Assumes nothing.
 use borrow.Author.Needs.{needs}
 use Rattle.raw.proofs.marks.put_less.Statement.{statement}
 use Rattle.raw.proofs.marks.put_less.Tie as tie
-use Rattle.raw.proofs.marks.put_less.Reads as reads
-use Rattle.raw.proofs.marks.put_less.Lts as lts
-use Rattle.parts.proofs.put.Reads as put-reads
 
--- src/marks.rt:113:27
 slice-aggregate-put : tie.Need-slice-aggregate-put
 slice-aggregate-put c = search needs
 
--- src/marks.rt:113:9
 put-requires : tie.Need-put-requires
 put-requires c κs = rw (c .before .before .if1 .taken) at (c .before .before .before .before .pre)
 
--- src/marks.rt:113:9
 same-length : tie.Need-same-length
 same-length c = search needs
 
--- src/marks.rt:113:9
 returns : tie.Need-returns
 returns c = rw (c .before .before .before .before .before .if1 .taken) (c .before .before .put .ensures)
 
--- src/marks.rt:115:16
 slice-aggregate-put-2 : tie.Need-slice-aggregate-put-2
 slice-aggregate-put-2 c = search needs
 
--- src/marks.rt:115:5
 put-requires-2 : tie.Need-put-requires-2
 put-requires-2 c κs = rw (c .before .before .if1 .left) at (c .before .before .before .before .pre)
 
--- src/marks.rt:108:1
 same-length-2 : tie.Need-same-length-2
 same-length-2 c = search needs
 
--- src/marks.rt:108:1
 returns-2 : tie.Need-returns-2
 returns-2 c = rw (c .before .before .before .before .before .if1 .left) (c .before .before .put2 .ensures)
 

@@ -1,17 +1,16 @@
-use borrow.Author.Needs.{needs}
-use Rattle.strings.proofs.Sums.{separators-lead, separators-other, separators-none}
-use Rattle.strings.specs.Strings.{separatorsIn}
-use lib.ListN.{length, drop, length-drop}
+-- `strings::growth::separators` meets its contract: the invariant: what is counted, with what stands from here on, is the whole count. The measure is what is left of the part.
+-- Assumes nothing.
 use mathlib.Core.Logic.{⊎-elim}
 use mathlib.Core.Bool.{true, false}
+use mathlib.Core.Path.{_≡_, sym, _∙_}
+use Prim.Native.Nat.{_+_, _-_, _≤_}
 use native.Mathlib.Omega.{arith}
-use Prim.Native.Nat.{ℕ, _+_, _-_, _*_, _≤_, _<_}
-use mathlib.Core.Path.{_≡_, refl, sym, ap, _∙_}
+use borrow.Author.Needs.{needs}
+use lib.ListN.{length, drop, length-drop}
+use Rattle.strings.specs.Strings.{separatorsIn}
+use Rattle.strings.proofs.Sums.{separators-lead, separators-other, separators-none}
 use Rattle.strings.proofs.growth.separators.Statement.{statement}
 use Rattle.strings.proofs.growth.separators.Tie as tie
-use Rattle.strings.proofs.growth.separators.Reads as reads
-use Rattle.strings.proofs.growth.separators.Lts as lts
-use Rattle.strings.proofs.escapes.ends_separator.Reads as ends-separator-reads
 
 abbrev Inv-loop : tie.InvT-loop
 Inv-loop part n₀ i₀ n i =
@@ -20,51 +19,39 @@ Inv-loop part n₀ i₀ n i =
 abbrev μ-loop : tie.MeasureT-loop
 μ-loop part n₀ i₀ n i = length part - i
 
--- src/growth.rt:86:5
 loop-holds : tie.Need-loop-holds Inv-loop μ-loop
 loop-holds c = (search needs, omega arith, search needs)
 
--- src/growth.rt:86:11
 add-loop : tie.Need-add-loop Inv-loop μ-loop
 add-loop c = search needs
 
--- src/growth.rt:87:12
 shared-slice-read-if1 : tie.Need-shared-slice-read-if1 Inv-loop μ-loop
 shared-slice-read-if1 c = search needs
 
--- src/growth.rt:88:45
 add-ends-separator : tie.Need-add-ends-separator Inv-loop μ-loop
 add-ends-separator c = search needs
 
--- src/growth.rt:88:40
 shared-slice-read-ends-separator : tie.Need-shared-slice-read-ends-separator Inv-loop μ-loop
 shared-slice-read-ends-separator c = search needs
 
--- src/growth.rt:88:58
 add-ends-separator-2 : tie.Need-add-ends-separator-2 Inv-loop μ-loop
 add-ends-separator-2 c = search needs
 
--- src/growth.rt:88:53
 shared-slice-read-ends-separator-2 : tie.Need-shared-slice-read-ends-separator-2 Inv-loop μ-loop
 shared-slice-read-ends-separator-2 c = search needs
 
--- src/growth.rt:88:16
 ends-separator-requires : tie.Need-ends-separator-requires Inv-loop μ-loop
 ends-separator-requires c κs = search needs
 
--- src/growth.rt:89:17
 add-n : tie.Need-add-n Inv-loop μ-loop
 add-n c = search needs
 
--- src/growth.rt:92:9
 add-i : tie.Need-add-i Inv-loop μ-loop
 add-i c = search needs
 
--- src/growth.rt:86:5
 loop-less : tie.Need-loop-less Inv-loop μ-loop
 loop-less c = search needs
 
--- src/growth.rt:86:5
 loop-again : tie.Need-loop-again Inv-loop μ-loop
 loop-again c = let s = c .before .before .before .before .before .args .part .now in
     let i = c .before .before .before .loop .i in
@@ -76,7 +63,6 @@ loop-again c = let s = c .before .before .before .before .before .args .part .no
     (λ w. (search needs, omega (arith, separators-other s i h (w .0 .left)), omega arith)))
     (c .if1 .came)
 
--- src/growth.rt:80:1
 returns : tie.Need-returns Inv-loop μ-loop
 returns c = let s = c .before .before .before .args .part .now in
     let i = c .before .loop .i in
