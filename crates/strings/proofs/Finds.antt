@@ -223,7 +223,7 @@ separator-row (x ∷ y ∷ s) =
     go false b c e f g = refl
 
 -- The move at E2 in a script.
-pub lead-script : (q : Quotes) (p : ℕ) (s : List ℕ) → replacementMove false (0xE2 ∷ s) (separatorAt s) ≡ encodeStep (InScript q) p (0xE2 ∷ s)
+lead-script : (q : Quotes) (p : ℕ) (s : List ℕ) → replacementMove false (0xE2 ∷ s) (separatorAt s) ≡ encodeStep (InScript q) p (0xE2 ∷ s)
 unfolding encodeStep
 lead-script q p s = sym (ap (λ (o : Option Row). write o (keep (0xE2 ∷ []))) (lead-row q s) ∙ separator-row s)
 

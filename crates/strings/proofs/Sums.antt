@@ -106,17 +106,17 @@ module _ (strings : Strings) where
       go false e = high-grows b (ltb-false b 0x80 e) ne
 
   -- What is written for a text that such a byte begins.
-  pub byte-first : (b : ℕ) (s : List ℕ) → (b ≡ 0xE2 → ⊥) → encodeOf (contextIn strings) (b ∷ s) ≡ gives (alone strings b) ++ encodeOf (contextIn strings) s
+  byte-first : (b : ℕ) (s : List ℕ) → (b ≡ 0xE2 → ⊥) → encodeOf (contextIn strings) (b ∷ s) ≡ gives (alone strings b) ++ encodeOf (contextIn strings) s
   byte-first b s ne =
       ap result (blind-next (encodeStep (contextIn strings)) (encode-blind (contextIn strings)) b s 0 (alone strings b) (lone (contextIn strings) 0 b s ne) (grows b ne .0))
 
 -- What is written where the byte that begins a text is kept.
-pub kept-first : (c : Context) (b : ℕ) (s : List ℕ) → encodeStep c 0 (b ∷ s) ≡ keep (b ∷ []) → encodeOf c (b ∷ s) ≡ b ∷ encodeOf c s
+kept-first : (c : Context) (b : ℕ) (s : List ℕ) → encodeStep c 0 (b ∷ s) ≡ keep (b ∷ []) → encodeOf c (b ∷ s) ≡ b ∷ encodeOf c s
 kept-first c b s e = ap result (blind-next (encodeStep c) (encode-blind c) b s 0 (keep (b ∷ [])) e refl)
 
 -- ---- style sheets
 
-pub grows-style : (q : Quotes) (s : List ℕ) → length (encodeOf (InStyle q) s) + total (sameOf 0) s ≡ length s + total (gainOf (singleKey q) (doubleKey q)) s
+grows-style : (q : Quotes) (s : List ℕ) → length (encodeOf (InStyle q) s) + total (sameOf 0) s ≡ length s + total (gainOf (singleKey q) (doubleKey q)) s
 unfolding sameOf
 grows-style q [] = refl
 grows-style q (b ∷ s) = go (eqb b 0xE2) refl (grows-style q s)
@@ -170,7 +170,7 @@ module _ (q : Quotes) where
       (lead-taken q (x ∷ y ∷ s) e) refl) in
       rw (w, gain-high q 0xE2 (omega arith), g, h, e, m, n) (omega arith)
 
-  pub grows-script : (s : List ℕ) → Grown q s
+  grows-script : (s : List ℕ) → Grown q s
   grows-script [] = refl
   grows-script (b ∷ []) = grown-byte b [] (and-none (eqb b 0xE2)) (grows-script [])
   grows-script (b ∷ x ∷ []) = grown-byte b (x ∷ []) (and-none (eqb b 0xE2)) (grows-script (x ∷ []))

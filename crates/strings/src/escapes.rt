@@ -26,7 +26,7 @@ pub fn ends_separator(b: u8, c: u8) -> bool
     c == 169
 }
 
-// How the head of `rest` is replaced.
+// What replaces the head of `rest`: its flags tell whether anything can, then its first byte what.
 fn escape(strings: Strings, flags: &[u8; 256], rest: &[u8]) -> Replacement
     requires { ⌜ (0 < length (now rest)) × (now flags ≡ escapeFlags) ⌝ }
     ensures { λ r. ⌜ ((p : ℕ) → replacementMove (strings .style) (now (rest .entry)) r ≡ encodeStep (contextIn strings) p (now (rest .entry))) × Held r (now (rest .entry)) ⌝ }
@@ -109,7 +109,7 @@ fn put_found(style: bool, found: Replacement, rest: &[u8], output: &mut [u8]) ->
     }
 }
 
-// Writes the encoding of the text byte by byte: where nothing is found the byte is copied on.
+// Writes the encoding of a text to the start of `output`, byte by byte: where nothing is found the byte is copied on.
 pub fn write_bytes(strings: Strings, flags: &[u8; 256], text: &[u8], output: &mut [u8]) -> usize
     requires { ⌜ (now flags ≡ escapeFlags) × (length (encodeOf (contextIn strings) (now text)) ≤ length (now output)) ⌝ }
     ensures { λ r. ⌜ (r ≡ length (encodeOf (contextIn strings) (now (text .entry)))) × (now (output .exit) ≡ over (encodeOf (contextIn strings) (now (text .entry))) (now (output .entry))) ⌝ }

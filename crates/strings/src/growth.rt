@@ -8,7 +8,7 @@ ghost use lib.ListN.{length};
 ghost use Rattle.rules.specs.Operations.{encodeOf};
 ghost use Rattle.strings.specs.Strings.{contextIn, singleKey, doubleKey, gainOf, sameOf, total, separatorsIn};
 
-// The growth of a part byte by byte, and how often the one byte stands in it that this leaves out.
+// The growth of the bytes of a part, and how often the one byte stands in it that does not grow by itself alone.
 pub struct Tally {
     pub growth: u8,
     pub odd: u8,
@@ -59,7 +59,8 @@ fn same(a: u8, b: u8) -> u8
     0
 }
 
-// The growth of the bytes of a part, and how often the byte `odd` stands in it. There is no branch in the loop, so that it is made vector code.
+// The growth of the bytes of a part, and how often the byte `odd` stands in it. Short parts keep the sums in a byte, and the loop has no branch, so
+// that it is made vector code.
 fn weigh(single: u8, double: u8, odd: u8, part: &[u8]) -> Tally
     requires { ⌜ length (now part) ≤ 64 ⌝ }
     ensures { λ r. ⌜ (r .growth ≡ total (gainOf single double) (now (part .entry))) × (r .odd ≡ total (sameOf odd) (now (part .entry))) × (r .growth ≤ 3 * length (now (part .entry))) ⌝ }

@@ -17,7 +17,7 @@ pub struct Strings {
     pub quotes: Quotes,
 }
 
-// The end of the part of at most `step` bytes from `at` on, where no line separator lies across it.
+// The end of the part of at most `step` bytes from `at` on, so that no line separator lies across it: E2 among the last two bytes is left to the next.
 fn cut(text: &[u8], at: usize, step: usize) -> usize
     requires { ⌜ (at < length (now text)) × (2 < step) ⌝ }
     ensures { λ r. ⌜ (at < r) × (r ≤ length (now (text .entry))) × (r ≤ at + step) × Apart (now (text .entry)) r ⌝ }
@@ -61,7 +61,8 @@ fn write_part(strings: Strings, flags: &[u8; 256], part: &[u8], output: &mut [u8
     escapes::write_bytes(strings, flags, part, output)
 }
 
-// Writes the encoding of a text to the start of `output`, part by part, and returns its length; what lies past it keeps its values.
+// Writes the encoding of a text to the start of `output` and returns its length; what lies past it keeps its values. A short text goes byte by byte,
+// a longer one part by part.
 pub fn write(strings: Strings, text: &[u8], output: &mut [u8]) -> usize
     requires { ⌜ length (encodeOf (contextIn strings) (now text)) ≤ length (now output) ⌝ }
     ensures { λ r. ⌜ (r ≡ length (encodeOf (contextIn strings) (now (text .entry)))) × (now (output .exit) ≡ over (encodeOf (contextIn strings) (now (text .entry))) (now (output .entry))) ⌝ }
