@@ -1,4 +1,5 @@
--- `raw::measure_raw` meets its contract: the invariant: what is counted, with what is written for the rest, is the whole length. The measure is what is left of the text.
+-- `raw::measure_raw` meets its contract. The invariant: what is counted, with what is written for the rest, is the whole length. The measure is what
+-- is left of the text.
 -- Assumes nothing.
 use mathlib.Core.Path.{_≡_}
 use Prim.Native.Nat.{_+_, _-_, _≤_}
@@ -28,8 +29,10 @@ part-length-requires : tie.Need-part-length-requires Inv-loop μ-loop
 part-length-requires c κs = (search needs, search needs, search needs, search needs)
 
 add-n : tie.Need-add-n Inv-loop μ-loop
-add-n c = let t = c .before .before .before .before .before .args .text .now in
-    let l = c .before .before .before .loop in
+add-n c =
+    let c₁ = c .before .before .before in
+    let t = c₁ .before .before .args .text .now in
+    let l = c₁ .loop in
     let e = c .before .clip .ensures in
     let s = next-length t (l .i) (c .before .clip .result) (search needs) in
     omega (arith, raw-six t, c .part-length .ensures)
@@ -38,14 +41,17 @@ loop-less : tie.Need-loop-less Inv-loop μ-loop
 loop-less c = omega (arith, c .before .clip .ensures .0, c .before .clip .ensures .1)
 
 loop-again : tie.Need-loop-again Inv-loop μ-loop
-loop-again c = let t = c .before .before .before .before .before .args .text .now in
-    let l = c .before .before .before .loop in
+loop-again c =
+    let c₁ = c .before .before .before in
+    let t = c₁ .before .before .args .text .now in
+    let l = c₁ .loop in
     let e = c .before .clip .ensures in
     let s = next-length t (l .i) (c .before .clip .result) (search needs) in
     (e .1, omega (arith, c .part-length .ensures))
 
 returns : tie.Need-returns Inv-loop μ-loop
-returns c = let t = c .before .before .before .args .text .now in
+returns c =
+    let t = c .before .before .before .args .text .now in
     let z = rw (raw-end t (c .before .loop .i) (c .loop-test .left)) at (c .before .loop .inv .1) in
     (omega (arith, z), omega (arith, z, raw-six t))
 

@@ -1,4 +1,4 @@
--- `raw::part_length` meets its contract: a calm part is as long as it is.
+-- `raw::part_length` meets its contract: what is written for a calm part is the part itself.
 -- Assumes nothing.
 use mathlib.Core.Path.{sym, ap, _∙_}
 use borrow.Author.Needs.{needs}
@@ -14,7 +14,8 @@ sub-result : tie.Need-sub-result
 sub-result c = search needs
 
 returns : tie.Need-returns
-returns c = let a = c .before .before .before .args in
+returns c =
+    let a = c .before .before .before .args in
     let p = c .before .before .before .pre in
     sym (ap length (c .before .is-calm .ensures (c .if1 .taken)) ∙ part-length (a .text .now) (a .from) (a .to) (p .0) (p .1))
 

@@ -1,4 +1,5 @@
--- `raw::write_between` meets its contract: each byte is written next. The invariant is that of every writing loop, `Filled`; the measure is the bytes left.
+-- `raw::write_between` meets its contract: each byte is written next. The invariant is that of every writing loop, `Filled`; the measure is the
+-- bytes left.
 -- Assumes nothing.
 use Prim.Native.Nat.{_-_, _≤_}
 use native.Mathlib.Omega.{arith}
@@ -39,30 +40,41 @@ part-put-end : tie.Need-part-put-end Inv-loop μ-loop
 part-put-end c = search needs
 
 put-requires : tie.Need-put-requires Inv-loop μ-loop
-put-requires c κs = let a = c .before .before .before .before .before .before .before .before .args in
+put-requires c κs =
+    let c₁ = c .before .before .before .before in
+    let c₂ = c₁ .before .before .before .before in
+    let a = c₂ .args in
     let t = a .text .now in
-    let l = c .before .before .before .before .before .loop in
-    let h = c .before .before .before .before .loop-test .taken in
-    let x = next-other t (l .i) (a .to) h (c .before .before .before .before .before .before .before .before .pre .1) (c .before .before .if1 .taken) in
+    let l = c₁ .before .loop in
+    let h = c₁ .loop-test .taken in
+    let x = next-other t (l .i) (a .to) h (c₂ .pre .1) (c .before .before .if1 .taken) in
     filled-room (l .inv .1) x
 
 add-at : tie.Need-add-at Inv-loop μ-loop
-add-at c = let a = c .before .before .before .before .before .before .before .before .before .before .before .args in
+add-at c =
+    let c₁ = c .before .before .before .before .before in
+    let c₂ = c₁ .before .before .before in
+    let c₃ = c₂ .before .before .before in
+    let a = c₃ .args in
     let t = a .text .now in
-    let l = c .before .before .before .before .before .before .before .before .loop in
-    let h = c .before .before .before .before .before .before .before .loop-test .taken in
-    let x = next-other t (l .i) (a .to) h (c .before .before .before .before .before .before .before .before .before .before .before .pre .1) (c .before .before .before .before .before .if1 .taken) in
+    let l = c₂ .loop in
+    let h = c₁ .before .before .loop-test .taken in
+    let x = next-other t (l .i) (a .to) h (c₃ .pre .1) (c₁ .if1 .taken) in
     omega (arith, c .before .before .put .ensures .0, filled-next (l .inv .1) x)
 
 loop-less : tie.Need-loop-less Inv-loop μ-loop
 loop-less c = search needs
 
 loop-again : tie.Need-loop-again Inv-loop μ-loop
-loop-again c = let a = c .before .before .before .before .before .before .before .before .before .before .before .args in
+loop-again c =
+    let c₁ = c .before .before .before .before .before in
+    let c₂ = c₁ .before .before .before in
+    let c₃ = c₂ .before .before .before in
+    let a = c₃ .args in
     let t = a .text .now in
-    let l = c .before .before .before .before .before .before .before .before .loop in
-    let h = c .before .before .before .before .before .before .before .loop-test .taken in
-    let x = next-other t (l .i) (a .to) h (c .before .before .before .before .before .before .before .before .before .before .before .pre .1) (c .before .before .before .before .before .if1 .taken) in
+    let l = c₂ .loop in
+    let h = c₁ .before .before .loop-test .taken in
+    let x = next-other t (l .i) (a .to) h (c₃ .pre .1) (c₁ .if1 .taken) in
     let p = c .before .before .put in
     (search needs, filled-put (l .inv .1) x (p .last .1 .0) (p .result) (p .ensures .0) (p .ensures .1))
 
@@ -88,30 +100,42 @@ part-put-less-end : tie.Need-part-put-less-end Inv-loop μ-loop
 part-put-less-end c = search needs
 
 put-less-requires : tie.Need-put-less-requires Inv-loop μ-loop
-put-less-requires c κs = let a = c .before .before .before .before .before .before .before .before .before .args in
+put-less-requires c κs =
+    let c₁ = c .before .before .before in
+    let c₂ = c₁ .before .before .before in
+    let c₃ = c₂ .before .before .before in
+    let a = c₃ .args in
     let t = a .text .now in
-    let l = c .before .before .before .before .before .before .loop in
-    let h = c .before .before .before .before .before .loop-test .taken in
-    let x = next-less t (l .i) (a .to) h (c .before .before .before .before .before .before .before .before .before .pre .1) (c .before .before .before .if1 .left) (c .before .is-parted .result) (c .before .is-parted .ensures) in
+    let l = c₂ .loop in
+    let h = c₁ .before .before .loop-test .taken in
+    let x = next-less t (l .i) (a .to) h (c₃ .pre .1) (c₁ .if1 .left) (c .before .is-parted .result) (c .before .is-parted .ensures) in
     filled-room (l .inv .1) x
 
 add-at-2 : tie.Need-add-at-2 Inv-loop μ-loop
-add-at-2 c = let a = c .before .before .before .before .before .before .before .before .before .before .before .before .args in
+add-at-2 c =
+    let c₁ = c .before .before .before .before in
+    let c₂ = c₁ .before .before .before .before in
+    let c₃ = c₂ .before .before .before .before in
+    let a = c₃ .args in
     let t = a .text .now in
-    let l = c .before .before .before .before .before .before .before .before .before .loop in
-    let h = c .before .before .before .before .before .before .before .before .loop-test .taken in
-    let x = next-less t (l .i) (a .to) h (c .before .before .before .before .before .before .before .before .before .before .before .before .pre .1) (c .before .before .before .before .before .before .if1 .left) (c .before .before .before .before .is-parted .result) (c .before .before .before .before .is-parted .ensures) in
+    let l = c₂ .before .loop in
+    let h = c₂ .loop-test .taken in
+    let x = next-less t (l .i) (a .to) h (c₃ .pre .1) (c₁ .before .before .if1 .left) (c₁ .is-parted .result) (c₁ .is-parted .ensures) in
     omega (arith, c .before .before .put-less .ensures .0, filled-next (l .inv .1) x)
 
 loop-less-2 : tie.Need-loop-less-2 Inv-loop μ-loop
 loop-less-2 c = search needs
 
 loop-again-2 : tie.Need-loop-again-2 Inv-loop μ-loop
-loop-again-2 c = let a = c .before .before .before .before .before .before .before .before .before .before .before .before .args in
+loop-again-2 c =
+    let c₁ = c .before .before .before .before in
+    let c₂ = c₁ .before .before .before .before in
+    let c₃ = c₂ .before .before .before .before in
+    let a = c₃ .args in
     let t = a .text .now in
-    let l = c .before .before .before .before .before .before .before .before .before .loop in
-    let h = c .before .before .before .before .before .before .before .before .loop-test .taken in
-    let x = next-less t (l .i) (a .to) h (c .before .before .before .before .before .before .before .before .before .before .before .before .pre .1) (c .before .before .before .before .before .before .if1 .left) (c .before .before .before .before .is-parted .result) (c .before .before .before .before .is-parted .ensures) in
+    let l = c₂ .before .loop in
+    let h = c₂ .loop-test .taken in
+    let x = next-less t (l .i) (a .to) h (c₃ .pre .1) (c₁ .before .before .if1 .left) (c₁ .is-parted .result) (c₁ .is-parted .ensures) in
     let p = c .before .before .put-less in
     (search needs, filled-put (l .inv .1) x (p .last .1 .0) (p .result) (p .ensures .0) (p .ensures .1))
 
@@ -119,7 +143,9 @@ same-length : tie.Need-same-length Inv-loop μ-loop
 same-length c = search needs
 
 returns : tie.Need-returns Inv-loop μ-loop
-returns c = let a = c .before .before .before .before .args in
+returns c =
+    let c₁ = c .before .before .before .before in
+    let a = c₁ .args in
     let t = a .text .now in
     let l = c .before .loop in
     let f = rw (to-end (l .i) (a .to) (drop (l .i) t) (c .loop-test .left)) at (l .inv .1) in

@@ -17,13 +17,18 @@ part-put-end : tie.Need-part-put-end
 part-put-end c = search needs
 
 put-requires : tie.Need-put-requires
-put-requires c κs = rw (c .before .before .before .is-calm .ensures (c .before .before .if1 .taken)) at (c .before .before .before .before .before .before .pre .3)
+put-requires c κs =
+    let c₁ = c .before .before .before in
+    let c₂ = c₁ .before .before .before in
+    rw (c₁ .is-calm .ensures (c .before .before .if1 .taken)) at (c₂ .pre .3)
 
 same-length : tie.Need-same-length
 same-length c = search needs
 
 returns : tie.Need-returns
-returns c = rw (c .before .before .before .before .before .before .is-calm .ensures (c .before .before .before .before .before .if1 .taken)) (c .before .before .put .ensures)
+returns c =
+    let c₁ = c .before .before .before .before .before in
+    rw (c₁ .before .is-calm .ensures (c₁ .if1 .taken)) (c .before .before .put .ensures)
 
 write-between-requires : tie.Need-write-between-requires
 write-between-requires c κs = search needs

@@ -1,5 +1,5 @@
--- `raw::write_raw` meets its contract: the parts are written one after the other. The invariant is that of every writing loop, `Filled`; the measure is what is left of
--- the text.
+-- `raw::write_raw` meets its contract: the parts are written one after the other. The invariant is that of every writing loop, `Filled`; the measure
+-- is what is left of the text.
 -- Assumes nothing.
 use Prim.Native.Nat.{_-_, _≤_}
 use native.Mathlib.Omega.{arith}
@@ -34,27 +34,38 @@ part-write-part-end : tie.Need-part-write-part-end Inv-loop μ-loop
 part-write-part-end c = search needs
 
 write-part-requires : tie.Need-write-part-requires Inv-loop μ-loop
-write-part-requires c κs = let t = c .before .before .before .before .before .before .args .text .now in
-    let l = c .before .before .before .loop in
+write-part-requires c κs =
+    let c₁ = c .before .before .before in
+    let c₂ = c₁ .before .before .before in
+    let t = c₂ .args .text .now in
+    let l = c₁ .loop in
     let e = c .before .clip .ensures in
     let x = next-part t (l .i) (c .before .clip .result) (search needs) in
     (search needs, search needs, search needs, filled-room (l .inv .1) x)
 
 add-at : tie.Need-add-at Inv-loop μ-loop
-add-at c = let t = c .before .before .before .before .before .before .before .before .before .args .text .now in
-    let l = c .before .before .before .before .before .before .loop in
-    let e = c .before .before .before .before .clip .ensures in
-    let x = next-part t (l .i) (c .before .before .before .before .clip .result) (search needs) in
+add-at c =
+    let c₁ = c .before .before .before .before in
+    let c₂ = c₁ .before .before .before .before .before in
+    let t = c₂ .args .text .now in
+    let l = c₁ .before .before .loop in
+    let e = c₁ .clip .ensures in
+    let x = next-part t (l .i) (c₁ .clip .result) (search needs) in
     omega (arith, c .before .before .write-part .ensures .0, filled-next (l .inv .1) x)
 
 loop-less : tie.Need-loop-less Inv-loop μ-loop
-loop-less c = omega (arith, c .before .before .before .before .clip .ensures .0, c .before .before .before .before .clip .ensures .1)
+loop-less c =
+    let c₁ = c .before .before .before .before in
+    omega (arith, c₁ .clip .ensures .0, c₁ .clip .ensures .1)
 
 loop-again : tie.Need-loop-again Inv-loop μ-loop
-loop-again c = let t = c .before .before .before .before .before .before .before .before .before .args .text .now in
-    let l = c .before .before .before .before .before .before .loop in
-    let e = c .before .before .before .before .clip .ensures in
-    let x = next-part t (l .i) (c .before .before .before .before .clip .result) (search needs) in
+loop-again c =
+    let c₁ = c .before .before .before .before in
+    let c₂ = c₁ .before .before .before .before .before in
+    let t = c₂ .args .text .now in
+    let l = c₁ .before .before .loop in
+    let e = c₁ .clip .ensures in
+    let x = next-part t (l .i) (c₁ .clip .result) (search needs) in
     let p = c .before .before .write-part in
     (e .1, filled-put (l .inv .1) x (p .last .1 .1 .1 .0) (p .result) (p .ensures .0) (p .ensures .1))
 
@@ -62,7 +73,9 @@ same-length : tie.Need-same-length Inv-loop μ-loop
 same-length c = search needs
 
 returns : tie.Need-returns Inv-loop μ-loop
-returns c = let t = c .before .before .before .before .args .text .now in
+returns c =
+    let c₁ = c .before .before .before .before in
+    let t = c₁ .args .text .now in
     let f = rw (raw-end t (c .before .loop .i) (c .loop-test .left)) at (c .before .loop .inv .1) in
     (omega (arith, f .sum), filled-end f)
 

@@ -41,7 +41,9 @@ returns-3 : tie.Need-returns-3
 returns-3 c = (search needs, search needs, search needs, inr (inl (c .if3 .taken)))
 
 returns-4 : tie.Need-returns-4
-returns-4 c = (search needs, search needs, search needs, inr (inr (two-before (c .before .before .before .before .before .args .text .now) (c .before .before .before .before .before .args .at + c .before .before .before .before .before .args .step) (c .before .before .if2 .left) (c .if3 .left))))
+returns-4 c =
+    let c₁ = c .before .before .before .before .before in
+    (search needs, search needs, search needs, inr (inr (two-before (c₁ .args .text .now) (c₁ .args .at + c₁ .args .step) (c .before .before .if2 .left) (c .if3 .left))))
 
 pub cut-spec : {M : Type 1} → statement M
 cut-spec =

@@ -1,4 +1,5 @@
--- `strings::measure` meets its contract: the invariant: what is counted, with what is written for the rest, is the whole length. The measure is what is left of the text.
+-- `strings::measure` meets its contract. The invariant: what is counted, with what is written for the rest, is the whole length. The measure is what
+-- is left of the text.
 -- Assumes nothing.
 use mathlib.Core.Path.{_≡_}
 use Prim.Native.Nat.{_+_, _-_, _≤_}
@@ -40,17 +41,21 @@ part-gained-end : tie.Need-part-gained-end Inv-loop μ-loop
 part-gained-end c = c .cut .ensures .1
 
 gained-requires : tie.Need-gained-requires Inv-loop μ-loop
-gained-requires c κs = let a = c .before .before .before .before .before .args in
+gained-requires c κs =
+    let c₁ = c .before .before .before in
+    let a = c₁ .before .before .args in
     let t = a .text .now in
-    let l = c .before .before .before .loop in
+    let l = c₁ .loop in
     let e = c .before .cut .ensures in
     let p = part-length t (l .i) (c .before .cut .result) (search needs) (e .1) in
     omega (arith, e .2)
 
 add-n : tie.Need-add-n Inv-loop μ-loop
-add-n c = let a = c .before .before .before .before .before .before .args in
+add-n c =
+    let c₁ = c .before .before .before .before in
+    let a = c₁ .before .before .args in
     let t = a .text .now in
-    let l = c .before .before .before .before .loop in
+    let l = c₁ .loop in
     let e = c .before .before .cut .ensures in
     let p = part-length t (l .i) (c .before .before .cut .result) (search needs) (e .1) in
     let s = next-length (a .strings) t (l .i) (c .before .before .cut .result) (search needs) (e .1) (e .3) in
@@ -58,9 +63,11 @@ add-n c = let a = c .before .before .before .before .before .before .args in
     omega (arith, c .gained .ensures)
 
 add-n-2 : tie.Need-add-n-2 Inv-loop μ-loop
-add-n-2 c = let a = c .before .before .before .before .before .before .args in
+add-n-2 c =
+    let c₁ = c .before .before .before .before in
+    let a = c₁ .before .before .args in
     let t = a .text .now in
-    let l = c .before .before .before .before .loop in
+    let l = c₁ .loop in
     let e = c .before .before .cut .ensures in
     let p = part-length t (l .i) (c .before .before .cut .result) (search needs) (e .1) in
     let s = next-length (a .strings) t (l .i) (c .before .before .cut .result) (search needs) (e .1) (e .3) in
@@ -71,9 +78,11 @@ loop-less : tie.Need-loop-less Inv-loop μ-loop
 loop-less c = omega (arith, c .before .before .cut .ensures .0, c .before .before .cut .ensures .1)
 
 loop-again : tie.Need-loop-again Inv-loop μ-loop
-loop-again c = let a = c .before .before .before .before .before .before .args in
+loop-again c =
+    let c₁ = c .before .before .before .before in
+    let a = c₁ .before .before .args in
     let t = a .text .now in
-    let l = c .before .before .before .before .loop in
+    let l = c₁ .loop in
     let e = c .before .before .cut .ensures in
     let p = part-length t (l .i) (c .before .before .cut .result) (search needs) (e .1) in
     let s = next-length (a .strings) t (l .i) (c .before .before .cut .result) (search needs) (e .1) (e .3) in
@@ -81,7 +90,8 @@ loop-again c = let a = c .before .before .before .before .before .before .args i
     (e .1, omega (arith, c .gained .ensures))
 
 returns : tie.Need-returns Inv-loop μ-loop
-returns c = let a = c .before .before .before .args in
+returns c =
+    let a = c .before .before .before .args in
     let m = encode-six (contextIn (a .strings)) (a .text .now) in
     let z = rw (encode-end (contextIn (a .strings)) (a .text .now) (c .before .loop .i) (c .loop-test .left)) at (c .before .loop .inv .1) in
     (omega (arith, z), omega (arith, z))

@@ -1,5 +1,5 @@
--- `strings::write` meets its contract: the parts are written one after the other. The invariant is that of every writing loop, `Filled`; the measure is what is left of
--- the text. The table is the list of its rule, by computation.
+-- `strings::write` meets its contract: the parts are written one after the other. The invariant is that of every writing loop, `Filled`; the measure
+-- is what is left of the text. The table is the list of its rule, by computation.
 -- Assumes nothing.
 use mathlib.Core.Path.{refl}
 use Prim.Native.Nat.{_-_, _≤_}
@@ -24,7 +24,9 @@ abbrev μ-loop : tie.MeasureT-loop
 
 write-bytes-requires : tie.Need-write-bytes-requires Inv-loop μ-loop
 unfolding escapeFlags
-write-bytes-requires c κs = (refl, c .before .before .before .before .before .pre)
+write-bytes-requires c κs =
+    let c₁ = c .before .before .before .before .before in
+    (refl, c₁ .pre)
 
 same-length : tie.Need-same-length Inv-loop μ-loop
 same-length c = search needs
@@ -58,30 +60,41 @@ part-write-part-end-2 c = search needs
 
 write-part-requires : tie.Need-write-part-requires Inv-loop μ-loop
 unfolding escapeFlags
-write-part-requires c κs = let a = c .before .before .before .before .before .before .before .before .before .args in
+write-part-requires c κs =
+    let c₁ = c .before .before .before in
+    let c₂ = c₁ .before .before .before .before .before .before in
+    let a = c₂ .args in
     let t = a .text .now in
-    let l = c .before .before .before .before .before .loop in
-    let e = c .before .before .before .cut .ensures in
-    let x = next-part (a .strings) t (l .i) (c .before .before .before .cut .result) (search needs) (e .1) (e .3) in
-    (omega (arith, part-length t (l .i) (c .before .before .before .cut .result) (search needs) (e .1), e .2), refl, filled-room (l .inv .1) x)
+    let l = c₁ .before .before .loop in
+    let e = c₁ .cut .ensures in
+    let x = next-part (a .strings) t (l .i) (c₁ .cut .result) (search needs) (e .1) (e .3) in
+    (omega (arith, part-length t (l .i) (c₁ .cut .result) (search needs) (e .1), e .2), refl, filled-room (l .inv .1) x)
 
 add-at : tie.Need-add-at Inv-loop μ-loop
-add-at c = let a = c .before .before .before .before .before .before .before .before .before .before .before .before .args in
+add-at c =
+    let c₁ = c .before .before .before .before .before .before in
+    let c₂ = c₁ .before .before .before .before .before .before in
+    let a = c₂ .args in
     let t = a .text .now in
-    let l = c .before .before .before .before .before .before .before .before .loop in
-    let e = c .before .before .before .before .before .before .cut .ensures in
-    let x = next-part (a .strings) t (l .i) (c .before .before .before .before .before .before .cut .result) (search needs) (e .1) (e .3) in
+    let l = c₁ .before .before .loop in
+    let e = c₁ .cut .ensures in
+    let x = next-part (a .strings) t (l .i) (c₁ .cut .result) (search needs) (e .1) (e .3) in
     omega (arith, c .before .before .write-part .ensures .0, filled-next (l .inv .1) x)
 
 loop-less : tie.Need-loop-less Inv-loop μ-loop
-loop-less c = omega (arith, c .before .before .before .before .before .before .cut .ensures .0, c .before .before .before .before .before .before .cut .ensures .1)
+loop-less c =
+    let c₁ = c .before .before .before .before .before .before in
+    omega (arith, c₁ .cut .ensures .0, c₁ .cut .ensures .1)
 
 loop-again : tie.Need-loop-again Inv-loop μ-loop
-loop-again c = let a = c .before .before .before .before .before .before .before .before .before .before .before .before .args in
+loop-again c =
+    let c₁ = c .before .before .before .before .before .before in
+    let c₂ = c₁ .before .before .before .before .before .before in
+    let a = c₂ .args in
     let t = a .text .now in
-    let l = c .before .before .before .before .before .before .before .before .loop in
-    let e = c .before .before .before .before .before .before .cut .ensures in
-    let x = next-part (a .strings) t (l .i) (c .before .before .before .before .before .before .cut .result) (search needs) (e .1) (e .3) in
+    let l = c₁ .before .before .loop in
+    let e = c₁ .cut .ensures in
+    let x = next-part (a .strings) t (l .i) (c₁ .cut .result) (search needs) (e .1) (e .3) in
     let p = c .before .before .write-part in
     (e .1, filled-put (l .inv .1) x (p .last .1 .1 .1 .0) (p .result) (p .ensures .0) (p .ensures .1))
 
@@ -89,7 +102,9 @@ same-length-2 : tie.Need-same-length-2 Inv-loop μ-loop
 same-length-2 c = search needs
 
 returns-2 : tie.Need-returns-2 Inv-loop μ-loop
-returns-2 c = let a = c .before .before .before .before .before .args in
+returns-2 c =
+    let c₁ = c .before .before .before .before .before in
+    let a = c₁ .args in
     let f = rw (encode-end (contextIn (a .strings)) (a .text .now) (c .before .loop .i) (c .loop-test .left)) at (c .before .loop .inv .1) in
     (omega (arith, f .sum), filled-end f)
 

@@ -11,14 +11,19 @@ gained-requires : tie.Need-gained-requires
 gained-requires c κs = search needs
 
 put-requires : tie.Need-put-requires
-put-requires c κs = omega (arith, c .before .before .gained .ensures, c .before .before .before .before .before .pre .2)
+put-requires c κs =
+    let c₁ = c .before .before .before .before .before in
+    omega (arith, c .before .before .gained .ensures, c₁ .pre .2)
 
 same-length : tie.Need-same-length
 same-length c = search needs
 
 returns : tie.Need-returns
-returns c = let a = c .before .before .before .before .before .before .before .before .args in
-    let w = no-growth (contextIn (a .strings)) (a .part .now) (c .before .before .before .before .before .gained .result) (c .before .before .before .before .before .gained .ensures) (c .before .before .before .before .if1 .taken) in
+returns c =
+    let c₁ = c .before .before .before .before in
+    let c₂ = c₁ .before .before .before .before in
+    let a = c₂ .args in
+    let w = no-growth (contextIn (a .strings)) (a .part .now) (c₁ .before .gained .result) (c₁ .before .gained .ensures) (c₁ .if1 .taken) in
     rw w (c .before .before .put .ensures)
 
 write-bytes-requires : tie.Need-write-bytes-requires

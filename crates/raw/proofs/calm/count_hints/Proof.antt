@@ -1,4 +1,5 @@
--- `raw::calm::count_hints` meets its contract: the invariant: where nothing is counted so far, no hint stands so far. The measure is what is left of the window.
+-- `raw::calm::count_hints` meets its contract. The invariant: where nothing is counted so far, no hint stands so far. The measure is what is left of
+-- the window.
 -- Assumes nothing.
 use mathlib.Core.Bool.{false}
 use mathlib.Core.Path.{_≡_}
@@ -54,7 +55,9 @@ loop-less : tie.Need-loop-less Inv-loop μ-loop
 loop-less c = search needs
 
 loop-again : tie.Need-loop-again Inv-loop μ-loop
-loop-again c = let l = c .before .before .before .before .before .loop in
+loop-again c =
+    let c₁ = c .before .before .before .before .before in
+    let l = c₁ .loop in
     let r = c .hint in (
       search needs,
       omega (arith, r .ensures .0),

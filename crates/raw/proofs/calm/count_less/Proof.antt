@@ -1,4 +1,5 @@
--- `raw::calm::count_less` meets its contract: the invariant: where nothing is counted so far, no `<` stands so far. The measure is what is left of the part.
+-- `raw::calm::count_less` meets its contract. The invariant: where nothing is counted so far, no `<` stands so far. The measure is what is left of
+-- the part.
 -- Assumes nothing.
 use mathlib.Core.Path.{_≡_}
 use Prim.Native.Nat.{ℕ, _-_, _≤_, _<_}
@@ -37,7 +38,8 @@ loop-less : tie.Need-loop-less Inv-loop μ-loop
 loop-less c = search needs
 
 loop-again : tie.Need-loop-again Inv-loop μ-loop
-loop-again c = let l = c .before .before .before .loop in
+loop-again c =
+    let l = c .before .before .before .loop in
     let r = c .less in (
       search needs,
       omega (arith, r .ensures .0),

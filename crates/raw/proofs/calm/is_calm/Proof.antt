@@ -18,15 +18,18 @@ part-count-less-end : tie.Need-part-count-less-end
 part-count-less-end c = search needs
 
 count-less-requires : tie.Need-count-less-requires
-count-less-requires c κs = let a = c .before .before .args in
+count-less-requires c κs =
+    let a = c .before .before .args in
     let t = a .text .now in
     let p = c .before .before .pre in
     omega (arith, part-length t (a .from) (a .to) (p .0) (p .1), p .2)
 
 returns : tie.Need-returns
-returns c = let a = c .before .before .before .before .args in
+returns c =
+    let c₁ = c .before .before .before .before in
+    let a = c₁ .args in
     let t = a .text .now in
-    let p = c .before .before .before .before .pre in
+    let p = c₁ .pre in
     λ z. calm-less t (a .from) (a .to) (p .0) (p .1) (c .before .count-less .ensures (c .if1 .taken))
 
 past-requires : tie.Need-past-requires
@@ -42,15 +45,20 @@ part-count-hints-end : tie.Need-part-count-hints-end
 part-count-hints-end c = search needs
 
 count-hints-requires : tie.Need-count-hints-requires
-count-hints-requires c κs = let a = c .before .before .before .before .before .before .args in
+count-hints-requires c κs =
+    let c₁ = c .before .before .before .before .before .before in
+    let a = c₁ .args in
     let t = a .text .now in
-    let p = c .before .before .before .before .before .before .pre in
-    let e = c .before .past .ensures in omega (arith, part-length t (a .from) (c .before .past .result) (omega (arith, p .0, e .0)) (e .1), p .2, e .2)
+    let p = c₁ .pre in
+    let e = c .before .past .ensures in
+    omega (arith, part-length t (a .from) (c .before .past .result) (omega (arith, p .0, e .0)) (e .1), p .2, e .2)
 
 returns-2 : tie.Need-returns-2
-returns-2 c = let a = c .before .before .before .before .before .before .before .args in
+returns-2 c =
+    let c₁ = c .before .before .before .before .before .before .before in
+    let a = c₁ .args in
     let t = a .text .now in
-    let p = c .before .before .before .before .before .before .before .pre in
+    let p = c₁ .pre in
     let e = c .before .before .past .ensures in
     λ z. calm-hints t (a .from) (a .to) (p .0) (p .1) (c .before .before .past .result) (e .0) (e .1) (e .3) (c .count-hints .ensures (eqb-true _ _ z))
 

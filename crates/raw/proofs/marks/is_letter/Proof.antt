@@ -8,19 +8,26 @@ use Rattle.raw.proofs.marks.is_letter.Statement.{statement}
 use Rattle.raw.proofs.marks.is_letter.Tie as tie
 
 returns : tie.Need-returns
-returns c = let a = c .before .args in sym (letter-test (a .c) (a .b) ∙ rw (eq-eqb _ _ (c .if1 .taken)))
+returns c =
+    let a = c .before .args in sym (letter-test (a .c) (a .b) ∙ rw (eq-eqb _ _ (c .if1 .taken)))
 
 returns-2 : tie.Need-returns-2
-returns-2 c = let a = c .before .before .args in sym (letter-test (a .c) (a .b) ∙ rw (ne-eqb _ _ (c .before .if1 .left), lt-leb _ _ (c .if2 .taken)))
+returns-2 c =
+    let a = c .before .before .args in
+    sym (letter-test (a .c) (a .b) ∙ rw (ne-eqb _ _ (c .before .if1 .left), lt-leb _ _ (c .if2 .taken)))
 
 returns-3 : tie.Need-returns-3
-returns-3 c = let a = c .before .before .before .args in sym (letter-test (a .c) (a .b) ∙ rw (ne-eqb _ _ (c .before .before .if1 .left), le-leb _ _ (c .before .if2 .left), lt-leb _ _ (c .if3 .taken)))
+returns-3 c =
+    let a = c .before .before .before .args in
+    sym (letter-test (a .c) (a .b) ∙ rw (ne-eqb _ _ (c .before .before .if1 .left), le-leb _ _ (c .before .if2 .left), lt-leb _ _ (c .if3 .taken)))
 
 sub-result : tie.Need-sub-result
 sub-result c = search needs
 
 returns-4 : tie.Need-returns-4
-returns-4 c = let a = c .before .before .before .args in sym (letter-test (a .c) (a .b) ∙ rw (ne-eqb _ _ (c .before .before .if1 .left), le-leb _ _ (c .before .if2 .left), le-leb _ _ (c .if3 .left)))
+returns-4 c =
+    let a = c .before .before .before .args in
+    sym (letter-test (a .c) (a .b) ∙ rw (ne-eqb _ _ (c .before .before .if1 .left), le-leb _ _ (c .before .if2 .left), le-leb _ _ (c .if3 .left)))
 
 pub is-letter-spec : {M : Type 1} → statement M
 is-letter-spec = tie.close (tie.spec returns returns-2 returns-3 sub-result returns-4)

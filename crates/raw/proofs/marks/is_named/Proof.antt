@@ -1,4 +1,5 @@
--- `raw::marks::is_named` meets its contract: the invariant: the whole name stands exactly if the rest of it stands from here on. The measure is what is left of the name.
+-- `raw::marks::is_named` meets its contract. The invariant: the whole name stands exactly if the rest of it stands from here on. The measure is what
+-- is left of the name.
 -- Assumes nothing.
 use mathlib.Core.List.{map}
 use mathlib.Core.Path.{_≡_, refl, sym, _∙_}
@@ -23,7 +24,12 @@ loop-holds : tie.Need-loop-holds Inv-loop μ-loop
 loop-holds c = (search needs, refl)
 
 returns : tie.Need-returns Inv-loop μ-loop
-returns c = let a = c .before .before .before .before .before .args in let n = a .name .now in let s = a .s .now in let k = c .before .before .loop .k in
+returns c =
+    let c₁ = c .before .before .before .before .before in
+    let a = c₁ .args in
+    let n = a .name .now in
+    let s = a .s .now in
+    let k = c .before .before .loop .k in
     sym (c .before .before .loop .inv .1 ∙ named-short n s k (c .before .loop-test .taken) (c .if1 .taken))
 
 shared-slice-read-is-letter : tie.Need-shared-slice-read-is-letter Inv-loop μ-loop
@@ -36,8 +42,14 @@ is-letter-requires : tie.Need-is-letter-requires Inv-loop μ-loop
 is-letter-requires c κs = search needs
 
 returns-2 : tie.Need-returns-2 Inv-loop μ-loop
-returns-2 c = let a = c .before .before .before .before .before .before .before .before .before .args in let n = a .name .now in let s = a .s .now in let k = c .before .before .before .before .before .before .loop .k in
-    sym (c .before .before .before .before .before .before .loop .inv .1 ∙ named-next n s k (c .before .before .before .before .before .loop-test .taken) (c .before .before .before .before .if1 .left) ∙ rw (← c .before .is-letter .ensures, not-true (c .before .is-letter .result) (c .if2 .taken)))
+returns-2 c =
+    let c₁ = c .before .before .before .before in
+    let c₂ = c₁ .before .before .before .before .before in
+    let a = c₂ .args in
+    let n = a .name .now in
+    let s = a .s .now in
+    let k = c₁ .before .before .loop .k in
+    sym (c₁ .before .before .loop .inv .1 ∙ named-next n s k (c₁ .before .loop-test .taken) (c₁ .if1 .left) ∙ rw (← c .before .is-letter .ensures, not-true (c .before .is-letter .result) (c .if2 .taken)))
 
 add-k : tie.Need-add-k Inv-loop μ-loop
 add-k c = search needs
@@ -46,11 +58,22 @@ loop-less : tie.Need-loop-less Inv-loop μ-loop
 loop-less c = search needs
 
 loop-again : tie.Need-loop-again Inv-loop μ-loop
-loop-again c = let a = c .before .before .before .before .before .before .before .before .before .args in let n = a .name .now in let s = a .s .now in let k = c .before .before .before .before .before .before .loop .k in
-    (search needs, c .before .before .before .before .before .before .loop .inv .1 ∙ named-next n s k (c .before .before .before .before .before .loop-test .taken) (c .before .before .before .before .if1 .left) ∙ rw (← c .before .is-letter .ensures, not-false (c .before .is-letter .result) (c .if2 .left)))
+loop-again c =
+    let c₁ = c .before .before .before .before in
+    let c₂ = c₁ .before .before .before .before .before in
+    let a = c₂ .args in
+    let n = a .name .now in
+    let s = a .s .now in
+    let k = c₁ .before .before .loop .k in
+    (search needs, c₁ .before .before .loop .inv .1 ∙ named-next n s k (c₁ .before .loop-test .taken) (c₁ .if1 .left) ∙ rw (← c .before .is-letter .ensures, not-false (c .before .is-letter .result) (c .if2 .left)))
 
 returns-3 : tie.Need-returns-3 Inv-loop μ-loop
-returns-3 c = let a = c .before .before .before .before .args in let n = a .name .now in let s = a .s .now in let k = c .before .loop .k in
+returns-3 c =
+    let c₁ = c .before .before .before .before in
+    let a = c₁ .args in
+    let n = a .name .now in
+    let s = a .s .now in
+    let k = c .before .loop .k in
     sym (c .before .loop .inv .1 ∙ named-all n s k (c .loop-test .left))
 
 pub is-named-spec : {M : Type 1} → statement M

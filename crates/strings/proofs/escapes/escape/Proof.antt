@@ -1,4 +1,5 @@
--- `strings::escapes::escape` meets its contract: a byte that begins no key is kept, E2 is settled by the two bytes after it, and any other byte by its kind.
+-- `strings::escapes::escape` meets its contract: a byte that begins no key is kept, E2 is settled by the two bytes after it, and any other byte by
+-- its kind.
 -- Assumes nothing.
 use mathlib.Core.Bool.{true}
 use mathlib.Core.Path.{_≡_, sym, _∙_}
@@ -20,16 +21,21 @@ needs-escape-requires : tie.Need-needs-escape-requires
 needs-escape-requires c κs = search needs
 
 returns : tie.Need-returns
-returns c = let a = c .before .before .before .before .args in
+returns c =
+    let c₁ = c .before .before .before .before in
+    let a = c₁ .args in
     let s = a .rest .now in
-    let h : 0 < length s = c .before .before .before .before .pre .0 in
+    let h : 0 < length s = c₁ .pre .0 in
     (found-none (a .strings) s h (sym (c .before .needs-escape .ensures) ∙ not-true _ (c .if1 .taken)), search needs)
 
 returns-2 : tie.Need-returns-2
-returns-2 c = let a = c .before .before .before .before .before .before .args in
+returns-2 c =
+    let c₁ = c .before .before .before in
+    let c₂ = c₁ .before .before .before in
+    let a = c₂ .args in
     let s = a .rest .now in
-    let h : 0 < length s = c .before .before .before .before .before .before .pre .0 in
-    (found-lead (a .strings) s Nothing h (c .before .match .keys5) (sym (c .before .before .before .needs-escape .ensures) ∙ not-false _ (c .before .before .if1 .left)) (rw (ended-short s (c .if3 .taken))), search needs)
+    let h : 0 < length s = c₂ .pre .0 in
+    (found-lead (a .strings) s Nothing h (c .before .match .keys5) (sym (c₁ .needs-escape .ensures) ∙ not-false _ (c .before .before .if1 .left)) (rw (ended-short s (c .if3 .taken))), search needs)
 
 shared-slice-read-ends-separator : tie.Need-shared-slice-read-ends-separator
 shared-slice-read-ends-separator c = search needs
@@ -41,59 +47,81 @@ ends-separator-requires : tie.Need-ends-separator-requires
 ends-separator-requires c κs = search needs
 
 returns-3 : tie.Need-returns-3
-returns-3 c = let a = c .before .before .before .before .before .before .before .before .before .before .args in
+returns-3 c =
+    let c₁ = c .before .before .before .before in
+    let c₂ = c₁ .before .before .before in
+    let c₃ = c₂ .before .before .before in
+    let a = c₃ .args in
     let s = a .rest .now in
-    let h : 0 < length s = c .before .before .before .before .before .before .before .before .before .before .pre .0 in
-    let l : 3 ≤ length s = c .before .before .before .before .if3 .left in
+    let h : 0 < length s = c₃ .pre .0 in
+    let l : 3 ≤ length s = c₁ .if3 .left in
     let e : endsOf (getD s 1 0) (getD s 2 0) ≡ true = sym (c .before .ends-separator .ensures) ∙ c .if4 .taken in
-    (found-lead (a .strings) s Separator h (c .before .before .before .before .before .match .keys5) (sym (c .before .before .before .before .before .before .before .needs-escape .ensures) ∙ not-false _ (c .before .before .before .before .before .before .if1 .left)) (rw (ended-long s l, e)), (l, omega (arith, ends-are (getD s 1 0) (getD s 2 0) e .1)))
+    (found-lead (a .strings) s Separator h (c₁ .before .match .keys5) (sym (c₂ .needs-escape .ensures) ∙ not-false _ (c₁ .before .before .if1 .left)) (rw (ended-long s l, e)), (l, omega (arith, ends-are (getD s 1 0) (getD s 2 0) e .1)))
 
 returns-4 : tie.Need-returns-4
-returns-4 c = let a = c .before .before .before .before .before .args in
+returns-4 c =
+    let c₁ = c .before .before .before .before .before in
+    let a = c₁ .args in
     let s = a .rest .now in
-    let h : 0 < length s = c .before .before .before .before .before .pre .0 in
+    let h : 0 < length s = c₁ .pre .0 in
     let k : getD s 0 0 ≡ 34 = c .match .keys1 in
     (found-kind (a .strings) s Slashed h (sym (c .before .before .needs-escape .ensures) ∙ not-false _ (c .before .if1 .left)) (λ e. omega arith) (rw k), search needs)
 
 returns-5 : tie.Need-returns-5
-returns-5 c = let a = c .before .before .before .before .before .args in
+returns-5 c =
+    let c₁ = c .before .before .before .before .before in
+    let a = c₁ .args in
     let s = a .rest .now in
-    let h : 0 < length s = c .before .before .before .before .before .pre .0 in
+    let h : 0 < length s = c₁ .pre .0 in
     let k : getD s 0 0 ≡ 39 = c .match .keys2 in
     (found-kind (a .strings) s Slashed h (sym (c .before .before .needs-escape .ensures) ∙ not-false _ (c .before .if1 .left)) (λ e. omega arith) (rw k), search needs)
 
 returns-6 : tie.Need-returns-6
-returns-6 c = let a = c .before .before .before .before .before .args in
+returns-6 c =
+    let c₁ = c .before .before .before .before .before in
+    let a = c₁ .args in
     let s = a .rest .now in
-    let h : 0 < length s = c .before .before .before .before .before .pre .0 in
+    let h : 0 < length s = c₁ .pre .0 in
     let k : getD s 0 0 ≡ 92 = c .match .keys3 in
     (found-kind (a .strings) s Slashed h (sym (c .before .before .needs-escape .ensures) ∙ not-false _ (c .before .if1 .left)) (λ e. omega arith) (rw k), search needs)
 
 returns-7 : tie.Need-returns-7
-returns-7 c = let a = c .before .before .before .before .before .before .args in
+returns-7 c =
+    let c₁ = c .before .before .before in
+    let c₂ = c₁ .before .before .before in
+    let a = c₂ .args in
     let s = a .rest .now in
-    let h : 0 < length s = c .before .before .before .before .before .before .pre .0 in
+    let h : 0 < length s = c₂ .pre .0 in
     let k : getD s 0 0 ≡ 0 = c .before .match .keys4 in
-    (found-kind (a .strings) s Substitute h (sym (c .before .before .before .needs-escape .ensures) ∙ not-false _ (c .before .before .if1 .left)) (λ e. omega arith) (rw (k, c .if2 .taken)), search needs)
+    (found-kind (a .strings) s Substitute h (sym (c₁ .needs-escape .ensures) ∙ not-false _ (c .before .before .if1 .left)) (λ e. omega arith) (rw (k, c .if2 .taken)), search needs)
 
 returns-8 : tie.Need-returns-8
-returns-8 c = let a = c .before .before .before .before .before .before .args in
+returns-8 c =
+    let c₁ = c .before .before .before in
+    let c₂ = c₁ .before .before .before in
+    let a = c₂ .args in
     let s = a .rest .now in
-    let h : 0 < length s = c .before .before .before .before .before .before .pre .0 in
+    let h : 0 < length s = c₂ .pre .0 in
     let k : getD s 0 0 ≡ 0 = c .before .match .keys4 in
-    (found-kind (a .strings) s Hex h (sym (c .before .before .before .needs-escape .ensures) ∙ not-false _ (c .before .before .if1 .left)) (λ e. omega arith) (rw (k, c .if2 .left)), search needs)
+    (found-kind (a .strings) s Hex h (sym (c₁ .needs-escape .ensures) ∙ not-false _ (c .before .before .if1 .left)) (λ e. omega arith) (rw (k, c .if2 .left)), search needs)
 
 returns-9 : tie.Need-returns-9
-returns-9 c = let a = c .before .before .before .before .before .before .before .before .before .before .args in
+returns-9 c =
+    let c₁ = c .before .before .before .before in
+    let c₂ = c₁ .before .before .before in
+    let c₃ = c₂ .before .before .before in
+    let a = c₃ .args in
     let s = a .rest .now in
-    let h : 0 < length s = c .before .before .before .before .before .before .before .before .before .before .pre .0 in
-    let l : 3 ≤ length s = c .before .before .before .before .if3 .left in
-    (found-lead (a .strings) s Nothing h (c .before .before .before .before .before .match .keys5) (sym (c .before .before .before .before .before .before .before .needs-escape .ensures) ∙ not-false _ (c .before .before .before .before .before .before .if1 .left)) (rw (ended-long s l, ← c .before .ends-separator .ensures, c .if4 .left)), search needs)
+    let h : 0 < length s = c₃ .pre .0 in
+    let l : 3 ≤ length s = c₁ .if3 .left in
+    (found-lead (a .strings) s Nothing h (c₁ .before .match .keys5) (sym (c₂ .needs-escape .ensures) ∙ not-false _ (c₁ .before .before .if1 .left)) (rw (ended-long s l, ← c .before .ends-separator .ensures, c .if4 .left)), search needs)
 
 returns-10 : tie.Need-returns-10
-returns-10 c = let a = c .before .before .before .before .before .args in
+returns-10 c =
+    let c₁ = c .before .before .before .before .before in
+    let a = c₁ .args in
     let s = a .rest .now in
-    let h : 0 < length s = c .before .before .before .before .before .pre .0 in
+    let h : 0 < length s = c₁ .pre .0 in
     let r = c .match .rest in (
       found-kind (a .strings) s Hex h (sym (c .before .before .needs-escape .ensures) ∙ not-false _ (c .before .if1 .left)) (r .1)
           (rw (ne-eqb _ 34 (r .0 .0 .0 .0 .1), ne-eqb _ 39 (r .0 .0 .0 .1), ne-eqb _ 92 (r .0 .0 .1), ne-eqb _ 0 (r .0 .1))),

@@ -14,25 +14,33 @@ slice-aggregate-put : tie.Need-slice-aggregate-put
 slice-aggregate-put c = search needs
 
 put-requires : tie.Need-put-requires
-put-requires c κs = rw (c .before .before .if1 .taken) at (c .before .before .before .before .before .before .pre)
+put-requires c κs =
+    let c₁ = c .before .before .before .before .before .before in
+    rw (c .before .before .if1 .taken) at (c₁ .pre)
 
 same-length : tie.Need-same-length
 same-length c = search needs
 
 returns : tie.Need-returns
-returns c = rw (← c .before .before .before .before .before .before .before .digit .ensures, ← c .before .before .before .before .before .before .digit2 .ensures, c .before .before .before .before .before .if1 .taken) (c .before .before .put .ensures)
+returns c =
+    let c₁ = c .before .before .before .before .before in
+    rw (← c₁ .before .before .digit .ensures, ← c₁ .before .digit2 .ensures, c₁ .if1 .taken) (c .before .before .put .ensures)
 
 slice-aggregate-put-2 : tie.Need-slice-aggregate-put-2
 slice-aggregate-put-2 c = search needs
 
 put-requires-2 : tie.Need-put-requires-2
-put-requires-2 c κs = rw (c .before .before .if1 .left) at (c .before .before .before .before .before .before .pre)
+put-requires-2 c κs =
+    let c₁ = c .before .before .before .before .before .before in
+    rw (c .before .before .if1 .left) at (c₁ .pre)
 
 same-length-2 : tie.Need-same-length-2
 same-length-2 c = search needs
 
 returns-2 : tie.Need-returns-2
-returns-2 c = rw (← c .before .before .before .before .before .before .before .digit .ensures, ← c .before .before .before .before .before .before .digit2 .ensures, c .before .before .before .before .before .if1 .left) (c .before .before .put2 .ensures)
+returns-2 c =
+    let c₁ = c .before .before .before .before .before in
+    rw (← c₁ .before .before .digit .ensures, ← c₁ .before .digit2 .ensures, c₁ .if1 .left) (c .before .before .put2 .ensures)
 
 pub put-hex-spec : {M : Type 1} → statement M
 put-hex-spec =

@@ -1,5 +1,5 @@
--- `strings::escapes::write_bytes` meets its contract: what is found at a place is what is written next. The invariant is that of every writing loop, `Filled`; the measure is what
--- is left of the text.
+-- `strings::escapes::write_bytes` meets its contract: what is found at a place is what is written next. The invariant is that of every writing loop,
+-- `Filled`; the measure is what is left of the text.
 -- Assumes nothing.
 use mathlib.Core.Path.{refl}
 use Prim.Native.Nat.{_-_, _≤_}
@@ -33,7 +33,9 @@ part-escape-end : tie.Need-part-escape-end Inv-loop μ-loop
 part-escape-end c = search needs
 
 escape-requires : tie.Need-escape-requires Inv-loop μ-loop
-escape-requires c κs = (rw (lent-rest, length-drop) (search needs), c .before .before .before .before .before .pre .0)
+escape-requires c κs =
+    let c₁ = c .before .before .before .before .before in
+    (rw (lent-rest, length-drop) (search needs), c₁ .pre .0)
 
 enum-told : tie.Need-enum-told Inv-loop μ-loop
 enum-told c = search needs
@@ -57,34 +59,53 @@ part-put-found-end-2 : tie.Need-part-put-found-end-2 Inv-loop μ-loop
 part-put-found-end-2 c = search needs
 
 put-found-requires : tie.Need-put-found-requires Inv-loop μ-loop
-put-found-requires c κs = let a = c .before .before .before .before .before .before .before .before .before .args in
-    let l = c .before .before .before .before .before .before .loop in
-    let e = c .before .before .before .escape in
-    let x = next-found (a .strings) (a .text .now) (l .i) (e .result) (c .before .before .before .before .before .loop-test .taken) (e .ensures .0) (e .ensures .1) _ refl in
+put-found-requires c κs =
+    let c₁ = c .before .before .before in
+    let c₂ = c₁ .before .before .before in
+    let c₃ = c₂ .before .before .before in
+    let a = c₃ .args in
+    let l = c₂ .loop in
+    let e = c₁ .escape in
+    let x = next-found (a .strings) (a .text .now) (l .i) (e .result) (c₁ .before .before .loop-test .taken) (e .ensures .0) (e .ensures .1) _ refl in
     (e .ensures .1, filled-room (l .inv .1) x)
 
 add-at : tie.Need-add-at Inv-loop μ-loop
-add-at c = let a = c .before .before .before .before .before .before .before .before .before .before .before .before .args in
-    let l = c .before .before .before .before .before .before .before .before .before .loop in
-    let e = c .before .before .before .before .before .before .escape in
-    let x = next-found (a .strings) (a .text .now) (l .i) (e .result) (c .before .before .before .before .before .before .before .before .loop-test .taken) (e .ensures .0) (e .ensures .1) _ refl in
+add-at c =
+    let c₁ = c .before .before .before .before .before .before in
+    let c₂ = c₁ .before .before .before in
+    let c₃ = c₂ .before .before .before in
+    let a = c₃ .args in
+    let l = c₂ .loop in
+    let e = c₁ .escape in
+    let x = next-found (a .strings) (a .text .now) (l .i) (e .result) (c₁ .before .before .loop-test .taken) (e .ensures .0) (e .ensures .1) _ refl in
     omega (arith, c .before .before .put-found .ensures .0, filled-next (l .inv .1) x)
 
 taken-requires : tie.Need-taken-requires Inv-loop μ-loop
 taken-requires c κs = search needs
 
 add-i : tie.Need-add-i Inv-loop μ-loop
-add-i c = let l = c .before .before .before .before .before .before .before .before .before .before .loop in let a = c .before .before .before .before .before .before .before .before .before .before .before .before .before .args in omega (arith, c .taken .ensures .0, rw (lent-rest, length-drop) at (held-within (c .before .before .before .before .before .before .before .escape .result) _ (c .before .before .before .before .before .before .before .escape .ensures .1)))
+add-i c =
+    let c₁ = c .before .before .before .before .before .before .before in
+    let c₂ = c₁ .before .before .before in
+    let c₃ = c₂ .before .before .before in
+    let l = c₂ .loop in
+    let a = c₃ .args in
+    omega (arith, c .taken .ensures .0, rw (lent-rest, length-drop) at (held-within (c₁ .escape .result) _ (c₁ .escape .ensures .1)))
 
 loop-less : tie.Need-loop-less Inv-loop μ-loop
 loop-less c = omega (arith, c .taken .ensures .1)
 
 loop-again : tie.Need-loop-again Inv-loop μ-loop
-loop-again c = let a = c .before .before .before .before .before .before .before .before .before .before .before .before .before .args in
-    let l = c .before .before .before .before .before .before .before .before .before .before .loop in
-    let e = c .before .before .before .before .before .before .before .escape in
-    let x = next-found (a .strings) (a .text .now) (l .i) (e .result) (c .before .before .before .before .before .before .before .before .before .loop-test .taken) (e .ensures .0) (e .ensures .1) (c .taken .result) (c .taken .ensures .0) in
-    let p = c .before .before .before .put-found in (
+loop-again c =
+    let c₁ = c .before .before .before in
+    let c₂ = c₁ .before .before .before .before in
+    let c₃ = c₂ .before .before .before in
+    let c₄ = c₃ .before .before .before in
+    let a = c₄ .args in
+    let l = c₃ .loop in
+    let e = c₂ .escape in
+    let x = next-found (a .strings) (a .text .now) (l .i) (e .result) (c₂ .before .before .loop-test .taken) (e .ensures .0) (e .ensures .1) (c .taken .result) (c .taken .ensures .0) in
+    let p = c₁ .put-found in (
       omega (arith, c .taken .ensures .0, rw (lent-rest, length-drop) at (held-within (e .result) _ (e .ensures .1))),
       filled-put (l .inv .1) x (p .last .1 .1 .1 .0) (p .result) (p .ensures .0) (p .ensures .1),
     )
@@ -105,17 +126,25 @@ part-put-end : tie.Need-part-put-end Inv-loop μ-loop
 part-put-end c = search needs
 
 put-requires : tie.Need-put-requires Inv-loop μ-loop
-put-requires c κs = let a = c .before .before .before .before .before .before .before .before .before .before .before .args in
-    let l = c .before .before .before .before .before .before .before .before .loop in
-    let e = c .before .before .before .before .before .escape in
-    let x = next-byte (a .strings) (a .text .now) (l .i) (e .result) (c .before .before .before .before .before .before .before .loop-test .taken) (e .ensures .0) (e .ensures .1) (c .before .before .before .enum-told .given .1) in
+put-requires c κs =
+    let c₁ = c .before .before .before in
+    let c₂ = c₁ .before .before .before .before in
+    let c₃ = c₂ .before .before .before .before in
+    let a = c₃ .args in
+    let l = c₂ .before .loop in
+    let e = c₁ .before .before .escape in
+    let x = next-byte (a .strings) (a .text .now) (l .i) (e .result) (c₂ .loop-test .taken) (e .ensures .0) (e .ensures .1) (c₁ .enum-told .given .1) in
     filled-room (l .inv .1) x
 
 add-at-2 : tie.Need-add-at-2 Inv-loop μ-loop
-add-at-2 c = let a = c .before .before .before .before .before .before .before .before .before .before .before .before .before .before .args in
-    let l = c .before .before .before .before .before .before .before .before .before .before .before .loop in
-    let e = c .before .before .before .before .before .before .before .before .escape in
-    let x = next-byte (a .strings) (a .text .now) (l .i) (e .result) (c .before .before .before .before .before .before .before .before .before .before .loop-test .taken) (e .ensures .0) (e .ensures .1) (c .before .before .before .before .before .before .enum-told .given .1) in
+add-at-2 c =
+    let c₁ = c .before .before .before .before .before .before in
+    let c₂ = c₁ .before .before .before .before in
+    let c₃ = c₂ .before .before .before .before in
+    let a = c₃ .args in
+    let l = c₂ .before .loop in
+    let e = c₁ .before .before .escape in
+    let x = next-byte (a .strings) (a .text .now) (l .i) (e .result) (c₂ .loop-test .taken) (e .ensures .0) (e .ensures .1) (c₁ .enum-told .given .1) in
     omega (arith, c .before .before .put .ensures .0, filled-next (l .inv .1) x)
 
 add-i-2 : tie.Need-add-i-2 Inv-loop μ-loop
@@ -125,10 +154,14 @@ loop-less-2 : tie.Need-loop-less-2 Inv-loop μ-loop
 loop-less-2 c = search needs
 
 loop-again-2 : tie.Need-loop-again-2 Inv-loop μ-loop
-loop-again-2 c = let a = c .before .before .before .before .before .before .before .before .before .before .before .before .before .before .args in
-    let l = c .before .before .before .before .before .before .before .before .before .before .before .loop in
-    let e = c .before .before .before .before .before .before .before .before .escape in
-    let x = next-byte (a .strings) (a .text .now) (l .i) (e .result) (c .before .before .before .before .before .before .before .before .before .before .loop-test .taken) (e .ensures .0) (e .ensures .1) (c .before .before .before .before .before .before .enum-told .given .1) in
+loop-again-2 c =
+    let c₁ = c .before .before .before .before .before .before in
+    let c₂ = c₁ .before .before .before .before in
+    let c₃ = c₂ .before .before .before .before in
+    let a = c₃ .args in
+    let l = c₂ .before .loop in
+    let e = c₁ .before .before .escape in
+    let x = next-byte (a .strings) (a .text .now) (l .i) (e .result) (c₂ .loop-test .taken) (e .ensures .0) (e .ensures .1) (c₁ .enum-told .given .1) in
     let p = c .before .before .put in
     (search needs, filled-put (l .inv .1) x (p .last .1 .0) (p .result) (p .ensures .0) (p .ensures .1))
 
@@ -136,7 +169,9 @@ same-length : tie.Need-same-length Inv-loop μ-loop
 same-length c = search needs
 
 returns : tie.Need-returns Inv-loop μ-loop
-returns c = let a = c .before .before .before .before .args in
+returns c =
+    let c₁ = c .before .before .before .before in
+    let a = c₁ .args in
     let f = rw (encode-end (contextIn (a .strings)) (a .text .now) (c .before .loop .i) (c .loop-test .left)) at (c .before .loop .inv .1) in
     (omega (arith, f .sum), filled-end f)
 

@@ -1,5 +1,5 @@
--- `strings::growth::gained` meets its contract: in a style sheet the bytes grow by themselves, less one for each NUL; in a script three more for each line separator, of which
--- there is none where E2 does not stand.
+-- `strings::growth::gained` meets its contract: in a style sheet the bytes grow by themselves, less one for each NUL; in a script three more for
+-- each line separator, of which there is none where E2 does not stand.
 -- Assumes nothing.
 use mathlib.Core.Path.{sym, _∙_}
 use native.Mathlib.Omega.{arith}
@@ -18,8 +18,11 @@ weigh-requires : tie.Need-weigh-requires
 weigh-requires c κs = search needs
 
 sub-result : tie.Need-sub-result
-sub-result c = let a = c .before .before .before .before .before .before .args in
-    let e = rw (c .before .before .before .before .single-key .ensures, c .before .before .before .double-key .ensures) at (c .before .weigh .ensures .0) in
+sub-result c =
+    let c₁ = c .before .before .before in
+    let c₂ = c₁ .before .before .before in
+    let a = c₂ .args in
+    let e = rw (c₁ .before .single-key .ensures, c₁ .double-key .ensures) at (c .before .weigh .ensures .0) in
     let g = gained-style (a .strings) (a .part .now) (c .before .weigh .result .growth) e (c .before .before .if1 .taken) (c .before .weigh .result .odd) (c .before .weigh .ensures .1) in
     g .0
 
@@ -27,8 +30,11 @@ cast-result : tie.Need-cast-result
 cast-result c = search needs
 
 returns : tie.Need-returns
-returns c = let a = c .before .before .before .before .before .before .args in
-    let e = rw (c .before .before .before .before .single-key .ensures, c .before .before .before .double-key .ensures) at (c .before .weigh .ensures .0) in
+returns c =
+    let c₁ = c .before .before .before in
+    let c₂ = c₁ .before .before .before in
+    let a = c₂ .args in
+    let e = rw (c₁ .before .single-key .ensures, c₁ .double-key .ensures) at (c .before .weigh .ensures .0) in
     let g = gained-style (a .strings) (a .part .now) (c .before .weigh .result .growth) e (c .before .before .if1 .taken) (c .before .weigh .result .odd) (c .before .weigh .ensures .1) in
     g .1
 
@@ -39,10 +45,13 @@ cast-growth : tie.Need-cast-growth
 cast-growth c = search needs
 
 returns-2 : tie.Need-returns-2
-returns-2 c = let a = c .before .before .before .before .before .before .before .before .args in
-    let e = rw (c .before .before .before .before .before .before .single-key .ensures, c .before .before .before .before .before .double-key .ensures) at (c .before .before .before .weigh2 .ensures .0) in
-    let z = lead-free (a .part .now) (sym (c .before .before .before .weigh2 .ensures .1) ∙ c .if2 .taken) in
-    let g = gained-script (a .strings) (a .part .now) (c .before .before .before .weigh2 .result .growth) e (c .before .before .before .before .if1 .left) 0 (sym z) in
+returns-2 c =
+    let c₁ = c .before .before .before in
+    let c₂ = c₁ .before .before .before in
+    let a = c₂ .before .before .args in
+    let e = rw (c₂ .single-key .ensures, c₁ .before .before .double-key .ensures) at (c₁ .weigh2 .ensures .0) in
+    let z = lead-free (a .part .now) (sym (c₁ .weigh2 .ensures .1) ∙ c .if2 .taken) in
+    let g = gained-script (a .strings) (a .part .now) (c₁ .weigh2 .result .growth) e (c₁ .before .if1 .left) 0 (sym z) in
     omega arith
 
 separators-requires : tie.Need-separators-requires
@@ -52,12 +61,17 @@ mul-result : tie.Need-mul-result
 mul-result c = omega (arith, c .separators .ensures .1)
 
 add-result : tie.Need-add-result
-add-result c = omega (arith, c .before .before .before .before .weigh2 .ensures .2, c .separators .ensures .1)
+add-result c =
+    let c₁ = c .before .before .before .before in
+    omega (arith, c₁ .weigh2 .ensures .2, c .separators .ensures .1)
 
 returns-3 : tie.Need-returns-3
-returns-3 c = let a = c .before .before .before .before .before .before .before .before .before .args in
-    let e = rw (c .before .before .before .before .before .before .before .single-key .ensures, c .before .before .before .before .before .before .double-key .ensures) at (c .before .before .before .before .weigh2 .ensures .0) in
-    let g = gained-script (a .strings) (a .part .now) (c .before .before .before .before .weigh2 .result .growth) e (c .before .before .before .before .before .if1 .left) (c .separators .result) (c .separators .ensures .0) in
+returns-3 c =
+    let c₁ = c .before .before .before .before in
+    let c₂ = c₁ .before .before .before in
+    let a = c₂ .before .before .args in
+    let e = rw (c₂ .single-key .ensures, c₁ .before .before .double-key .ensures) at (c₁ .weigh2 .ensures .0) in
+    let g = gained-script (a .strings) (a .part .now) (c₁ .weigh2 .result .growth) e (c₁ .before .if1 .left) (c .separators .result) (c .separators .ensures .0) in
     g
 
 pub gained-spec : {M : Type 1} → statement M

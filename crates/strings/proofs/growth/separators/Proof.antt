@@ -1,4 +1,5 @@
--- `strings::growth::separators` meets its contract: the invariant: what is counted, with what stands from here on, is the whole count. The measure is what is left of the part.
+-- `strings::growth::separators` meets its contract. The invariant: what is counted, with what stands from here on, is the whole count. The measure
+-- is what is left of the part.
 -- Assumes nothing.
 use mathlib.Core.Logic.{⊎-elim}
 use mathlib.Core.Bool.{true, false}
@@ -53,8 +54,10 @@ loop-less : tie.Need-loop-less Inv-loop μ-loop
 loop-less c = search needs
 
 loop-again : tie.Need-loop-again Inv-loop μ-loop
-loop-again c = let s = c .before .before .before .before .before .args .part .now in
-    let i = c .before .before .before .loop .i in
+loop-again c =
+    let c₁ = c .before .before .before in
+    let s = c₁ .before .before .args .part .now in
+    let i = c₁ .loop .i in
     let h = c .before .before .loop-test .taken in
     ⊎-elim
     (λ w. (search needs, omega (arith, separators-lead s i h true (w .0 .taken) (sym (w .3 .ensures) ∙ w .4 .taken)), omega arith))
@@ -64,7 +67,8 @@ loop-again c = let s = c .before .before .before .before .before .args .part .no
     (c .if1 .came)
 
 returns : tie.Need-returns Inv-loop μ-loop
-returns c = let s = c .before .before .before .args .part .now in
+returns c =
+    let s = c .before .before .before .args .part .now in
     let i = c .before .loop .i in
     let l : length s ≤ i + 2 = c .loop-test .left in
     (omega (arith, separators-none (drop i s) (rw length-drop (omega arith))), search needs)

@@ -1,4 +1,5 @@
--- `strings::growth::weigh` meets its contract: the invariant: each sum so far, with that of the bytes from here on, is the whole sum. The measure is what is left of the part.
+-- `strings::growth::weigh` meets its contract. The invariant: each sum so far, with that of the bytes from here on, is the whole sum. The measure is
+-- what is left of the part.
 -- Assumes nothing.
 use mathlib.Core.Path.{_≡_}
 use Prim.Native.Nat.{_+_, _-_, _*_, _≤_}
@@ -46,8 +47,13 @@ loop-less : tie.Need-loop-less Inv-loop μ-loop
 loop-less c = search needs
 
 loop-again : tie.Need-loop-again Inv-loop μ-loop
-loop-again c = let a = c .before .before .before .before .before .before .args in let l = c .before .before .before .before .loop in let s = a .part .now in
-    let h = c .before .before .before .loop-test .taken in (
+loop-again c =
+    let c₁ = c .before .before .before in
+    let c₂ = c₁ .before .before .before in
+    let a = c₂ .args in
+    let l = c₁ .before .loop in
+    let s = a .part .now in
+    let h = c₁ .loop-test .taken in (
       search needs,
       omega (arith, total-more (gainOf (a .single) (a .double)) s (l .i) h, c .before .gain .ensures .0),
       omega (arith, total-more (sameOf (a .odd)) s (l .i) h, c .same .ensures .0),
@@ -56,7 +62,10 @@ loop-again c = let a = c .before .before .before .before .before .before .args i
     )
 
 returns : tie.Need-returns Inv-loop μ-loop
-returns c = let a = c .before .before .before .args in let l = c .before .loop in let s = a .part .now in
+returns c =
+    let a = c .before .before .before .args in
+    let l = c .before .loop in
+    let s = a .part .now in
     let h = c .loop-test .left in (
       omega (arith, total-none (gainOf (a .single) (a .double)) s (l .i) h),
       omega (arith, total-none (sameOf (a .odd)) s (l .i) h),
