@@ -1,20 +1,20 @@
 -- A part whose bytes fit, each after the three before it, is a text and then the bytes of a character that is unfinished: by its characters, each
 -- read off its first byte.
 -- Assumes nothing.
-use mathlib.Core.Bool.{Bool, true, false, cond}
+use mathlib.Core.Bool.{Bool, true, false, cond, _&&_, _||_, and-eq-true-iff}
 use mathlib.Core.Path.{_≡_, refl, sym, ap, _∙_, subst}
 use mathlib.Core.List.{List, [], _∷_, _++_, append-assoc}
 use Prim.Native.Nat.{ℕ, zero, suc, _+_, _-_, _≤_, _<_}
 use native.Mathlib.Nat.{le-of-suc-le-suc, not-suc-le-zero}
 use native.Mathlib.Omega.{arith}
 use borrow.Author.Tests.{lt-ltb, le-ltb, le-leb, lt-leb, ne-eqb, ltb-true, ltb-false}
-use lib.Dec.{T, eqb, leb, ltb, leb→le, eqb·suc-zero}
+use lib.Dec.{T, eqb, leb, ltb, leb→le}
 use lib.ListN.{length, take, drop, getD, length-append}
 use lib.Seq.{take-at}
 use Rattle.rules.specs.Bytes.{inside}
 use Rattle.rules.specs.Utf8.{IsChar, IsText}
 use Rattle.rules.proofs.Tests.{and-right}
-use Rattle.utf8.specs.Check.{isStart, onward, tailsOf, pending, fitsAfter, AllFit, pendingIn}
+use Rattle.utf8.specs.Check.{isStart, onward, tailsOf, isOpen, pending, fitsAfter, headsFit, AllFit, pendingIn}
 use Rattle.utf8.proofs.Chars.{cond-most, lead-byte, char-of}
 use Rattle.utf8.proofs.Texts.{no-text, char-text}
 
@@ -61,13 +61,22 @@ pending2 a b c p q = rw (lt-leb 0xC0 c (omega arith), le-leb 0xE0 b q)
 pending3 : (a b c : ℕ) → c ≤ 0xBF → b ≤ 0xBF → 0xF0 ≤ a → pending a b c ≡ 3
 pending3 a b c p q r = rw (lt-leb 0xC0 c (omega arith), lt-leb 0xE0 b (omega arith), le-leb 0xF0 a r)
 
+open-pending : (a b c : ℕ) → isOpen a b c ≡ ltb 0 (pending a b c)
+open-pending a b c = go (leb 0xC0 c) (leb 0xE0 b) (leb 0xF0 a)
+  where
+    go : (x y z : Bool) → (x || y || z) ≡ ltb 0 (cond x 1 (cond y 2 (cond z 3 0)))
+    go true y z = refl
+    go false true z = refl
+    go false false true = refl
+    go false false false = refl
+
 fits-start : (a b c d : ℕ) → pending a b c ≡ 0 → fitsAfter a b c d ≡ true → isStart d ≡ true
 unfolding fitsAfter
-fits-start a b c d e f = rw e at f
+fits-start a b c d e f = rw (open-pending, e) at f
 
 fits-on : (a b c d k : ℕ) → pending a b c ≡ suc k → fitsAfter a b c d ≡ true → inside (onward c) d ≡ true
 unfolding fitsAfter
-fits-on a b c d k e f = rw (e, eqb·suc-zero) at f
+fits-on a b c d k e f = rw (open-pending, e, lt-ltb 0 (suc k) (omega arith)) at f
 
 -- ---- the part
 
@@ -200,9 +209,11 @@ all-from a b c [] f = tt
 all-from a b c (d ∷ w) f = (f 0 (omega arith), all-from b c d w (λ k h. f (suc k) (omega arith)))
 
 -- Bytes that fit, place by place, are a part that fits.
-pub all-fit : (w : List ℕ) → 3 ≤ length w → fitsAfter 0 0 0 (getD w 0 0) ≡ true → fitsAfter 0 0 (getD w 0 0) (getD w 1 0) ≡ true
-    → fitsAfter 0 (getD w 0 0) (getD w 1 0) (getD w 2 0) ≡ true → ((k : ℕ) → k + 3 < length w → FitsAt w k) → AllFit 0 0 0 w
-all-fit [] h p q r f = absurd (omega arith)
-all-fit (x ∷ []) h p q r f = absurd (omega arith)
-all-fit (x ∷ y ∷ []) h p q r f = absurd (omega arith)
-all-fit (x ∷ y ∷ z ∷ w) h p q r f = (p, (q, (r, all-from x y z w (λ k l. f k (omega arith)))))
+pub all-fit : (w : List ℕ) → 3 ≤ length w → headsFit w ≡ true → ((k : ℕ) → k + 3 < length w → FitsAt w k) → AllFit 0 0 0 w
+all-fit [] h e f = absurd (omega arith)
+all-fit (x ∷ []) h e f = absurd (omega arith)
+all-fit (x ∷ y ∷ []) h e f = absurd (omega arith)
+all-fit (x ∷ y ∷ z ∷ w) h e f =
+    let (p, r) = and-eq-true-iff (fitsAfter 0 0 0 x && fitsAfter 0 0 x y) (fitsAfter 0 x y z) .0 e in
+    let (p, q) = and-eq-true-iff (fitsAfter 0 0 0 x) (fitsAfter 0 0 x y) .0 p in
+    (p, (q, (r, all-from x y z w (λ k l. f k (omega arith)))))

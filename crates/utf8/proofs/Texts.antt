@@ -96,13 +96,5 @@ text-part t i n h u v =
     let e : i + (n - i) ≡ n = omega arith in
     rw (← e, take-add) (text-append (take i t) (take (n - i) (drop i t)) u v)
 
--- What a part of the text says, said of the text from i on.
-pub part-ahead : (t : List ℕ) (i k n : ℕ) → n ≤ k → IsText (take n (take k (drop i t))) → IsText (take (i + n - i) (drop i t))
-part-ahead t i k n h u = let e : i + n - i ≡ n = omega arith in rw (e, ← take-take n k (drop i t) h) u
-
-pub head-ahead : (t : List ℕ) (i n : ℕ) → n ≡ length (takes (charStep 0 (take (length t - i) (drop i t))))
-    → IsText (take (i + n - i) (drop i t)) × (i + n ≡ i → Ends (drop i t))
-head-ahead t i n h =
-    let e : i + n - i ≡ n = omega arith in
-    let s : n ≡ length (takes (charStep 0 (drop i t))) = rw lent-rest at h in
-    (rw e (head-text (drop i t) n s), λ q. sym s ∙ omega arith)
+pub text-more : (t : List ℕ) (i k n : ℕ) → n ≤ k → IsText (take i t) → IsText (take n (take k (drop i t))) → IsText (take (i + n) t)
+text-more t i k n h u v = rw take-add (text-append (take i t) (take n (drop i t)) u (rw take-take at v))

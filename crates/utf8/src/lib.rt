@@ -1,34 +1,25 @@
 // How far a text is valid UTF-8, and the character that stands at its head. A text is read by parts: 128 bytes that are all ASCII, or 227 bytes
 // each of which fits after the three before it, are passed in loops with no exit; what is left is read character by character.
 ghost use mathlib.Core.Path.{_≡_};
-ghost use Prim.Native.Nat.{ℕ, suc, _-_, _≤_, _<_};
+ghost use Prim.Native.Nat.{ℕ, suc, _≤_, _<_};
 ghost use lib.ListN.{length, take, drop, getD};
 ghost use Rattle.rules.specs.Bytes.{fits, inside};
 ghost use Rattle.rules.specs.Moves.{takes};
 ghost use Rattle.rules.specs.Utf8.{IsText, charStep, validTo};
-ghost use Rattle.utf8.specs.Check.{isStart, onward, tailsOf, fitsAfter, AllFit, pendingIn};
+ghost use Rattle.utf8.specs.Check.{isStart, onward, tailsOf, isOpen, fitsAfter, headsFit, AllFit, pendingIn};
 
 // Whether a byte can start a character.
 fn is_start(d: u8) -> bool
     ensures { λ r. ⌜ r ≡ isStart d ⌝ }
 {
-    if d < 128 {
-        return true;
-    }
-    if d < 194 {
-        return false;
-    }
-    d <= 244
+    (d < 128) | ((194 <= d) & (d <= 244))
 }
 
 // Whether a byte is from `lo` to `hi`.
 fn is_within(lo: u8, hi: u8, d: u8) -> bool
     ensures { λ r. ⌜ r ≡ inside (lo, hi) d ⌝ }
 {
-    if d < lo {
-        return false;
-    }
-    d <= hi
+    (lo <= d) & (d <= hi)
 }
 
 // The least byte that goes on after the byte `c` of a character.
@@ -73,19 +64,15 @@ fn has_tails(rest: &[u8], n: usize) -> bool
     requires { ⌜ (128 ≤ getD (now rest) 0 0) × (n ≡ suc (length (tailsOf (getD (now rest) 0 0)))) × (2 ≤ n) × (n ≤ 4) × (n ≤ length (now rest)) ⌝ }
     ensures { λ r. ⌜ r ≡ fits inside (tailsOf (getD (now (rest .entry)) 0 0)) (drop 1 (now (rest .entry))) ⌝ }
 {
-    if !goes_on(rest[0], rest[1]) {
-        return false;
-    }
+    let two = goes_on(rest[0], rest[1]);
     if n == 2 {
-        return true;
+        return two;
     }
-    if !is_within(128, 191, rest[2]) {
-        return false;
-    }
+    let three = two & is_within(128, 191, rest[2]);
     if n == 3 {
-        return true;
+        return three;
     }
-    is_within(128, 191, rest[3])
+    three & is_within(128, 191, rest[3])
 }
 
 // How many bytes the character at the head of `rest` has, 0 where none stands there.
@@ -112,36 +99,37 @@ pub fn sequence(rest: &[u8]) -> usize
     0
 }
 
-// Whether the byte `d` fits after `a`, `b` and `c`: it goes on with their last character where that is unfinished, else it starts one.
+// Whether the last character of the bytes `a`, `b` and `c` is unfinished.
+fn is_open(a: u8, b: u8, c: u8) -> bool
+    ensures { λ r. ⌜ r ≡ isOpen a b c ⌝ }
+{
+    (192 <= c) | (224 <= b) | (240 <= a)
+}
+
+// Whether the byte `d` fits after them: it goes on with a character that is unfinished, else it starts one.
 fn is_fit(a: u8, b: u8, c: u8, d: u8) -> bool
     ensures { λ r. ⌜ r ≡ fitsAfter a b c d ⌝ }
 {
-    let on = goes_on(c, d);
-    let new = is_start(d);
-    if 192 <= c {
-        return on;
+    if is_open(a, b, c) {
+        return goes_on(c, d);
     }
-    if 224 <= b {
-        return on;
-    }
-    if 240 <= a {
-        return on;
-    }
-    new
+    is_start(d)
 }
 
-// How many bytes of a part do not fit after the three before them; 1 where one of the first three does not.
+// Whether the first three bytes of a part fit where nothing comes before them.
+fn heads_fit(part: &[u8]) -> bool
+    requires { ⌜ 3 ≤ length (now part) ⌝ }
+    ensures { λ r. ⌜ r ≡ headsFit (now (part .entry)) ⌝ }
+{
+    is_fit(0, 0, 0, part[0]) & is_fit(0, 0, part[0], part[1]) & is_fit(0, part[0], part[1], part[2])
+}
+
+// How many bytes of a part do not fit after the three before them; 1 where one of its first three does not.
 fn misfits(part: &[u8]) -> u8
     requires { ⌜ (3 ≤ length (now part)) × (length (now part) ≤ 227) ⌝ }
     ensures { λ r. ⌜ (r ≡ 0 → AllFit 0 0 0 (now (part .entry))) ⌝ }
 {
-    if !is_fit(0, 0, 0, part[0]) {
-        return 1;
-    }
-    if !is_fit(0, 0, part[0], part[1]) {
-        return 1;
-    }
-    if !is_fit(0, part[0], part[1], part[2]) {
+    if !heads_fit(part) {
         return 1;
     }
     let mut n: u8 = 0;
@@ -200,26 +188,40 @@ fn highs(part: &[u8]) -> u8
     n
 }
 
-// A place after `i` up to which the text goes on valid, or `i` where no character stands there.
+// A place from `i` on up to which the text is still valid, found in a part: its end where all is ASCII, or about its end where each byte fits.
+// Where neither holds, or the text has too few bytes left for the second, it is `i`.
 fn ahead(text: &[u8], i: usize) -> usize
-    requires { ⌜ i < length (now text) ⌝ }
-    ensures { λ r. ⌜ (i ≤ r) × (r ≤ length (now (text .entry))) × IsText (take (r - i) (drop i (now (text .entry)))) × (r ≡ i → length (takes (charStep 0 (drop i (now (text .entry))))) ≡ 0) ⌝ }
+    requires { ⌜ (i < length (now text)) × IsText (take i (now text)) ⌝ }
+    ensures { λ r. ⌜ (i ≤ r) × (r ≤ length (now (text .entry))) × IsText (take r (now (text .entry))) ⌝ }
 {
     let e = parts::clip(i, text.len(), 128);
     if highs(&text[i..e]) == 0 {
         return e;
     }
     let f = parts::clip(i, text.len(), 227);
-    if 8 <= f - i {
-        let n = fitting(&text[i..f]);
-        if 0 < n {
-            return i + n;
-        }
+    if f - i < 35 {
+        return i;
     }
-    i + sequence(&text[i..])
+    i + fitting(&text[i..f])
 }
 
-// The length of the longest valid prefix.
+// The length of the longest valid prefix, of which the first `i` bytes are known: read character by character.
+fn plain_to(text: &[u8], i: usize) -> usize
+    requires { ⌜ (i ≤ length (now text)) × IsText (take i (now text)) ⌝ }
+    ensures { λ r. ⌜ (r ≡ validTo (now (text .entry))) × (r ≤ length (now (text .entry))) ⌝ }
+{
+    let mut k = i;
+    while k < text.len() {
+        let n = sequence(&text[k..]);
+        if n == 0 {
+            return k;
+        }
+        k += n;
+    }
+    k
+}
+
+// The length of the longest valid prefix: by parts as far as they go, then plainly.
 pub fn valid_to(text: &[u8]) -> usize
     ensures { λ r. ⌜ (r ≡ validTo (now (text .entry))) × (r ≤ length (now (text .entry))) ⌝ }
 {
@@ -227,7 +229,7 @@ pub fn valid_to(text: &[u8]) -> usize
     while i < text.len() {
         let n = ahead(text, i);
         if n == i {
-            return i;
+            return plain_to(text, i);
         }
         i = n;
     }
