@@ -10,4 +10,6 @@ pub mod Decoder
 pub mod Growth
 pub mod Whole
 pub mod Laws
+pub mod Refused
+pub mod Calls
 pub mod Loops
