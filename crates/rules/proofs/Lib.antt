@@ -12,4 +12,5 @@ pub mod Whole
 pub mod Laws
 pub mod Refused
 pub mod Calls
+pub mod Examples
 pub mod Loops
