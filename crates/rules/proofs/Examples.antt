@@ -13,7 +13,7 @@ use Rattle.rules.specs.Operations.{decodeStep}
 use Rattle.rules.specs.Refusals.{caseOf}
 use Rattle.rules.specs.Program.{entityOf}
 use Rattle.rules.specs.Examples.{holdsIn, holds, starred, rest}
-use Rattle.rules.specs.Edges.{characters, validUpTo, encoders, writeFrom, closesAt, edges, copying, borrowing, digest, namesDigest, sessions, answers}
+use Rattle.rules.specs.Edges.{characters, validUpTo, encoders, writeFrom, closesAt, edges, copying, borrowing, digest, namesDigest, papers, readsAs, sessions, answers}
 
 -- The starred examples, 1 to 12.
 pub starred-hold : T (all holds starred)
@@ -48,6 +48,9 @@ kinds-hold = tt
 pub names-digest : T (eqb (digest names) namesDigest)
 unfolding names
 names-digest = tt
+
+pub papers-read : T (all readsAs papers)
+papers-read = tt
 
 pub program-answers : T (all answers sessions)
 unfolding charStep encodeStep rawStep readStep names referenceStep browseStep decodeStep caseOf contextOf entityOf

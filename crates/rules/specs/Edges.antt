@@ -7,11 +7,13 @@ use Prim.Native.Nat.{ℕ, suc, _+_, _-_, _*_, _%_}
 use lib.Dec.{eqb}
 use lib.ListN.{length as size}
 use Rattle.rules.specs.Bytes.{ascii, count, join, only, all, oneOf, sameBytes}
+use Rattle.rules.specs.Moves.{Move, keep, swap, stop}
 use Rattle.rules.specs.Utf8.{validTo}
 use Rattle.rules.specs.Contexts.{Label, label, contextOf}
 use Rattle.rules.specs.Tables.{Row, key, value}
 use Rattle.rules.specs.Encoding.{closes}
 use Rattle.rules.specs.Refusals.{answer}
+use Rattle.rules.specs.Answers.{referenceMove, escapeMove, replacementMove}
 use Rattle.rules.specs.Program.{printed, entityOf}
 use Rattle.rules.specs.Examples.{Example, passesIn, example, stays, refusedIn, refused, holdsIn, holds}
 use Rattle.rules.specs.declared.Html.the-variants.{TextMinimal, Text, DoubleQuoted, SingleQuoted, Quoted, Safe, Unquoted}
@@ -21,6 +23,10 @@ use Rattle.rules.specs.declared.Named.{Named}
 use Rattle.rules.specs.declared.Named.the-variants.{Units, ScriptRaw, Unknown}
 use Rattle.rules.specs.declared.Operation.{Operation}
 use Rattle.rules.specs.declared.Operation.the-variants.{Encode, Decode, Read, Browse}
+use Rattle.rules.specs.declared.DecodedEntityValue.the-variants.{Named as NamedText, Character}
+use Rattle.rules.specs.declared.Reference.the-variants.{Found, Nothing as NoReference}
+use Rattle.rules.specs.declared.Escape.the-variants.{Taken, Nothing as NoEscape}
+use Rattle.rules.specs.declared.Replacement.the-variants.{Slashed, Hex, Separator, Substitute, Nothing as NoReplacement}
 
 -- ---- characters
 
@@ -334,6 +340,41 @@ digest table = digestOf 0 (join (map (λ (row : Row). key row ++ 0 ∷ value row
 -- What it is.
 abbrev pub namesDigest : ℕ
 namesDigest = 361911062
+
+-- ---- answers that are enums
+
+-- Two moves are the same.
+abbrev pub sameMove : Move → Move → Bool
+sameMove (keep a) (keep b) = sameBytes a b
+sameMove (keep a) (swap b y) = false
+sameMove (keep a) stop = false
+sameMove (swap a x) (keep b) = false
+sameMove (swap a x) (swap b y) = sameBytes a b && sameBytes x y
+sameMove (swap a x) stop = false
+sameMove stop (keep b) = false
+sameMove stop (swap b y) = false
+sameMove stop stop = true
+
+-- A case of an enum, read on paper, and the move that it is.
+abbrev pub papers : List (Move × Move)
+papers =
+    (replacementMove false (ascii "'a") Slashed, swap (ascii "'") (ascii "\\'"))
+    ∷ (replacementMove false (0x1F ∷ []) Hex, swap (0x1F ∷ []) (ascii "\\x1F"))
+    ∷ (replacementMove true (0x1F ∷ []) Hex, swap (0x1F ∷ []) (ascii "\\1F "))
+    ∷ (replacementMove false (0xE2 ∷ 0x80 ∷ 0xA8 ∷ ascii "a") Separator, swap (0xE2 ∷ 0x80 ∷ 0xA8 ∷ []) (ascii "\\u2028"))
+    ∷ (replacementMove false (0xE2 ∷ 0x80 ∷ 0xA9 ∷ ascii "a") Separator, swap (0xE2 ∷ 0x80 ∷ 0xA9 ∷ []) (ascii "\\u2029"))
+    ∷ (replacementMove true (0x00 ∷ ascii "a") Substitute, swap (0x00 ∷ []) (0xEF ∷ 0xBF ∷ 0xBD ∷ []))
+    ∷ (replacementMove true (ascii "ab") NoReplacement, keep (ascii "a"))
+    ∷ (escapeMove (ascii "\\u2028a") (Taken 6 0x2028), swap (ascii "\\u2028") (0xE2 ∷ 0x80 ∷ 0xA8 ∷ []))
+    ∷ (escapeMove (ascii "\\a") NoEscape, keep (ascii "\\"))
+    ∷ (referenceMove (ascii "a&nGt;b") 1 (Found (record { start = 1; end = 6; value = NamedText 0x9283E2AB89E2 })), swap (ascii "&nGt;") (0xE2 ∷ 0x89 ∷ 0xAB ∷ 0xE2 ∷ 0x83 ∷ 0x92 ∷ []))
+    ∷ (referenceMove (ascii "a&#65;b") 1 (Found (record { start = 1; end = 6; value = Character 65 })), swap (ascii "&#65;") (ascii "A"))
+    ∷ (referenceMove (ascii "a&;b") 1 NoReference, keep (ascii "&"))
+    ∷ []
+
+-- It is.
+abbrev pub readsAs : Move × Move → Bool
+readsAs e = sameMove (e .0) (e .1)
 
 -- ---- forms
 
