@@ -1,9 +1,10 @@
 -- The examples hold, each table under one statement, by computing.
 -- Assumes nothing.
 use mathlib.Core.Bool.{true, false, _&&_}
+use Prim.Native.Nat.{ℕ}
 use lib.Dec.{T, eqb}
 use Rattle.rules.specs.Bytes.{count, all}
-use Rattle.rules.specs.Utf8.{charStep}
+use Rattle.rules.specs.Utf8.{sequences, charStep}
 use Rattle.rules.specs.Contexts.{contextOf}
 use Rattle.rules.specs.Encoding.{encodeStep, rawStep}
 use Rattle.rules.specs.Reading.{readStep}
@@ -13,7 +14,7 @@ use Rattle.rules.specs.Operations.{decodeStep}
 use Rattle.rules.specs.Refusals.{caseBy}
 use Rattle.rules.specs.Program.{entityOf}
 use Rattle.rules.specs.Examples.{holdsIn, holds, starred, rest}
-use Rattle.rules.specs.Edges.{characters, validUpTo, encoders, writeFrom, closesAt, edges, copying, borrowing, digest, namesDigest, papers, readsAs, sessions, answers}
+use Rattle.rules.specs.Edges.{characters, validUpTo, longByOnes, encoders, writeFrom, closesAt, edges, copying, borrowing, digest, namesDigest, papers, readsAs, sessions, answers}
 
 -- The starred examples, 1 to 12.
 pub starred-hold : T (all holds starred)
@@ -29,6 +30,9 @@ rest-hold = tt
 pub characters-valid : T (all validUpTo characters)
 unfolding charStep
 characters-valid = tt
+
+pub ones-lead : T (all (λ (b : ℕ). all (longByOnes b) sequences) (count 0 256))
+ones-lead = tt
 
 pub contexts-write : T (writeFrom 0 encoders)
 unfolding charStep encodeStep rawStep readStep names referenceStep browseStep decodeStep caseBy contextOf entityOf

@@ -1,12 +1,12 @@
 -- 17. Not in document 01: its rules at their edges, so that a slip in the data above is refused. What encode and decode give here is what
 -- the Rust gives; the rest is read off the document by hand.
 -- Assumes nothing.
-use mathlib.Core.Bool.{Bool, true, false, _&&_, cond}
+use mathlib.Core.Bool.{Bool, true, false, not, _&&_, _||_, cond}
 use mathlib.Core.List.{List, [], _∷_, _++_, map}
-use Prim.Native.Nat.{ℕ, suc, _+_, _-_, _*_, _%_}
-use lib.Dec.{eqb}
+use Prim.Native.Nat.{ℕ, zero, suc, _+_, _-_, _*_, _%_}
+use lib.Dec.{leb, eqb}
 use lib.ListN.{length as size}
-use Rattle.rules.specs.Bytes.{ascii, count, join, only, all, oneOf, sameBytes}
+use Rattle.rules.specs.Bytes.{ascii, count, join, only, all, Range, inside, oneOf, sameBytes}
 use Rattle.rules.specs.Moves.{Move, keep, swap, stop}
 use Rattle.rules.specs.Utf8.{validTo}
 use Rattle.rules.specs.Contexts.{Label, label, contextOf}
@@ -126,6 +126,16 @@ characters =
 -- The length is right.
 abbrev pub validUpTo : List ℕ × ℕ → Bool
 validUpTo e = eqb (validTo (e .0)) (e .1)
+
+-- How many one-bits a byte starts with, of its k highest.
+abbrev pub onesOf : ℕ → ℕ → ℕ
+onesOf zero b = 0
+onesOf (suc k) b = cond (leb 128 b) (suc (onesOf k (b * 2 % 256))) 0
+
+-- A sequence whose first range has the byte is as long as it starts with one-bits; one byte where it starts with none.
+abbrev pub longByOnes : ℕ → List Range → Bool
+longByOnes b [] = false
+longByOnes b (q ∷ qs) = not (inside q b) || eqb (size (q ∷ qs)) (cond (eqb (onesOf 8 b) 0) 1 (onesOf 8 b))
 
 -- ---- encoders
 
