@@ -5,6 +5,7 @@ pub mod Chars
 pub mod Tables
 pub mod Valid
 pub mod Every
+pub mod EveryByte
 pub mod Encoder
 pub mod Decoder
 pub mod Growth
@@ -13,3 +14,4 @@ pub mod Laws
 pub mod Refused
 pub mod Calls
 pub mod Loops
+pub mod Bytewise
