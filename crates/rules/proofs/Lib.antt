@@ -5,6 +5,7 @@ pub mod Chars
 pub mod Tables
 pub mod Valid
 pub mod Every
+pub mod EveryByte
 pub mod Encoder
 pub mod Decoder
 pub mod Growth
@@ -14,3 +15,4 @@ pub mod Refused
 pub mod Calls
 pub mod Examples
 pub mod Loops
+pub mod Bytewise
