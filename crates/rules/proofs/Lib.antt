@@ -5,9 +5,14 @@ pub mod Chars
 pub mod Tables
 pub mod Valid
 pub mod Every
+pub mod EveryByte
 pub mod Encoder
 pub mod Decoder
 pub mod Growth
 pub mod Whole
 pub mod Laws
+pub mod Refused
+pub mod Calls
+pub mod Examples
 pub mod Loops
+pub mod Bytewise

@@ -1,0 +1,90 @@
+-- By how much a byte grows is the sum that the code adds up: one computed test of every byte in every context. And a text grows by what its
+-- bytes and its parts do.
+-- Assumes nothing.
+use mathlib.Core.Bool.{Bool, true, false, not, _||_, cond}
+use mathlib.Core.Path.{_≡_, refl, sym, ap, _∙_}
+use mathlib.Core.List.{List, _++_}
+use Prim.Native.Nat.{ℕ, _+_, _-_, _*_, _≤_, _<_}
+use native.Mathlib.Omega.{arith}
+use lib.Dec.{T, eqb, eqb→eq, ltb}
+use lib.ListN.{length, take, drop, getD, length-append}
+use Rattle.rules.specs.Bytes.{all}
+use Rattle.rules.specs.Tables.{letterOrDigit}
+use Rattle.rules.specs.Encoding.{encodeStep}
+use Rattle.rules.specs.Operations.{encodeOf}
+use Rattle.rules.specs.declared.Html.{Html}
+use Rattle.rules.specs.declared.Html.the-variants.{Unquoted}
+use Rattle.rules.specs.declared.Context.the-variants.{InHtml}
+use Rattle.rules.proofs.EveryByte.{every-byte}
+use Rattle.html.specs.Written.{written, few, unquoted}
+use Rattle.html.specs.Gains.{gainOf, Grows}
+use Rattle.html.proofs.Seven.{html, bytes, seven-bytes, unless, where-true, is-unquoted}
+use Rattle.html.proofs.Text.{written-most, written-some, next-byte, next-part, next-none, part-length}
+
+-- ---- a byte
+
+-- The sum over `&`, `<` and `>`, and that over all six.
+unfoldable pub sum3 : Html → ℕ → ℕ
+sum3 h b = cond (eqb b 38) 4 0 + cond (eqb b 60) 3 0 + cond (eqb b 62) (gainOf h 62) 0
+
+unfoldable pub sum6 : Html → ℕ → ℕ
+sum6 h b = sum3 h b + cond (eqb b 34) (gainOf h 34) 0 + cond (eqb b 39) (gainOf h 39) 0 + cond (eqb b 47) (gainOf h 47) 0
+
+-- The growth of a byte in an unquoted attribute.
+unfoldable pub sumOfAll : ℕ → ℕ
+sumOfAll b = cond (ltb 127 b || letterOrDigit b) 0 (5 - cond (eqb b 38) 1 0 - cond (eqb b 60) 2 0 - cond (eqb b 62) 2 0)
+
+is3 : Html → ℕ → Bool
+is3 h b = not (few h) || eqb (sum3 h b + 1) (length (written h b))
+
+is6 : Html → ℕ → Bool
+is6 h b = unquoted h || eqb (sum6 h b + 1) (length (written h b))
+
+isAll : ℕ → Bool
+isAll b = eqb (sumOfAll b) (gainOf Unquoted b)
+
+pub gain3 : (h : Html) (b : ℕ) → b < 256 → few h ≡ true → sum3 h b + 1 ≡ length (written h b)
+unfolding is3 sum3 written encodeStep
+gain3 h b l e = eqb→eq (sum3 h b + 1) (length (written h b)) (where-true (few h) (eqb (sum3 h b + 1) (length (written h b))) (seven-bytes is3 tt h b l) e)
+
+pub gain6 : (h : Html) (b : ℕ) → b < 256 → unquoted h ≡ false → sum6 h b + 1 ≡ length (written h b)
+unfolding is6 sum3 sum6 written encodeStep
+gain6 h b l e = eqb→eq (sum6 h b + 1) (length (written h b)) (unless (unquoted h) (eqb (sum6 h b + 1) (length (written h b))) (seven-bytes is6 tt h b l) e)
+
+pub gain-all : (b : ℕ) → b < 256 → sumOfAll b ≡ gainOf Unquoted b
+unfolding isAll sumOfAll written encodeStep
+gain-all b l = eqb→eq (sumOfAll b) (gainOf Unquoted b) (every-byte isAll tt b l)
+
+pub gain-unquoted : (h : Html) (b n : ℕ) → unquoted h ≡ true → n ≡ gainOf Unquoted b → n + 1 ≡ length (written h b)
+gain-unquoted h b n e g = rw (is-unquoted h e) (omega (arith, written-some Unquoted b))
+
+-- A byte grows by at most five.
+pub gain-most : (h : Html) (b : ℕ) → gainOf h b ≤ 5
+gain-most h b = omega (arith, written-most h b)
+
+pub gain-is : (h : Html) (b n : ℕ) → n + 1 ≡ length (written h b) → (n + 1 ≡ length (written h b)) × (n ≤ 5)
+gain-is h b n e = (e, omega (arith, written-most h b))
+
+-- ---- a text
+
+-- The first i bytes grow by n: with what is left they are the whole.
+abbrev pub Grown : Html → List ℕ → ℕ → ℕ → Type 0
+Grown h t i n = (i ≤ length t) × (n ≤ 5 * i) × (i + n + length (encodeOf (InHtml h) (drop i t)) ≡ length (encodeOf (InHtml h) t))
+
+module _ (h : Html) (t : List ℕ) where
+  pub grown-start : Grown h t 0 0
+  grown-start = (omega arith, omega arith, omega arith)
+
+  -- One byte more.
+  pub grown-byte : (i n w : ℕ) → i < length t → (w + 1 ≡ length (written h (getD t i 0))) × (w ≤ 5) → Grown h t i n → Grown h t (i + 1) (n + w)
+  grown-byte i n w l e g = (omega arith, omega arith, omega (arith, rw length-append at (ap length (next-byte h t i l .next))))
+
+  -- One part more.
+  pub grown-part : (i e n w : ℕ) → i ≤ e → e ≤ length t → Grows h (take (e - i) (drop i t)) w → Grown h t i n → Grown h t e (n + w)
+  grown-part i e n w l k p g =
+      let s = part-length t i e l k in
+      (k, omega arith, omega (arith, rw length-append at (ap length (next-part h t i e l .next))))
+
+  -- At the end it is the whole.
+  pub grown-end : (i n : ℕ) → length t ≤ i → Grown h t i n → Grows h t n
+  grown-end i n l g = (omega (arith, ap length (next-none h t i l)), omega arith)

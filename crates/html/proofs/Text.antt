@@ -1,0 +1,116 @@
+-- The encoding of a text in an HTML context, byte by byte and part by part.
+-- Assumes nothing.
+use mathlib.Core.Bool.{Bool, true, false}
+use mathlib.Core.Logic.{_⊎_, inl, inr}
+use mathlib.Core.Path.{_≡_, refl, sym, ap, _∙_}
+use mathlib.Core.List.{List, [], _∷_, _++_}
+use Prim.Native.Nat.{ℕ, suc, _+_, _-_, _*_, _≤_, _<_}
+use native.Mathlib.Omega.{arith}
+use native.Mathlib.Numerals.{add-one}
+use lib.Dec.{T, ltb}
+use lib.ListN.{length, take, drop, getD, length-append, length-drop, drop-of-length-le, take-append-drop}
+use lib.Seq.{drop-cons, drop-drop, length-take-le, getD-take, getD-drop}
+use borrow.Author.Tests.{ltb-true, ltb-false}
+use Rattle.rules.specs.Bytes.{all}
+use Rattle.rules.specs.Tables.{table}
+use Rattle.rules.specs.Operations.{encodeOf}
+use Rattle.rules.specs.declared.Html.{Html}
+use Rattle.rules.specs.declared.Context.the-variants.{InHtml}
+use Rattle.rules.proofs.Bytewise.{ofByte, encode-cons, encode-byte, encode-append, encode-same}
+use Rattle.rules.proofs.Growth.{encode-six, encode-sum}
+use Rattle.parts.proofs.Filled.{Next, lent-rest}
+use Rattle.html.specs.Written.{written}
+use Rattle.html.specs.Gains.{Grows, Each, Calm}
+use Rattle.html.proofs.Seven.{html, seven}
+
+-- Every key is one byte.
+bytewise : (h : Html) → T (all ofByte (table (InHtml h)))
+bytewise = seven (λ (h : Html). all ofByte (table (InHtml h))) tt
+
+-- ---- parts of a text
+
+pub drop-next : (t : List ℕ) (i : ℕ) → i < length t → drop i t ≡ getD t i 0 ∷ drop (i + 1) t
+drop-next t i h = rw add-one (drop-cons t i 0 h)
+
+-- A part and what is after it.
+parted : (t : List ℕ) (i e : ℕ) → i ≤ e → take (e - i) (drop i t) ++ drop e t ≡ drop i t
+parted t i e h =
+    let s : e ≡ i + (e - i) = omega arith in
+    let d : drop e t ≡ drop (e - i) (drop i t) = ap (λ (n : ℕ). drop n t) s ∙ sym (drop-drop (e - i) i t) in
+    rw d (take-append-drop (e - i) (drop i t))
+
+pub part-length : (t : List ℕ) (i e : ℕ) → i ≤ e → e ≤ length t → length (take (e - i) (drop i t)) ≡ e - i
+part-length t i e h k = length-take-le (e - i) (drop i t) (rw length-drop (omega arith))
+
+-- What holds of every byte before a part and of every byte of the part.
+pub each-part : (P : ℕ → Type 0) (t : List ℕ) (i e : ℕ) → i ≤ e → e ≤ length t → ((k : ℕ) → k < i → P (getD t k 0)) → Each P (take (e - i) (drop i t))
+    → (k : ℕ) → k < e → P (getD t k 0)
+each-part P t i e h l f g k b = go (ltb k i) refl
+  where
+    go : (x : Bool) → ltb k i ≡ x → P (getD t k 0)
+    go true q = f k (ltb-true k i q)
+    go false q =
+        let m : i ≤ k = ltb-false k i q in
+        let j : i + (k - i) ≡ k = omega arith in
+        let v = g (k - i) (rw (part-length t i e h l) (omega arith)) in
+        rw (getD-take (e - i) (drop i t) (k - i) 0 (omega arith), getD-drop i t (k - i) 0, j) at v
+
+module _ (h : Html) where
+  -- ---- a byte
+
+  pub cons-written : (b : ℕ) (t : List ℕ) → encodeOf (InHtml h) (b ∷ t) ≡ written h b ++ encodeOf (InHtml h) t
+  unfolding written
+  cons-written b t = encode-cons (InHtml h) (bytewise h) b t
+
+  -- At most six bytes are written for one.
+  pub written-most : (b : ℕ) → length (written h b) ≤ 6
+  unfolding written
+  written-most b = encode-six (InHtml h) (b ∷ [])
+
+  -- And at least one.
+  pub written-some : (b : ℕ) → 1 ≤ length (written h b)
+  unfolding written
+  written-some b = go (encode-byte (InHtml h) (bytewise h) b)
+    where
+      go : (encodeOf (InHtml h) (b ∷ []) ≡ b ∷ []) ⊎ (1 < length (encodeOf (InHtml h) (b ∷ []))) → 1 ≤ length (encodeOf (InHtml h) (b ∷ []))
+      go (inl e) = omega (arith, ap length e)
+      go (inr l) = omega arith
+
+  -- ---- a text
+
+  -- What is left is the byte at i, and what is left after it.
+  pub next-byte : (t : List ℕ) (i : ℕ) → i < length t → Next (encodeOf (InHtml h) (drop i t)) (written h (getD t i 0)) (encodeOf (InHtml h) (drop (i + 1) t))
+  next-byte t i l = record { next = rw (drop-next t i l) (cons-written (getD t i 0) (drop (i + 1) t)) }
+
+  -- What is left is a part, and what is left after it.
+  pub next-part : (t : List ℕ) (i e : ℕ) → i ≤ e → Next (encodeOf (InHtml h) (drop i t)) (encodeOf (InHtml h) (take (e - i) (drop i t))) (encodeOf (InHtml h) (drop e t))
+  next-part t i e l = record { next = ap (encodeOf (InHtml h)) (sym (parted t i e l)) ∙ encode-append (InHtml h) (bytewise h) (take (e - i) (drop i t)) (drop e t) }
+
+  -- At the end nothing is left.
+  pub next-none : (t : List ℕ) (i : ℕ) → length t ≤ i → encodeOf (InHtml h) (drop i t) ≡ []
+  next-none t i l = rw (drop-of-length-le t l)
+
+  -- What does not grow is copied.
+  pub same : (t : List ℕ) → length (encodeOf (InHtml h) t) ≡ length t → encodeOf (InHtml h) t ≡ t
+  same t e = encode-same (InHtml h) (bytewise h) t e
+
+  -- A text in two, the rest as it is lent.
+  pub halves : (t : List ℕ) (e : ℕ) → encodeOf (InHtml h) t ≡ encodeOf (InHtml h) (take e t) ++ encodeOf (InHtml h) (take (length t - e) (drop e t))
+  halves t e = ap (encodeOf (InHtml h)) (sym (take-append-drop e t)) ∙ encode-append (InHtml h) (bytewise h) (take e t) (drop e t) ∙ rw (lent-rest e t)
+
+  -- How long the two are; the rest does not shrink.
+  pub half-sizes : (t : List ℕ) (e : ℕ) → (length (encodeOf (InHtml h) (take e t)) + length (encodeOf (InHtml h) (take (length t - e) (drop e t))) ≡ length (encodeOf (InHtml h) t))
+      × (length (take (length t - e) (drop e t)) ≡ length t - e) × (length t - e ≤ length (encodeOf (InHtml h) (take (length t - e) (drop e t))))
+  half-sizes t e =
+      let n : length (take (length t - e) (drop e t)) ≡ length t - e = ap length (lent-rest e t) ∙ length-drop e t in
+      (sym (ap length (halves t e) ∙ length-append (encodeOf (InHtml h) (take e t)) (encodeOf (InHtml h) (take (length t - e) (drop e t)))), n, omega (arith, encode-sum (InHtml h) (take (length t - e) (drop e t))))
+
+  -- The encoding of a text is at most six times its length.
+  pub six : (t : List ℕ) → length (encodeOf (InHtml h) t) ≤ 6 * length t
+  six t = encode-six (InHtml h) t
+
+  -- A calm text does not grow.
+  pub calm-length : (t : List ℕ) → Each (Calm h) t → length (encodeOf (InHtml h) t) ≡ length t
+  calm-length [] f = refl
+  calm-length (b ∷ t) f =
+      rw (cons-written b t, length-append, f 0 (omega arith) .0) (omega (arith, calm-length t (λ k l. f (suc k) (omega arith))))
