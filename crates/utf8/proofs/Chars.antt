@@ -4,10 +4,9 @@
 use mathlib.Core.Bool.{Bool, true, false, cond, _&&_}
 use mathlib.Core.Option.{Option, none, some}
 use mathlib.Core.Path.{_≡_, refl, sym, ap, _∙_, subst}
-use mathlib.Core.List.{List, [], _∷_, _++_}
-use mathlib.Core.Logic.{⊎-elim}
-use Prim.Native.Nat.{ℕ, zero, suc, _+_, _-_, _≤_, _<_}
-use native.Mathlib.Nat.{le-of-suc-le-suc, not-suc-le-zero, eq-or-lt-of-le}
+use mathlib.Core.List.{List, [], _∷_}
+use Prim.Native.Nat.{ℕ, suc, _-_, _≤_, _<_}
+use native.Mathlib.Nat.{le-of-suc-le-suc, not-suc-le-zero}
 use native.Mathlib.Omega.{arith}
 use borrow.Author.Tests.{lt-ltb, le-ltb, le-leb, ltb-true, ltb-false}
 use lib.Count.{leadingZeros}
@@ -18,19 +17,8 @@ use Rattle.rules.specs.Bytes.{all, first, fits, Range, inside}
 use Rattle.rules.specs.Moves.{takes}
 use Rattle.rules.specs.Utf8.{sequences, sequenceAt, keepChar, charStep, IsChar}
 use Rattle.rules.proofs.Tests.{and-left, and-right, first-sound, fits-take, fits-length}
+use Rattle.rules.proofs.EveryByte.{every-byte}
 use Rattle.utf8.specs.Check.{isStart, onward, tailsOf}
-
--- ---- a test of every byte, computed once
-
-abbrev allBelow : (ℕ → Bool) → ℕ → Bool
-allBelow p zero = true
-allBelow p (suc n) = p n && allBelow p n
-
-below : (p : ℕ → Bool) (n : ℕ) → T (allBelow p n) → (k : ℕ) → k < n → T (p k)
-below p zero t k h = absurd (not-suc-le-zero h)
-below p (suc n) t k h =
-    ⊎-elim (λ e. rw e (and-left (p n) (allBelow p n) t)) (λ l. below p n (and-right (p n) (allBelow p n) t) k l)
-    (eq-or-lt-of-le (le-of-suc-le-suc h))
 
 -- ---- two lists are the same, by a test of their entries
 
@@ -61,7 +49,7 @@ follow d [] = []
 follow d ([] ∷ qs) = follow d qs
 follow d ((p ∷ q) ∷ qs) = cond (inside p d) (q ∷ follow d qs) (follow d qs)
 
--- The length of the character that starts with a byte which those may follow, where w comes after it.
+-- The length of the character whose first byte those may follow, where w comes after it; 0 where none fits.
 abbrev reach : List (List Range) → List ℕ → ℕ
 reach [] w = 0
 reach (q ∷ qs) w = cond (fits inside q w) (suc (length q)) (reach qs w)
@@ -70,7 +58,7 @@ abbrev hasByte : List Range → Bool
 hasByte [] = false
 hasByte (p ∷ q) = true
 
--- What is looked for by whole sequences is found by what may follow the first byte.
+-- The character that whole sequences find is as long as what may follow its first byte says.
 reach-first : (d : ℕ) (w : List ℕ) (qs : List (List Range)) → T (all hasByte qs)
     → length (takes (keepChar (first (fits inside) qs (d ∷ w)) (d ∷ w))) ≡ reach (follow d qs) w
 reach-first d w [] t = refl
@@ -103,13 +91,13 @@ follow-tested : (d : ℕ) → d < 256 → follow d sequences ≡ tested d
 unfolding tailsOf
 follow-tested d h =
     same-law (same sameRange) (same-law sameRange same-range) (follow d sequences) (tested d)
-    (below (λ (k : ℕ). same (same sameRange) (follow k sequences) (tested k)) 256 tt d h)
+    (every-byte (λ (b : ℕ). same (same sameRange) (follow b sequences) (tested b)) tt d h)
 
 -- The one-bits that a first byte above ASCII starts with are as many as its character has bytes.
 pub ones-size : (d : ℕ) → 0xC2 ≤ d → d ≤ 0xF4 → leadingZeros 8 (255 - d) ≡ suc (length (tailsOf d))
 unfolding tailsOf leadingZeros
 ones-size d l h =
-    let t = below (λ (k : ℕ). cond (leb 0xC2 k && leb k 0xF4) (eqb (leadingZeros 8 (255 - k)) (suc (length (tailsOf k)))) true) 256 tt d (omega arith) in
+    let t = every-byte (λ (b : ℕ). cond (leb 0xC2 b && leb b 0xF4) (eqb (leadingZeros 8 (255 - b)) (suc (length (tailsOf b)))) true) tt d (omega arith) in
     eqb→eq _ _ (rw (le-leb 0xC2 d l, le-leb d 0xF4 h) at t)
 
 pub cond-most : (b : Bool) (x y n : ℕ) → x ≤ n → y ≤ n → cond b x y ≤ n
@@ -196,11 +184,11 @@ module _ (s : List ℕ) (n : ℕ) (l : 0x80 ≤ getD s 0 0) (e : n ≡ suc (leng
       let k : n - 2 ≡ m = omega (arith, rw (le-ltb d 0x80 l, length-replicate) at e) in
       rw (le-ltb d 0x80 l, k)
 
-  pub second : 1 < length s
+  pub second-tail : 1 < length s
       → fits inside (tailsOf (getD s 0 0)) (drop 1 s) ≡ (inside (onward (getD s 0 0)) (getD s 1 0) && fits inside (replicate (n - 2) (0x80, 0xBF)) (drop 2 s))
-  second h = rw (tails-of, drop-cons s 1 0 h)
+  second-tail h = rw (tails-of, drop-cons s 1 0 h)
 
 -- A byte after the second.
-pub next : (s : List ℕ) (n k : ℕ) → k < n → k < length s
+pub next-tail : (s : List ℕ) (n k : ℕ) → k < n → k < length s
     → fits inside (replicate (n - k) (0x80, 0xBF)) (drop k s) ≡ (inside (0x80, 0xBF) (getD s k 0) && fits inside (replicate (n - suc k) (0x80, 0xBF)) (drop (suc k) s))
-next s n k l h = let e : n - k ≡ suc (n - suc k) = omega arith in rw (e, drop-cons s k 0 h)
+next-tail s n k l h = let e : n - k ≡ suc (n - suc k) = omega arith in rw (e, drop-cons s k 0 h)

@@ -9,7 +9,7 @@ use native.Mathlib.Nat.{le-of-suc-le-suc, not-suc-le-zero}
 use native.Mathlib.Omega.{arith}
 use borrow.Author.Tests.{lt-ltb, le-ltb, le-leb, lt-leb, ne-eqb, ltb-true, ltb-false}
 use lib.Dec.{T, eqb, leb, ltb, leb→le}
-use lib.ListN.{length, take, drop, getD, length-append}
+use lib.ListN.{length, take, getD, length-append}
 use lib.Seq.{take-at}
 use Rattle.rules.specs.Bytes.{inside}
 use Rattle.rules.specs.Utf8.{IsChar, IsText}
@@ -103,6 +103,16 @@ more a w l h c =
 
 module _ (k : ℕ) (ih : (a b c : ℕ) (w : List ℕ) → length w ≤ k → c < 0xC0 → b < 0xE0 → a < 0xF0 → AllFit a b c w → Cut w (pendingIn a b c w))
     (b c d : ℕ) (hb : b < 0xE0) (hc : c < 0xC0) (s : isStart d ≡ true) where
+  -- The second, third and fourth byte from d on.
+  on-second : (x : ℕ) → 0xC0 ≤ d → fitsAfter b c d x ≡ true → (inside (onward d) x ≡ true) × (x ≤ 0xBF)
+  on-second x l f = let t = fits-on b c d x 0 (pending1 b c d l) f in (t, onward-most d x t)
+
+  on-third : (x y : ℕ) → 0xE0 ≤ d → x ≤ 0xBF → fitsAfter c d x y ≡ true → (inside (0x80, 0xBF) y ≡ true) × (y ≤ 0xBF)
+  on-third x y l m f = let t = fits-on c d x y 1 (pending2 c d x m l) f in (onward-tail x y m t, onward-most x y t)
+
+  on-fourth : (x y z : ℕ) → 0xF0 ≤ d → x ≤ 0xBF → y ≤ 0xBF → fitsAfter d x y z ≡ true → (inside (0x80, 0xBF) z ≡ true) × (z ≤ 0xBF)
+  on-fourth x y z l m n f = let t = fits-on d x y z 2 (pending3 d x y n m l) f in (onward-tail y z n t, onward-most y z t)
+
   -- A character of one, two, three and four bytes from d on.
   one-byte : (w : List ℕ) → length w ≤ k → d < 0x80 → AllFit b c d w → Cut (d ∷ w) (pendingIn b c d w)
   one-byte w h u f = more (d ∷ []) w _ (char-of d [] s (rw (tails1 d u)) (rw (tails1 d u))) (ih b c d w h (omega arith) (omega arith) (omega arith) f)
@@ -110,44 +120,32 @@ module _ (k : ℕ) (ih : (a b c : ℕ) (w : List ℕ) → length w ≤ k → c <
   two-bytes : (w : List ℕ) → length w ≤ k → 0xC0 ≤ d → d < 0xE0 → AllFit b c d w → Cut (d ∷ w) (pendingIn b c d w)
   two-bytes [] h l u f = all-left (d ∷ []) _ (pending1 b c d l)
   two-bytes (x ∷ w) h l u f =
-      let t = fits-on b c d x 0 (pending1 b c d l) (f .0) in
-      let m = onward-most d x t in
+      let (t, m) = on-second x l (f .0) in
       let e = tails2 d (omega arith) u in
       more (d ∷ x ∷ []) w _ (char-of d (x ∷ []) s (rw (e, t)) (rw e)) (ih c d x w (omega arith) (omega arith) u (omega arith) (f .1))
 
   three-bytes : (w : List ℕ) → length w ≤ k → 0xE0 ≤ d → d < 0xF0 → AllFit b c d w → Cut (d ∷ w) (pendingIn b c d w)
   three-bytes [] h l u f = all-left (d ∷ []) _ (pending1 b c d (omega arith))
-  three-bytes (x ∷ []) h l u f =
-      let m = onward-most d x (fits-on b c d x 0 (pending1 b c d (omega arith)) (f .0)) in
-      all-left (d ∷ x ∷ []) _ (pending2 c d x m l)
+  three-bytes (x ∷ []) h l u f = let (t, m) = on-second x (omega arith) (f .0) in all-left (d ∷ x ∷ []) _ (pending2 c d x m l)
   three-bytes (x ∷ y ∷ w) h l u f =
-      let t = fits-on b c d x 0 (pending1 b c d (omega arith)) (f .0) in
-      let m = onward-most d x t in
-      let t′ = fits-on c d x y 1 (pending2 c d x m l) (f .1 .0) in
-      let m′ = onward-most x y t′ in
+      let (t, m) = on-second x (omega arith) (f .0) in
+      let (t′, m′) = on-third x y l m (f .1 .0) in
       let e = tails3 d l u in
-      more (d ∷ x ∷ y ∷ []) w _ (char-of d (x ∷ y ∷ []) s (rw (e, t, onward-tail x y m t′)) (rw e))
-      (ih d x y w (omega arith) (omega arith) (omega arith) u (f .1 .1))
+      more (d ∷ x ∷ y ∷ []) w _ (char-of d (x ∷ y ∷ []) s (rw (e, t, t′)) (rw e)) (ih d x y w (omega arith) (omega arith) (omega arith) u (f .1 .1))
 
   four-bytes : (w : List ℕ) → length w ≤ k → 0xF0 ≤ d → AllFit b c d w → Cut (d ∷ w) (pendingIn b c d w)
   four-bytes [] h l f = all-left (d ∷ []) _ (pending1 b c d (omega arith))
-  four-bytes (x ∷ []) h l f =
-      let m = onward-most d x (fits-on b c d x 0 (pending1 b c d (omega arith)) (f .0)) in
-      all-left (d ∷ x ∷ []) _ (pending2 c d x m (omega arith))
+  four-bytes (x ∷ []) h l f = let (t, m) = on-second x (omega arith) (f .0) in all-left (d ∷ x ∷ []) _ (pending2 c d x m (omega arith))
   four-bytes (x ∷ y ∷ []) h l f =
-      let m = onward-most d x (fits-on b c d x 0 (pending1 b c d (omega arith)) (f .0)) in
-      let m′ = onward-most x y (fits-on c d x y 1 (pending2 c d x m (omega arith)) (f .1 .0)) in
+      let (t, m) = on-second x (omega arith) (f .0) in
+      let (t′, m′) = on-third x y (omega arith) m (f .1 .0) in
       all-left (d ∷ x ∷ y ∷ []) _ (pending3 d x y m′ m l)
   four-bytes (x ∷ y ∷ z ∷ w) h l f =
-      let t = fits-on b c d x 0 (pending1 b c d (omega arith)) (f .0) in
-      let m = onward-most d x t in
-      let t′ = fits-on c d x y 1 (pending2 c d x m (omega arith)) (f .1 .0) in
-      let m′ = onward-most x y t′ in
-      let t″ = fits-on d x y z 2 (pending3 d x y m′ m l) (f .1 .1 .0) in
-      let m″ = onward-most y z t″ in
+      let (t, m) = on-second x (omega arith) (f .0) in
+      let (t′, m′) = on-third x y (omega arith) m (f .1 .0) in
+      let (t″, m″) = on-fourth x y z l m m′ (f .1 .1 .0) in
       let e = tails4 d l in
-      more (d ∷ x ∷ y ∷ z ∷ []) w _
-      (char-of d (x ∷ y ∷ z ∷ []) s (rw (e, t, onward-tail x y m t′, onward-tail y z m′ t″)) (rw e))
+      more (d ∷ x ∷ y ∷ z ∷ []) w _ (char-of d (x ∷ y ∷ z ∷ []) s (rw (e, t, t′, t″)) (rw e))
       (ih x y z w (omega arith) (omega arith) (omega arith) (omega arith) (f .1 .1 .1))
 
   any-bytes : (w : List ℕ) → length w ≤ k → AllFit b c d w → Cut (d ∷ w) (pendingIn b c d w)

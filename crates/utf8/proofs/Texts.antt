@@ -4,15 +4,13 @@ use mathlib.Core.Path.{_≡_, refl, sym, ap, _∙_}
 use mathlib.Core.List.{List, [], _∷_, _++_, append-assoc, append-nil}
 use mathlib.Core.Option.{Option, none, some}
 use Prim.Native.Nat.{ℕ, zero, suc, _+_, _-_, _≤_, _<_}
-use native.Mathlib.Nat.{suc-ne-zero}
 use native.Mathlib.Omega.{arith}
-use borrow.Author.Tests.{lt-ltb, lt-leb}
-use lib.ListN.{length, take, drop, getD, length-append, take-append-drop, drop-of-length-le, length-drop}
+use borrow.Author.Tests.{lt-ltb}
+use lib.ListN.{length, take, drop, getD, length-append, take-append-drop, drop-of-length-le}
 use lib.Seq.{length-take-le, take-add, take-take}
-use Rattle.rules.specs.Bytes.{All, join, first, fits, Range, inside}
+use Rattle.rules.specs.Bytes.{All, join, fits, Range, inside}
 use Rattle.rules.specs.Moves.{keep, takes, moves, place}
 use Rattle.rules.specs.Utf8.{sequences, sequenceAt, IsChar, IsText, charStep, validTo}
-use Rattle.parts.proofs.Filled.{lent-rest}
 use Rattle.rules.proofs.Machine.{one-move}
 use Rattle.rules.proofs.Tests.{first-sound, fits-length}
 use Rattle.rules.proofs.Chars.{sequence-pos}
@@ -51,10 +49,10 @@ ascii-valid t f = valid-iff t .0 (ascii-text t f)
 -- ---- how far a text is valid
 
 -- No character stands at the head of r.
-abbrev pub Ends : List ℕ → Type 0
-Ends r = length (takes (charStep 0 r)) ≡ 0
+abbrev pub NoChar : List ℕ → Type 0
+NoChar r = length (takes (charStep 0 r)) ≡ 0
 
-no-move : (p : ℕ) (r : List ℕ) → Ends r → place (moves charStep p 0 r) ≡ 0
+no-move : (p : ℕ) (r : List ℕ) → NoChar r → place (moves charStep p 0 r) ≡ 0
 unfolding charStep
 no-move p [] e = refl
 no-move p (x ∷ r) e = go (sequenceAt (x ∷ r)) refl
@@ -66,23 +64,23 @@ no-move p (x ∷ r) e = go (sequenceAt (x ∷ r)) refl
         absurd (rw (sym (fits-length inside q (x ∷ r) t) ∙ rw f at e) at (sequence-pos q i))
 
 -- The moves go through a text, and end where no character stands.
-through-text : (p : ℕ) (cs : List (List ℕ)) (r : List ℕ) → All IsChar cs → Ends r → place (moves charStep p 0 (join cs ++ r)) ≡ length (join cs)
+through-text : (p : ℕ) (cs : List (List ℕ)) (r : List ℕ) → All IsChar cs → NoChar r → place (moves charStep p 0 (join cs ++ r)) ≡ length (join cs)
 unfolding charStep
 through-text p [] r h e = no-move p r e
 through-text p (a ∷ cs) r h e =
     let (q, m) = one-move charStep p (keep a) (join cs ++ r) (table-reads [] [] tt .finds (keep a) (h .0, λ i. i) (join cs ++ r)) in
     rw (append-assoc, m, length-append, through-text q cs r (h .1) e) (sym (length-append a (join cs)))
 
-pub valid-here : (t : List ℕ) (i : ℕ) → i ≤ length t → IsText (take i t) → Ends (drop i t) → i ≡ validTo t
+pub valid-here : (t : List ℕ) (i : ℕ) → i ≤ length t → IsText (take i t) → NoChar (drop i t) → i ≡ validTo t
 valid-here t i h s e =
     let (cs, c, j) = s in
     let w : join cs ++ drop i t ≡ t = rw (← j, take-append-drop) in
     sym (ap (λ (l : List ℕ). place (moves charStep 0 0 l)) (sym w) ∙ through-text 0 cs (drop i t) c e ∙ ap length (sym j) ∙ length-take-le i t h)
 
 -- The end of the text ends it too.
-pub end-ends : (t : List ℕ) (i : ℕ) → length t ≤ i → Ends (drop i t)
+pub end-no-char : (t : List ℕ) (i : ℕ) → length t ≤ i → NoChar (drop i t)
 unfolding charStep
-end-ends t i h = rw (drop-of-length-le t h)
+end-no-char t i h = rw (drop-of-length-le t h)
 
 -- ---- a text grows by a part
 

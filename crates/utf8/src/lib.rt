@@ -1,5 +1,6 @@
-// How far a text is valid UTF-8, and the character that stands at its head. A text is read by parts: 128 bytes that are all ASCII, or 227 bytes
-// each of which fits after the three before it, are passed in loops with no exit; what is left is read character by character.
+// How far a text is valid UTF-8, and the character that stands at its head. A text is read by parts: 128 bytes that are all ASCII, or up to 227
+// bytes each of which fits after the three before it, are passed by counting; the rest is read character by character. The tests of single bytes
+// have no branch and the counts no early end, so that many bytes are tested at once.
 ghost use mathlib.Core.Path.{_≡_};
 ghost use Prim.Native.Nat.{ℕ, suc, _≤_, _<_};
 ghost use lib.ListN.{length, take, drop, getD};
@@ -188,8 +189,8 @@ fn highs(part: &[u8]) -> u8
     n
 }
 
-// A place from `i` on up to which the text is still valid, found in a part: its end where all is ASCII, or about its end where each byte fits.
-// Where neither holds, or the text has too few bytes left for the second, it is `i`.
+// A place from `i` on up to which the text is still valid, by the part that starts at `i`: its end where all is ASCII, or the end of its last whole
+// character where each byte fits; else `i`. 227 bytes are three and seven times 32, which are tested at once; under 35 plain reading is faster.
 fn ahead(text: &[u8], i: usize) -> usize
     requires { ⌜ (i < length (now text)) × IsText (take i (now text)) ⌝ }
     ensures { λ r. ⌜ (i ≤ r) × (r ≤ length (now (text .entry))) × IsText (take r (now (text .entry))) ⌝ }

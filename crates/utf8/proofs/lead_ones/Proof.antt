@@ -1,15 +1,14 @@
 -- `lead_ones` meets its contract: computed for each first byte.
 -- Assumes nothing.
-use Prim.Native.Nat.{_-_}
-use native.Mathlib.Omega.{arith}
 use borrow.Author.Needs.{needs}
 use lib.Count.{leading-le}
+use mir.Facts.{fits-le, fits-lit}
 use Rattle.utf8.proofs.Chars.{ones-size, lead-size}
 use Rattle.utf8.proofs.lead_ones.Statement.{statement}
 use Rattle.utf8.proofs.lead_ones.Tie as tie
 
 cast-result : tie.Need-cast-result
-cast-result c = omega (arith, leading-le 8 (255 - c .args .a))
+cast-result c = fits-le (leading-le 8 _) (fits-lit tt)
 
 returns : tie.Need-returns
 returns c =

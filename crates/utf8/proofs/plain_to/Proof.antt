@@ -6,7 +6,7 @@ use borrow.Author.Needs.{needs}
 use lib.ListN.{length, take, drop}
 use Rattle.rules.specs.Utf8.{IsText}
 use Rattle.parts.proofs.Filled.{lent-rest}
-use Rattle.utf8.proofs.Texts.{valid-here, end-ends, head-text, text-more}
+use Rattle.utf8.proofs.Texts.{valid-here, end-no-char, head-text, text-more}
 use Rattle.utf8.proofs.plain_to.Statement.{statement}
 use Rattle.utf8.proofs.plain_to.Tie as tie
 
@@ -58,7 +58,7 @@ returns-2 : tie.Need-returns-2 Inv-loop μ-loop
 returns-2 c =
     let t = c .before .before .before .args .text .now in
     let l = c .before .loop in
-    (valid-here t (l .k) (search needs) (l .inv .1) (end-ends t (l .k) (c .loop-test .left)), search needs)
+    (valid-here t (l .k) (search needs) (l .inv .1) (end-no-char t (l .k) (c .loop-test .left)), search needs)
 
 pub plain-to-spec : {M : Type 1} → statement M
 plain-to-spec =

@@ -4,7 +4,7 @@ use Prim.Native.Nat.{_-_, _≤_}
 use borrow.Author.Needs.{needs}
 use lib.ListN.{length, take}
 use Rattle.rules.specs.Utf8.{IsText}
-use Rattle.utf8.proofs.Texts.{no-text, valid-here, end-ends}
+use Rattle.utf8.proofs.Texts.{no-text, valid-here, end-no-char}
 use Rattle.utf8.proofs.valid_to.Statement.{statement}
 use Rattle.utf8.proofs.valid_to.Tie as tie
 
@@ -36,7 +36,7 @@ returns-2 : tie.Need-returns-2 Inv-loop μ-loop
 returns-2 c =
     let t = c .before .before .before .args .text .now in
     let l = c .before .loop in
-    (valid-here t (l .i) (search needs) (l .inv .1) (end-ends t (l .i) (c .loop-test .left)), search needs)
+    (valid-here t (l .i) (search needs) (l .inv .1) (end-no-char t (l .i) (c .loop-test .left)), search needs)
 
 pub valid-to-spec : {M : Type 1} → statement M
 valid-to-spec =
