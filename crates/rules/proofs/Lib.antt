@@ -14,3 +14,4 @@ pub mod Refused
 pub mod Calls
 pub mod Examples
 pub mod Loops
+pub mod Quiet
