@@ -1,89 +1,103 @@
--- `seek::find_byte` meets its contract. The invariant: the byte is at no place from `from` on that is passed.
+-- `seek::find_byte` meets its contract: what is passed does not have the byte, and what is found after it is first.
 -- Assumes nothing.
 use borrow.Author.Needs.{needs}
-use Prim.Native.Nat.{_≤_, _<_, _-_, _+_}
+use Prim.Native.Nat.{_≤_, _-_, _+_}
 use native.Mathlib.Omega.{arith}
 use lib.ListN.{length}
-use Rattle.seek.specs.Places.{Absent}
-use Rattle.seek.proofs.Laws.{absent-join, near-absent, near-here}
+use Rattle.seek.proofs.Laws.{absent-join, near-absent, near-here, nearest-after}
 use Rattle.seek.proofs.find_byte.Statement.{statement}
 use Rattle.seek.proofs.find_byte.Tie as tie
 
-abbrev Inv-loop : tie.InvT-loop
-Inv-loop text from byte i₀ step₀ i step = (from ≤ i) × (i ≤ length text) × (0 < step) × (step ≤ 128) × Absent text from i byte
+returns : tie.Need-returns
+returns c = search needs
 
-abbrev μ-loop : tie.MeasureT-loop
-μ-loop text from byte i₀ step₀ i step = length text - i
+shared-slice-read-if2 : tie.Need-shared-slice-read-if2
+shared-slice-read-if2 c = search needs
 
-loop-holds : tie.Need-loop-holds Inv-loop μ-loop
-loop-holds c = search needs
+returns-2 : tie.Need-returns-2
+returns-2 c = search needs
 
-clip-requires : tie.Need-clip-requires Inv-loop μ-loop
+pass-requires : tie.Need-pass-requires
+pass-requires c κs = search needs
+
+sub-if3 : tie.Need-sub-if3
+sub-if3 c = search needs
+
+walk-requires : tie.Need-walk-requires
+walk-requires c κs = search needs
+
+returns-3 : tie.Need-returns-3
+returns-3 c =
+    let a = c .before .before .before .before .before .before .before .args in
+    let i = c .before .before .pass in
+    nearest-after (a .text .now) (a .from) (i .result) (a .byte) (c .walk .result) (search needs) (i .ensures .2) (c .walk .ensures)
+
+clip-requires : tie.Need-clip-requires
 clip-requires c κs = search needs
 
-sub-spot : tie.Need-sub-spot Inv-loop μ-loop
-sub-spot c = search needs
+sub-least : tie.Need-sub-least
+sub-least c = search needs
 
-part-spot-start : tie.Need-part-spot-start Inv-loop μ-loop
-part-spot-start c = search needs
+part-least-start : tie.Need-part-least-start
+part-least-start c = search needs
 
-part-spot-end : tie.Need-part-spot-end Inv-loop μ-loop
-part-spot-end c = search needs
+part-least-end : tie.Need-part-least-end
+part-least-end c = search needs
 
-spot-requires : tie.Need-spot-requires Inv-loop μ-loop
-spot-requires c κs = search needs
+least-requires : tie.Need-least-requires
+least-requires c κs = search needs
 
-cast-i : tie.Need-cast-i Inv-loop μ-loop
-cast-i c = search needs
+cast-k : tie.Need-cast-k
+cast-k c = search needs
 
-add-i : tie.Need-add-i Inv-loop μ-loop
-add-i c = search needs
+add-k : tie.Need-add-k
+add-k c = search needs
 
-returns : tie.Need-returns Inv-loop μ-loop
-returns c =
-    let l = c .before .before .before .before .before .loop in
-    let a = c .before .before .before .before .before .before .before .args in
+returns-4 : tie.Need-returns-4
+returns-4 c =
+    let a = c .before .before .before .before .before .before .before .before .before .before .args in
     let t = a .text .now in
+    let i = c .before .before .before .before .before .pass .result in
     let e = c .before .before .before .clip .result in
-    let k = c .before .spot in
-    let gap = near-absent t (a .byte) (l .i) e (k .result) (search needs) (search needs) (k .ensures) in
+    let k = c .before .least in
     record {
       after = search needs;
       within = search needs;
-      none = absent-join t (a .from) (l .i) (l .i + k .result) (a .byte) (l .inv .4) gap;
-      here = λ h. near-here t (a .byte) (l .i) e (k .result) (search needs) (search needs) (k .ensures) (c .if1 .taken);
+      none = absent-join t (a .from) i (i + k .result) (a .byte) (c .before .before .before .before .before .pass .ensures .2) (near-absent t (a .byte) i e (k .result) (search needs) (search needs) (k .ensures));
+      here = λ h. near-here t (a .byte) i e (k .result) (search needs) (search needs) (k .ensures) (c .if4 .taken);
     }
 
-loop-less : tie.Need-loop-less Inv-loop μ-loop
-loop-less c = search needs
+walk-requires-2 : tie.Need-walk-requires-2
+walk-requires-2 c κs = search needs
 
-loop-again : tie.Need-loop-again Inv-loop μ-loop
-loop-again c =
-    let l = c .before .before .before .before .before .loop in
-    let a = c .before .before .before .before .before .before .before .args in
+returns-5 : tie.Need-returns-5
+returns-5 c =
+    let a = c .before .before .before .before .before .before .before .before .before .before .before .args in
     let t = a .text .now in
-    let k = c .before .spot in
-    let gap = near-absent t (a .byte) (l .i) (c .before .before .before .clip .result) (k .result) (search needs) (search needs) (k .ensures) in
-    (search needs, search needs, search needs, search needs, absent-join t (a .from) (l .i) (l .i + k .result) (a .byte) (l .inv .4) gap)
-
-returns-2 : tie.Need-returns-2 Inv-loop μ-loop
-returns-2 c = search needs
+    let i = c .before .before .before .before .before .before .pass .result in
+    let e = c .before .before .before .before .clip .result in
+    let k = c .before .before .least in
+    let gap = absent-join t (a .from) i (i + k .result) (a .byte) (c .before .before .before .before .before .before .pass .ensures .2) (near-absent t (a .byte) i e (k .result) (search needs) (search needs) (k .ensures)) in
+    nearest-after t (a .from) (i + k .result) (a .byte) (c .walk2 .result) (search needs) gap (c .walk2 .ensures)
 
 pub find-byte-spec : {M : Type 1} → statement M
 find-byte-spec =
     tie.close
     (tie.spec
-    Inv-loop
-    μ-loop
-    loop-holds
-    clip-requires
-    sub-spot
-    part-spot-start
-    part-spot-end
-    spot-requires
-    cast-i
-    add-i
     returns
-    loop-less
-    loop-again
-    returns-2)
+    shared-slice-read-if2
+    returns-2
+    pass-requires
+    sub-if3
+    walk-requires
+    returns-3
+    clip-requires
+    sub-least
+    part-least-start
+    part-least-end
+    least-requires
+    cast-k
+    add-k
+    returns-4
+    walk-requires-2
+    returns-5)
