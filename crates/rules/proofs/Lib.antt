@@ -16,3 +16,4 @@ pub mod Calls
 pub mod Examples
 pub mod Loops
 pub mod Bytewise
+pub mod Quiet
