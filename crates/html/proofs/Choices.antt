@@ -1,22 +1,21 @@
 -- The word of a byte is the choice that the code makes, and its bytes are what is written: computed tests of every byte in every context.
 -- Assumes nothing.
 use mathlib.Core.Bool.{Bool, true, false, not, _&&_, _||_, cond}
-use mathlib.Core.Path.{_≡_, refl, sym, ap, _∙_}
-use mathlib.Core.List.{List, [], _∷_, _++_}
-use Prim.Native.Nat.{ℕ, _+_, _*_, _/_, _%_, _≤_, _<_}
+use mathlib.Core.Path.{_≡_, refl, ap}
+use mathlib.Core.List.{[], _∷_}
+use Prim.Native.Nat.{ℕ, _+_, _*_, _/_, _%_, _<_}
 use native.Mathlib.Omega.{arith}
-use lib.Dec.{T, eqb, eqb→eq, ltb}
+use lib.Dec.{eqb, eqb→eq, ltb}
 use lib.ListN.{length, take}
-use Rattle.rules.specs.Bytes.{ascii, all, sameBytes}
+use Rattle.rules.specs.Bytes.{ascii, sameBytes}
 use Rattle.rules.specs.Tables.{letterOrDigit, hexDigit, value, reference}
 use Rattle.rules.specs.Encoding.{encodeStep}
 use Rattle.rules.specs.declared.Html.{Html}
 use Rattle.rules.specs.declared.Html.the-variants.{Unquoted}
-use Rattle.rules.proofs.EveryByte.{every-byte}
 use Rattle.rules.proofs.Tests.{and-left, and-right, same-bytes}
 use Rattle.html.specs.Written.{written, few, unquoted}
 use Rattle.html.specs.Words.{wordOf, eight}
-use Rattle.html.proofs.Seven.{html, bytes, seven-bytes, unless, where-true, is-unquoted}
+use Rattle.html.proofs.Seven.{seven-bytes, same, agree}
 
 -- The choice between `&`, `<`, `>` and the byte itself, and that between all six.
 unfoldable pub choice3 : Html → ℕ → ℕ
@@ -35,34 +34,26 @@ choiceOfAll b =
     (cond (eqb b 34) (wordOf (ascii "&quot;"))
     (wordOf (value (reference b)))))))
 
-is3 : Html → ℕ → Bool
-is3 h b = not (few h) || eqb (choice3 h b) (wordOf (written h b))
+pub word3 : (h : Html) (b : ℕ) → b < 256 → few h ≡ true → choice3 h b ≡ wordOf (written h b)
+unfolding choice3 wordOf written encodeStep
+word3 = agree few choice3 (λ h b. wordOf (written h b)) tt
 
-is6 : Html → ℕ → Bool
-is6 h b = unquoted h || eqb (choice6 h b) (wordOf (written h b))
+pub word6 : (h : Html) (b : ℕ) → b < 256 → unquoted h ≡ false → choice6 h b ≡ wordOf (written h b)
+unfolding choice3 choice6 wordOf written encodeStep
+word6 h b l e = agree (λ h. not (unquoted h)) choice6 (λ h b. wordOf (written h b)) tt h b l (ap not e)
 
-isAll : ℕ → Bool
-isAll b = eqb (choiceOfAll b) (wordOf (written Unquoted b))
+pub word-all : (b : ℕ) → b < 256 → choiceOfAll b ≡ wordOf (written Unquoted b)
+unfolding choiceOfAll wordOf written encodeStep
+word-all b l = agree unquoted (λ h b. choiceOfAll b) (λ h b. wordOf (written h b)) tt Unquoted b l refl
 
+pub word-unquoted : (h : Html) (b : ℕ) → b < 256 → unquoted h ≡ true → wordOf (written Unquoted b) ≡ wordOf (written h b)
+unfolding wordOf written encodeStep
+word-unquoted = agree unquoted (λ h b. wordOf (written Unquoted b)) (λ h b. wordOf (written h b)) tt
+
+-- The highest byte of a word says how many of the others are written, and these are they.
 isWord : Html → ℕ → Bool
 isWord h b = eqb (wordOf (written h b) / 0x100000000000000) (length (written h b)) && sameBytes (take (length (written h b)) (eight (wordOf (written h b)))) (written h b)
 
-pub word3 : (h : Html) (b : ℕ) → b < 256 → few h ≡ true → choice3 h b ≡ wordOf (written h b)
-unfolding is3 choice3 wordOf written encodeStep
-word3 h b l e = eqb→eq (choice3 h b) (wordOf (written h b)) (where-true (few h) (eqb (choice3 h b) (wordOf (written h b))) (seven-bytes is3 tt h b l) e)
-
-pub word6 : (h : Html) (b : ℕ) → b < 256 → unquoted h ≡ false → choice6 h b ≡ wordOf (written h b)
-unfolding is6 choice3 choice6 wordOf written encodeStep
-word6 h b l e = eqb→eq (choice6 h b) (wordOf (written h b)) (unless (unquoted h) (eqb (choice6 h b) (wordOf (written h b))) (seven-bytes is6 tt h b l) e)
-
-pub word-all : (b : ℕ) → b < 256 → choiceOfAll b ≡ wordOf (written Unquoted b)
-unfolding isAll choiceOfAll wordOf written encodeStep
-word-all b l = eqb→eq (choiceOfAll b) (wordOf (written Unquoted b)) (every-byte isAll tt b l)
-
-pub word-unquoted : (h : Html) (b x : ℕ) → unquoted h ≡ true → x ≡ wordOf (written Unquoted b) → x ≡ wordOf (written h b)
-word-unquoted h b x e g = rw (is-unquoted h e) g
-
--- The highest byte of a word says how many of the others are written, and these are they.
 pub word-is : (h : Html) (b : ℕ) → b < 256
     → (wordOf (written h b) / 0x100000000000000 ≡ length (written h b)) × (take (length (written h b)) (eight (wordOf (written h b))) ≡ written h b)
 unfolding isWord wordOf written encodeStep
