@@ -1,21 +1,21 @@
 -- The word of a byte is the choice that the code makes, and its bytes are what is written: computed tests of every byte in every context.
 -- Assumes nothing.
-use mathlib.Core.Bool.{Bool, true, false, not, _&&_, _||_, cond}
+use mathlib.Core.Bool.{true, false, not, _||_, cond}
 use mathlib.Core.Path.{_≡_, refl, ap}
 use mathlib.Core.List.{[], _∷_}
 use Prim.Native.Nat.{ℕ, _+_, _*_, _/_, _%_, _<_}
 use native.Mathlib.Omega.{arith}
-use lib.Dec.{eqb, eqb→eq, ltb}
+use lib.Dec.{eqb, ltb}
 use lib.ListN.{length, take}
 use Rattle.rules.specs.Bytes.{ascii, sameBytes}
 use Rattle.rules.specs.Tables.{letterOrDigit, hexDigit, value, reference}
 use Rattle.rules.specs.Encoding.{encodeStep}
 use Rattle.rules.specs.declared.Html.{Html}
 use Rattle.rules.specs.declared.Html.the-variants.{Unquoted}
-use Rattle.rules.proofs.Tests.{and-left, and-right, same-bytes}
+use Rattle.rules.proofs.Tests.{same-bytes}
 use Rattle.html.specs.Written.{written, few, unquoted}
 use Rattle.html.specs.Words.{wordOf, eight}
-use Rattle.html.proofs.Seven.{seven-bytes, same, agree}
+use Rattle.html.proofs.Seven.{seven-bytes, agree}
 
 -- The choice between `&`, `<`, `>` and the byte itself, and that between all six.
 unfoldable pub choice3 : Html → ℕ → ℕ
@@ -34,6 +34,7 @@ choiceOfAll b =
     (cond (eqb b 34) (wordOf (ascii "&quot;"))
     (wordOf (value (reference b)))))))
 
+-- In each kind of context the choice is the word of what is written.
 pub word3 : (h : Html) (b : ℕ) → b < 256 → few h ≡ true → choice3 h b ≡ wordOf (written h b)
 unfolding choice3 wordOf written encodeStep
 word3 = agree few choice3 (λ h b. wordOf (written h b)) tt
@@ -51,18 +52,14 @@ unfolding wordOf written encodeStep
 word-unquoted = agree unquoted (λ h b. wordOf (written Unquoted b)) (λ h b. wordOf (written h b)) tt
 
 -- The highest byte of a word says how many of the others are written, and these are they.
-isWord : Html → ℕ → Bool
-isWord h b = eqb (wordOf (written h b) / 0x100000000000000) (length (written h b)) && sameBytes (take (length (written h b)) (eight (wordOf (written h b)))) (written h b)
-
 pub word-is : (h : Html) (b : ℕ) → b < 256
     → (wordOf (written h b) / 0x100000000000000 ≡ length (written h b)) × (take (length (written h b)) (eight (wordOf (written h b))) ≡ written h b)
-unfolding isWord wordOf written encodeStep
-word-is h b l =
-    let w = written h b in
-    let size = eqb (wordOf w / 0x100000000000000) (length w) in
-    let same = sameBytes (take (length w) (eight (wordOf w))) w in
-    let t = seven-bytes isWord tt h b l in
-    (eqb→eq (wordOf w / 0x100000000000000) (length w) (and-left size same t), same-bytes (take (length w) (eight (wordOf w))) w (and-right size same t))
+unfolding wordOf written encodeStep
+word-is h b l = (
+  agree (λ h. true) (λ h b. wordOf (written h b) / 0x100000000000000) (λ h b. length (written h b)) tt h b l refl,
+  same-bytes (take (length (written h b)) (eight (wordOf (written h b)))) (written h b)
+      (seven-bytes (λ h b. sameBytes (take (length (written h b)) (eight (wordOf (written h b)))) (written h b)) tt h b l),
+)
 
 -- The word of a reference, by its two digits.
 pub word-hex : (b : ℕ) → 0x06003B0000782326 + hexDigit (b / 16) * 0x1000000 + hexDigit (b % 16) * 0x100000000 ≡ wordOf (value (reference b))

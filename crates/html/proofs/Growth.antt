@@ -1,5 +1,5 @@
--- By how much a byte grows is the sum that the code adds up: one computed test of every byte in every context. And a text grows by what its
--- bytes and its parts do.
+-- By how much a byte grows is the sum that the code adds up: computed tests of every byte in every context. And a text grows by what its bytes
+-- and its parts do.
 -- Assumes nothing.
 use mathlib.Core.Bool.{true, false, not, _||_, cond}
 use mathlib.Core.Path.{_≡_, refl, ap}
@@ -33,6 +33,7 @@ sum6 h b = sum3 h b + cond (eqb b 34) (gainOf h 34) 0 + cond (eqb b 39) (gainOf 
 unfoldable pub sumOfAll : ℕ → ℕ
 sumOfAll b = cond (ltb 127 b || letterOrDigit b) 0 (5 - cond (eqb b 38) 1 0 - cond (eqb b 60) 2 0 - cond (eqb b 62) 2 0)
 
+-- In each kind of context the sum is the growth.
 pub gain3 : (h : Html) (b : ℕ) → b < 256 → few h ≡ true → sum3 h b + 1 ≡ length (written h b)
 unfolding sum3 written encodeStep
 gain3 = agree few (λ h b. sum3 h b + 1) (λ h b. length (written h b)) tt

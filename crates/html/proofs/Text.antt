@@ -4,7 +4,7 @@ use mathlib.Core.Bool.{Bool, true, false}
 use mathlib.Core.Logic.{_⊎_, inl, inr}
 use mathlib.Core.Path.{_≡_, refl, sym, ap, _∙_}
 use mathlib.Core.List.{List, [], _∷_, _++_}
-use Prim.Native.Nat.{ℕ, suc, _+_, _-_, _*_, _≤_, _<_}
+use Prim.Native.Nat.{ℕ, suc, _+_, _-_, _≤_, _<_}
 use native.Mathlib.Omega.{arith}
 use native.Mathlib.Numerals.{add-one}
 use lib.Dec.{T, ltb}
@@ -110,10 +110,6 @@ module _ (h : Html) where
       let n : length rest ≡ length t - e = ap length (lent-rest e t) ∙ length-drop e t in
       let sum = ap length (halves t e) ∙ length-append (encodeOf (InHtml h) (take e t)) (encodeOf (InHtml h) rest) in
       (sym sum, n, omega (arith, encode-sum (InHtml h) rest))
-
-  -- The encoding of a text is at most six times its length.
-  pub six : (t : List ℕ) → length (encodeOf (InHtml h) t) ≤ 6 * length t
-  six t = encode-six (InHtml h) t
 
   -- A calm text does not grow.
   pub calm-length : (t : List ℕ) → Each (Calm h) t → length (encodeOf (InHtml h) t) ≡ length t
