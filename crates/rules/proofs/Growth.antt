@@ -2,6 +2,7 @@
 -- is the text exactly if nothing is replaced.
 -- Assumes nothing.
 use mathlib.Core.Bool.{Bool, true, false, _&&_, cond}
+use mathlib.Core.Logic.{_↔_}
 use mathlib.Core.Option.{Option, none, some}
 use mathlib.Core.Path.{_≡_, refl, sym, ap, _∙_, subst}
 use mathlib.Core.List.{List, [], _∷_}
@@ -15,7 +16,7 @@ use Rattle.rules.specs.Tables.{Row, rowAt, key, value, table, replacedCh
 use Rattle.rules.specs.declared.Context.{Context}
 use Rattle.rules.specs.Encoding.{write, keepByte, encodeStep, rawStep, parted}
 use Rattle.rules.proofs.Tests.{and-left, and-right, all-in, first-sound, stands-split}
-use Rattle.rules.proofs.Machine.{Fair, Goes, moves-fair, whole}
+use Rattle.rules.proofs.Machine.{Fair, Goes, moves-fair, whole, same-result}
 use Rattle.rules.proofs.Tables.{row-length}
 use Rattle.rules.proofs.Every.{every, keys-code}
 
@@ -144,10 +145,21 @@ module _ (rule : Rule) (fair : (p : ℕ) (s : List ℕ) → Fair Grows (rule p s
       dropped : (a k b : ℕ) → a + k ≡ b → k ≡ 0 → a ≡ b
       dropped a k b e z = omega arith
 
+  -- Each replaced place adds a byte.
+  least : (s : List ℕ) → replaced (through rule s) + length s ≤ length (result (through rule s))
+  least s =
+      subst (λ (l : List ℕ). replaced (through rule s) + length l ≤ length (result (through rule s))) (whole Grows rule fair goes s)
+      (at-least (through rule s) (moves-fair Grows rule fair 0 0 s .0))
+
+  -- So nothing is replaced exactly if the result is as long as the text.
+  as-long : (s : List ℕ) → (replaced (through rule s) ≡ 0) ↔ (length (result (through rule s)) ≡ length s)
+  as-long s = (
+    λ z. ap length (same-result (through rule s) z ∙ whole Grows rule fair goes s),
+    λ e. none-left (replaced (through rule s)) (length s) (length (result (through rule s))) (least s) e,
+  )
+
   none-replaced : (s : List ℕ) → result (through rule s) ≡ s → replaced (through rule s) ≡ 0
-  none-replaced s e =
-      none-left (replaced (through rule s)) (length (taken (through rule s))) (length (result (through rule s))) (at-least (through rule s) (moves-fair Grows rule fair 0 0 s .0))
-      (ap length (e ∙ sym (whole Grows rule fair goes s)))
+  none-replaced s e = as-long s .1 (ap length e)
 
 pub encode-whole : (c : Context) (s : List ℕ) → taken (through (encodeStep c) s) ≡ s
 encode-whole c = whole Grows (encodeStep c) (encode-fair c) (encode-goes c)
@@ -172,3 +184,9 @@ encode-none c = none-replaced (encodeStep c) (encode-fair c) (encode-goes c)
 
 pub raw-none : (s : List ℕ) → result (through rawStep s) ≡ s → replaced (through rawStep s) ≡ 0
 raw-none = none-replaced rawStep raw-fair raw-goes
+
+pub encode-as-long : (c : Context) (s : List ℕ) → (replaced (through (encodeStep c) s) ≡ 0) ↔ (length (result (through (encodeStep c) s)) ≡ length s)
+encode-as-long c = as-long (encodeStep c) (encode-fair c) (encode-goes c)
+
+pub raw-as-long : (s : List ℕ) → (replaced (through rawStep s) ≡ 0) ↔ (length (result (through rawStep s)) ≡ length s)
+raw-as-long = as-long rawStep raw-fair raw-goes

@@ -13,5 +13,7 @@ pub mod Whole
 pub mod Laws
 pub mod Refused
 pub mod Calls
+pub mod Examples
 pub mod Loops
 pub mod Bytewise
+pub mod Quiet

@@ -28,7 +28,7 @@ past-before t i (suc k) = getD-drop (i + 1) t k 0 ∙ far (i + 1 + k) (i + suc (
     far : (j n : ℕ) → n ≡ suc j → getD t j 0 ≡ before t n
     far j n e = rw e
 
-drop-next : (t : List ℕ) (i : ℕ) → i < length t → drop i t ≡ getD t i 0 ∷ drop (i + 1) t
+pub drop-next : (t : List ℕ) (i : ℕ) → i < length t → drop i t ≡ getD t i 0 ∷ drop (i + 1) t
 drop-next t i h = rw add-one (drop-cons t i 0 h)
 
 -- A turn of the loop.

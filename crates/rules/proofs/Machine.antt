@@ -184,11 +184,11 @@ cut (keep a ∷ ms) = singly a ++ cut ms
 cut (swap a b ∷ ms) = swap a b ∷ cut ms
 cut (stop ∷ ms) = cut ms
 
-taken-singly : (a : List ℕ) (ms : List Move) → taken (singly a ++ ms) ≡ a ++ taken ms
+pub taken-singly : (a : List ℕ) (ms : List Move) → taken (singly a ++ ms) ≡ a ++ taken ms
 taken-singly [] ms = refl
 taken-singly (x ∷ a) ms = ap (λ (s : List ℕ). x ∷ s) (taken-singly a ms)
 
-result-singly : (a : List ℕ) (ms : List Move) → result (singly a ++ ms) ≡ a ++ result ms
+pub result-singly : (a : List ℕ) (ms : List Move) → result (singly a ++ ms) ≡ a ++ result ms
 result-singly [] ms = refl
 result-singly (x ∷ a) ms = ap (λ (s : List ℕ). x ∷ s) (result-singly a ms)
 

@@ -124,18 +124,24 @@ module _ (k : Call) where
   abbrev rule : Option Rule
   rule = ruleOf (k .operation) (k .context)
 
-  -- Where there is a rule, the case is the one that the tests of its moves choose.
-  case-judged : (r : Rule) → rule ≡ some r → caseOf k ≡ judge k (movesIn k)
-  unfolding caseOf
-  case-judged r e = ap (λ (o : Option Rule). caseBy o k) e ∙ sym (ap (λ (o : Option Rule). judge k (movesOf o (k .text))) e)
+  abbrev judged : List Move → Case
+  judged ms = judge (k .borrows) (k .limit) (k .text) ms (k .room)
 
-  judge-given : (rule ≡ none → ⊥) → Given k (judge k (movesIn k))
+  abbrev judgedBy : Option Rule → Case
+  judgedBy o = caseBy o (k .borrows) (k .limit) (k .text) (k .room)
+
+  -- Where there is a rule, the case is the one that the tests of its moves choose.
+  case-judged : (r : Rule) → rule ≡ some r → caseOf k ≡ judged (movesIn k)
+  unfolding caseBy
+  case-judged r e = ap judgedBy e ∙ sym (ap (λ (o : Option Rule). judged (movesOf o (k .text))) e)
+
+  judge-given : (rule ≡ none → ⊥) → Given k (judged (movesIn k))
   judge-given n =
       chosen-given (Says k) n tt (ltb (k .limit) (size (k .text))) (below-iff (k .limit) (size (k .text))) (ltb (validTo (k .text)) (size (k .text))) (utf8-iff (k .text))
       (ltb (place (movesIn k)) (size (k .text))) (form-says (k .operation) (k .context) (k .text) n) (k .borrows && eqb (replaced (movesIn k)) 0) (lends-iff (k .borrows) (replaced (movesIn k)))
       (ltb (k .room) (size (result (movesIn k)))) (below-iff (k .room) (size (result (movesIn k))))
 
-  given-judge : (rule ≡ none → ⊥) → (row : Case) → Given k row → judge k (movesIn k) ≡ row
+  given-judge : (rule ≡ none → ⊥) → (row : Case) → Given k row → judged (movesIn k) ≡ row
   given-judge n =
       given-chosen (Says k) n tt (ltb (k .limit) (size (k .text))) (below-iff (k .limit) (size (k .text))) (ltb (validTo (k .text)) (size (k .text))) (utf8-iff (k .text))
       (ltb (place (movesIn k)) (size (k .text))) (form-says (k .operation) (k .context) (k .text) n) (k .borrows && eqb (replaced (movesIn k)) 0) (lends-iff (k .borrows) (replaced (movesIn k)))
@@ -143,11 +149,11 @@ module _ (k : Call) where
 
   -- The case of a call is given.
   pub case-given : Given k (caseOf k)
-  unfolding caseOf
+  unfolding caseBy
   case-given = go rule refl
     where
       go : (o : Option Rule) → rule ≡ o → Given k (caseOf k)
-      go none e = subst (Given k) (sym (ap (λ (o : Option Rule). caseBy o k) e)) (e, tt)
+      go none e = subst (Given k) (sym (ap judgedBy e)) (e, tt)
       go (some r) e = subst (Given k) (sym (case-judged r e)) (judge-given (λ q. Option·some-ne-none r (sym e ∙ q)))
 
   -- Every other row waits for a rule.
@@ -161,11 +167,11 @@ module _ (k : Call) where
   no-rule e written h = absurd (h .1 .0 e)
 
   given-case : (row : Case) → Given k row → caseOf k ≡ row
-  unfolding caseOf
+  unfolding caseBy
   given-case row h = go rule refl
     where
       go : (o : Option Rule) → rule ≡ o → caseOf k ≡ row
-      go none e = ap (λ (o : Option Rule). caseBy o k) e ∙ no-rule e row h
+      go none e = ap judgedBy e ∙ no-rule e row h
       go (some r) e = case-judged r e ∙ given-judge (λ q. Option·some-ne-none r (sym e ∙ q)) row h
 
   -- "Given exactly when", row by row, in the table's order.
