@@ -1,22 +1,21 @@
 -- The word of a byte is the choice that the code makes, and its bytes are what is written: computed tests of every byte in every context.
 -- Assumes nothing.
-use mathlib.Core.Bool.{Bool, true, false, not, _&&_, _||_, cond}
-use mathlib.Core.Path.{_≡_, refl, sym, ap, _∙_}
-use mathlib.Core.List.{List, [], _∷_, _++_}
-use Prim.Native.Nat.{ℕ, _+_, _*_, _/_, _%_, _≤_, _<_}
+use mathlib.Core.Bool.{true, false, not, _||_, cond}
+use mathlib.Core.Path.{_≡_, refl, ap}
+use mathlib.Core.List.{[], _∷_}
+use Prim.Native.Nat.{ℕ, _+_, _*_, _/_, _%_, _<_}
 use native.Mathlib.Omega.{arith}
-use lib.Dec.{T, eqb, eqb→eq, ltb}
+use lib.Dec.{eqb, ltb}
 use lib.ListN.{length, take}
-use Rattle.rules.specs.Bytes.{ascii, all, sameBytes}
+use Rattle.rules.specs.Bytes.{ascii, sameBytes}
 use Rattle.rules.specs.Tables.{letterOrDigit, hexDigit, value, reference}
 use Rattle.rules.specs.Encoding.{encodeStep}
 use Rattle.rules.specs.declared.Html.{Html}
 use Rattle.rules.specs.declared.Html.the-variants.{Unquoted}
-use Rattle.rules.proofs.EveryByte.{every-byte}
-use Rattle.rules.proofs.Tests.{and-left, and-right, same-bytes}
+use Rattle.rules.proofs.Tests.{same-bytes}
 use Rattle.html.specs.Written.{written, few, unquoted}
 use Rattle.html.specs.Words.{wordOf, eight}
-use Rattle.html.proofs.Seven.{html, bytes, seven-bytes, unless, where-true, is-unquoted}
+use Rattle.html.proofs.Seven.{seven-bytes, agree}
 
 -- The choice between `&`, `<`, `>` and the byte itself, and that between all six.
 unfoldable pub choice3 : Html → ℕ → ℕ
@@ -35,43 +34,32 @@ choiceOfAll b =
     (cond (eqb b 34) (wordOf (ascii "&quot;"))
     (wordOf (value (reference b)))))))
 
-is3 : Html → ℕ → Bool
-is3 h b = not (few h) || eqb (choice3 h b) (wordOf (written h b))
-
-is6 : Html → ℕ → Bool
-is6 h b = unquoted h || eqb (choice6 h b) (wordOf (written h b))
-
-isAll : ℕ → Bool
-isAll b = eqb (choiceOfAll b) (wordOf (written Unquoted b))
-
-isWord : Html → ℕ → Bool
-isWord h b = eqb (wordOf (written h b) / 0x100000000000000) (length (written h b)) && sameBytes (take (length (written h b)) (eight (wordOf (written h b)))) (written h b)
-
+-- In each kind of context the choice is the word of what is written.
 pub word3 : (h : Html) (b : ℕ) → b < 256 → few h ≡ true → choice3 h b ≡ wordOf (written h b)
-unfolding is3 choice3 wordOf written encodeStep
-word3 h b l e = eqb→eq (choice3 h b) (wordOf (written h b)) (where-true (few h) (eqb (choice3 h b) (wordOf (written h b))) (seven-bytes is3 tt h b l) e)
+unfolding choice3 wordOf written encodeStep
+word3 = agree few choice3 (λ h b. wordOf (written h b)) tt
 
 pub word6 : (h : Html) (b : ℕ) → b < 256 → unquoted h ≡ false → choice6 h b ≡ wordOf (written h b)
-unfolding is6 choice3 choice6 wordOf written encodeStep
-word6 h b l e = eqb→eq (choice6 h b) (wordOf (written h b)) (unless (unquoted h) (eqb (choice6 h b) (wordOf (written h b))) (seven-bytes is6 tt h b l) e)
+unfolding choice3 choice6 wordOf written encodeStep
+word6 h b l e = agree (λ h. not (unquoted h)) choice6 (λ h b. wordOf (written h b)) tt h b l (ap not e)
 
 pub word-all : (b : ℕ) → b < 256 → choiceOfAll b ≡ wordOf (written Unquoted b)
-unfolding isAll choiceOfAll wordOf written encodeStep
-word-all b l = eqb→eq (choiceOfAll b) (wordOf (written Unquoted b)) (every-byte isAll tt b l)
+unfolding choiceOfAll wordOf written encodeStep
+word-all b l = agree unquoted (λ h b. choiceOfAll b) (λ h b. wordOf (written h b)) tt Unquoted b l refl
 
-pub word-unquoted : (h : Html) (b x : ℕ) → unquoted h ≡ true → x ≡ wordOf (written Unquoted b) → x ≡ wordOf (written h b)
-word-unquoted h b x e g = rw (is-unquoted h e) g
+pub word-unquoted : (h : Html) (b : ℕ) → b < 256 → unquoted h ≡ true → wordOf (written Unquoted b) ≡ wordOf (written h b)
+unfolding wordOf written encodeStep
+word-unquoted = agree unquoted (λ h b. wordOf (written Unquoted b)) (λ h b. wordOf (written h b)) tt
 
 -- The highest byte of a word says how many of the others are written, and these are they.
 pub word-is : (h : Html) (b : ℕ) → b < 256
     → (wordOf (written h b) / 0x100000000000000 ≡ length (written h b)) × (take (length (written h b)) (eight (wordOf (written h b))) ≡ written h b)
-unfolding isWord wordOf written encodeStep
-word-is h b l =
-    let w = written h b in
-    let size = eqb (wordOf w / 0x100000000000000) (length w) in
-    let same = sameBytes (take (length w) (eight (wordOf w))) w in
-    let t = seven-bytes isWord tt h b l in
-    (eqb→eq (wordOf w / 0x100000000000000) (length w) (and-left size same t), same-bytes (take (length w) (eight (wordOf w))) w (and-right size same t))
+unfolding wordOf written encodeStep
+word-is h b l = (
+  agree (λ h. true) (λ h b. wordOf (written h b) / 0x100000000000000) (λ h b. length (written h b)) tt h b l refl,
+  same-bytes (take (length (written h b)) (eight (wordOf (written h b)))) (written h b)
+      (seven-bytes (λ h b. sameBytes (take (length (written h b)) (eight (wordOf (written h b)))) (written h b)) tt h b l),
+)
 
 -- The word of a reference, by its two digits.
 pub word-hex : (b : ℕ) → 0x06003B0000782326 + hexDigit (b / 16) * 0x1000000 + hexDigit (b % 16) * 0x100000000 ≡ wordOf (value (reference b))

@@ -1,25 +1,24 @@
--- By how much a byte grows is the sum that the code adds up: one computed test of every byte in every context. And a text grows by what its
--- bytes and its parts do.
+-- By how much a byte grows is the sum that the code adds up: computed tests of every byte in every context. And a text grows by what its bytes
+-- and its parts do.
 -- Assumes nothing.
-use mathlib.Core.Bool.{Bool, true, false, not, _||_, cond}
-use mathlib.Core.Path.{_≡_, refl, sym, ap, _∙_}
-use mathlib.Core.List.{List, _++_}
+use mathlib.Core.Bool.{true, false, not, _||_, cond}
+use mathlib.Core.Path.{_≡_, refl, ap}
+use mathlib.Core.List.{List}
 use Prim.Native.Nat.{ℕ, _+_, _-_, _*_, _≤_, _<_}
 use native.Mathlib.Omega.{arith}
-use lib.Dec.{T, eqb, eqb→eq, ltb}
+use lib.Dec.{eqb, ltb}
 use lib.ListN.{length, take, drop, getD, length-append}
-use Rattle.rules.specs.Bytes.{all}
 use Rattle.rules.specs.Tables.{letterOrDigit}
 use Rattle.rules.specs.Encoding.{encodeStep}
 use Rattle.rules.specs.Operations.{encodeOf}
 use Rattle.rules.specs.declared.Html.{Html}
 use Rattle.rules.specs.declared.Html.the-variants.{Unquoted}
 use Rattle.rules.specs.declared.Context.the-variants.{InHtml}
-use Rattle.rules.proofs.EveryByte.{every-byte}
 use Rattle.html.specs.Written.{written, few, unquoted}
-use Rattle.html.specs.Gains.{gainOf, Grows}
-use Rattle.html.proofs.Seven.{html, bytes, seven-bytes, unless, where-true, is-unquoted}
-use Rattle.html.proofs.Text.{written-most, written-some, next-byte, next-part, next-none, part-length}
+use Rattle.html.specs.Gains.{gainOf, gainsOf, Grows}
+use Rattle.html.specs.declared.gains.Gains.{Gains}
+use Rattle.html.proofs.Seven.{agree}
+use Rattle.html.proofs.Text.{written-most, next-byte, next-part, next-none, part-length}
 
 -- ---- a byte
 
@@ -34,34 +33,31 @@ sum6 h b = sum3 h b + cond (eqb b 34) (gainOf h 34) 0 + cond (eqb b 39) (gainOf 
 unfoldable pub sumOfAll : ℕ → ℕ
 sumOfAll b = cond (ltb 127 b || letterOrDigit b) 0 (5 - cond (eqb b 38) 1 0 - cond (eqb b 60) 2 0 - cond (eqb b 62) 2 0)
 
-is3 : Html → ℕ → Bool
-is3 h b = not (few h) || eqb (sum3 h b + 1) (length (written h b))
-
-is6 : Html → ℕ → Bool
-is6 h b = unquoted h || eqb (sum6 h b + 1) (length (written h b))
-
-isAll : ℕ → Bool
-isAll b = eqb (sumOfAll b) (gainOf Unquoted b)
-
+-- In each kind of context the sum is the growth.
 pub gain3 : (h : Html) (b : ℕ) → b < 256 → few h ≡ true → sum3 h b + 1 ≡ length (written h b)
-unfolding is3 sum3 written encodeStep
-gain3 h b l e = eqb→eq (sum3 h b + 1) (length (written h b)) (where-true (few h) (eqb (sum3 h b + 1) (length (written h b))) (seven-bytes is3 tt h b l) e)
+unfolding sum3 written encodeStep
+gain3 = agree few (λ h b. sum3 h b + 1) (λ h b. length (written h b)) tt
 
 pub gain6 : (h : Html) (b : ℕ) → b < 256 → unquoted h ≡ false → sum6 h b + 1 ≡ length (written h b)
-unfolding is6 sum3 sum6 written encodeStep
-gain6 h b l e = eqb→eq (sum6 h b + 1) (length (written h b)) (unless (unquoted h) (eqb (sum6 h b + 1) (length (written h b))) (seven-bytes is6 tt h b l) e)
+unfolding sum3 sum6 written encodeStep
+gain6 h b l e = agree (λ h. not (unquoted h)) (λ h b. sum6 h b + 1) (λ h b. length (written h b)) tt h b l (ap not e)
 
 pub gain-all : (b : ℕ) → b < 256 → sumOfAll b ≡ gainOf Unquoted b
-unfolding isAll sumOfAll written encodeStep
-gain-all b l = eqb→eq (sumOfAll b) (gainOf Unquoted b) (every-byte isAll tt b l)
+unfolding sumOfAll written encodeStep
+gain-all b l = agree unquoted (λ h b. sumOfAll b) gainOf tt Unquoted b l refl
 
-pub gain-unquoted : (h : Html) (b n : ℕ) → unquoted h ≡ true → n ≡ gainOf Unquoted b → n + 1 ≡ length (written h b)
-gain-unquoted h b n e g = rw (is-unquoted h e) (omega (arith, written-some Unquoted b))
+pub gain-unquoted : (h : Html) (b : ℕ) → b < 256 → unquoted h ≡ true → gainOf Unquoted b + 1 ≡ length (written h b)
+unfolding written encodeStep
+gain-unquoted = agree unquoted (λ h b. gainOf Unquoted b + 1) (λ h b. length (written h b)) tt
 
--- A byte grows by at most five.
-pub gain-most : (h : Html) (b : ℕ) → gainOf h b ≤ 5
+gain-most : (h : Html) (b : ℕ) → gainOf h b ≤ 5
 gain-most h b = omega (arith, written-most h b)
 
+-- What is known of a context is small.
+pub small : (h : Html) (g : Gains) → g ≡ gainsOf h → (g .gt ≤ 5) × (g .double ≤ 5) × (g .single ≤ 5) × (g .slash ≤ 5)
+small h g e = rw e (gain-most h 62, gain-most h 34, gain-most h 39, gain-most h 47)
+
+-- And so is what a byte grows by.
 pub gain-is : (h : Html) (b n : ℕ) → n + 1 ≡ length (written h b) → (n + 1 ≡ length (written h b)) × (n ≤ 5)
 gain-is h b n e = (e, omega (arith, written-most h b))
 

@@ -2,14 +2,14 @@
 -- the start, `out` the output now and `at` the fill position. What is written so far, with what is left, is the whole; past it up to seven
 -- bytes are spilt, and from there on the output is as at the start. Assumes nothing.
 use mathlib.Core.Path.{_≡_, refl, sym, ap, _∙_}
-use mathlib.Core.List.{List, [], _∷_, _++_, append-assoc, append-nil}
-use Prim.Native.Nat.{ℕ, _+_, _-_, _≤_, _<_}
+use mathlib.Core.List.{List, [], _++_, append-assoc, append-nil}
+use Prim.Native.Nat.{ℕ, _+_, _-_, _≤_}
 use native.Mathlib.Omega.{arith}
 use lib.ListN.{length, take, drop, length-append, length-drop, drop-of-length-le}
 use lib.Seq.{take-at, drop-drop, take-append-le, take-append-add, drop-append-add, length-take-le}
 use Rattle.rules.specs.Bytes.{over}
 use Rattle.parts.proofs.Filled.{Next, lent-rest}
-use Rattle.html.specs.Words.{eight, Spills}
+use Rattle.html.specs.Words.{Spills}
 
 -- `sum`, `kept` and `room` stand here so that `omega` and `search needs` find them
 pub record Spilt (whole rest out₀ out : List ℕ) (at : ℕ) : Type 0 where

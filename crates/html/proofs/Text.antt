@@ -4,7 +4,7 @@ use mathlib.Core.Bool.{Bool, true, false}
 use mathlib.Core.Logic.{_⊎_, inl, inr}
 use mathlib.Core.Path.{_≡_, refl, sym, ap, _∙_}
 use mathlib.Core.List.{List, [], _∷_, _++_}
-use Prim.Native.Nat.{ℕ, suc, _+_, _-_, _*_, _≤_, _<_}
+use Prim.Native.Nat.{ℕ, suc, _+_, _-_, _≤_, _<_}
 use native.Mathlib.Omega.{arith}
 use native.Mathlib.Numerals.{add-one}
 use lib.Dec.{T, ltb}
@@ -20,8 +20,8 @@ use Rattle.rules.proofs.Bytewise.{ofByte, encode-cons, encode-byte, encode-appe
 use Rattle.rules.proofs.Growth.{encode-six, encode-sum}
 use Rattle.parts.proofs.Filled.{Next, lent-rest}
 use Rattle.html.specs.Written.{written}
-use Rattle.html.specs.Gains.{Grows, Each, Calm}
-use Rattle.html.proofs.Seven.{html, seven}
+use Rattle.html.specs.Gains.{Each, Calm}
+use Rattle.html.proofs.Seven.{seven}
 
 -- Every key is one byte.
 bytewise : (h : Html) → T (all ofByte (table (InHtml h)))
@@ -83,31 +83,33 @@ module _ (h : Html) where
   next-byte t i l = record { next = rw (drop-next t i l) (cons-written (getD t i 0) (drop (i + 1) t)) }
 
   -- What is left is a part, and what is left after it.
-  pub next-part : (t : List ℕ) (i e : ℕ) → i ≤ e → Next (encodeOf (InHtml h) (drop i t)) (encodeOf (InHtml h) (take (e - i) (drop i t))) (encodeOf (InHtml h) (drop e t))
-  next-part t i e l = record { next = ap (encodeOf (InHtml h)) (sym (parted t i e l)) ∙ encode-append (InHtml h) (bytewise h) (take (e - i) (drop i t)) (drop e t) }
+  pub next-part : (t : List ℕ) (i e : ℕ) → i ≤ e
+      → Next (encodeOf (InHtml h) (drop i t)) (encodeOf (InHtml h) (take (e - i) (drop i t))) (encodeOf (InHtml h) (drop e t))
+  next-part t i e l =
+      let whole = ap (encodeOf (InHtml h)) (sym (parted t i e l)) in
+      record { next = whole ∙ encode-append (InHtml h) (bytewise h) (take (e - i) (drop i t)) (drop e t) }
 
   -- At the end nothing is left.
   pub next-none : (t : List ℕ) (i : ℕ) → length t ≤ i → encodeOf (InHtml h) (drop i t) ≡ []
   next-none t i l = rw (drop-of-length-le t l)
 
   -- What does not grow is copied.
-  pub same : (t : List ℕ) → length (encodeOf (InHtml h) t) ≡ length t → encodeOf (InHtml h) t ≡ t
-  same t e = encode-same (InHtml h) (bytewise h) t e
+  pub copied : (t : List ℕ) → length (encodeOf (InHtml h) t) ≡ length t → encodeOf (InHtml h) t ≡ t
+  copied t e = encode-same (InHtml h) (bytewise h) t e
 
   -- A text in two, the rest as it is lent.
   pub halves : (t : List ℕ) (e : ℕ) → encodeOf (InHtml h) t ≡ encodeOf (InHtml h) (take e t) ++ encodeOf (InHtml h) (take (length t - e) (drop e t))
   halves t e = ap (encodeOf (InHtml h)) (sym (take-append-drop e t)) ∙ encode-append (InHtml h) (bytewise h) (take e t) (drop e t) ∙ rw (lent-rest e t)
 
   -- How long the two are; the rest does not shrink.
-  pub half-sizes : (t : List ℕ) (e : ℕ) → (length (encodeOf (InHtml h) (take e t)) + length (encodeOf (InHtml h) (take (length t - e) (drop e t))) ≡ length (encodeOf (InHtml h) t))
+  pub half-sizes : (t : List ℕ) (e : ℕ)
+      → (length (encodeOf (InHtml h) (take e t)) + length (encodeOf (InHtml h) (take (length t - e) (drop e t))) ≡ length (encodeOf (InHtml h) t))
       × (length (take (length t - e) (drop e t)) ≡ length t - e) × (length t - e ≤ length (encodeOf (InHtml h) (take (length t - e) (drop e t))))
   half-sizes t e =
-      let n : length (take (length t - e) (drop e t)) ≡ length t - e = ap length (lent-rest e t) ∙ length-drop e t in
-      (sym (ap length (halves t e) ∙ length-append (encodeOf (InHtml h) (take e t)) (encodeOf (InHtml h) (take (length t - e) (drop e t)))), n, omega (arith, encode-sum (InHtml h) (take (length t - e) (drop e t))))
-
-  -- The encoding of a text is at most six times its length.
-  pub six : (t : List ℕ) → length (encodeOf (InHtml h) t) ≤ 6 * length t
-  six t = encode-six (InHtml h) t
+      let rest = take (length t - e) (drop e t) in
+      let n : length rest ≡ length t - e = ap length (lent-rest e t) ∙ length-drop e t in
+      let sum = ap length (halves t e) ∙ length-append (encodeOf (InHtml h) (take e t)) (encodeOf (InHtml h) rest) in
+      (sym sum, n, omega (arith, encode-sum (InHtml h) rest))
 
   -- A calm text does not grow.
   pub calm-length : (t : List ℕ) → Each (Calm h) t → length (encodeOf (InHtml h) t) ≡ length t

@@ -45,7 +45,8 @@ fn write_byte(h: Html, w: Words, b: u8, output: &mut [u8]) -> usize
 fn write_bytes(h: Html, w: Words, text: &[u8], output: &mut [u8]) -> usize
     requires { ⌜ w ≡ wordsOf h ⌝ }
     requires { ⌜ length (encodeOf (InHtml h) (now text)) + 7 ≤ length (now output) ⌝ }
-    ensures { λ r. ⌜ (r ≡ length (encodeOf (InHtml h) (now (text .entry)))) × Spills (encodeOf (InHtml h) (now (text .entry))) (now (output .entry)) (now (output .exit)) ⌝ }
+    ensures { λ r. ⌜ r ≡ length (encodeOf (InHtml h) (now (text .entry))) ⌝ }
+    ensures { λ _. ⌜ Spills (encodeOf (InHtml h) (now (text .entry))) (now (output .entry)) (now (output .exit)) ⌝ }
 {
     let mut at: usize = 0;
     let mut i: usize = 0;
@@ -60,7 +61,8 @@ fn write_bytes(h: Html, w: Words, text: &[u8], output: &mut [u8]) -> usize
 fn write_part(h: Html, g: Gains, w: Words, part: &[u8], output: &mut [u8]) -> usize
     requires { ⌜ (g ≡ gainsOf h) × (w ≡ wordsOf h) × (length (now part) ≤ 48) ⌝ }
     requires { ⌜ length (encodeOf (InHtml h) (now part)) + 7 ≤ length (now output) ⌝ }
-    ensures { λ r. ⌜ (r ≡ length (encodeOf (InHtml h) (now (part .entry)))) × Spills (encodeOf (InHtml h) (now (part .entry))) (now (output .entry)) (now (output .exit)) ⌝ }
+    ensures { λ r. ⌜ r ≡ length (encodeOf (InHtml h) (now (part .entry))) ⌝ }
+    ensures { λ _. ⌜ Spills (encodeOf (InHtml h) (now (part .entry))) (now (output .entry)) (now (output .exit)) ⌝ }
 {
     if growth(h, g, part) == 0 {
         return parts::put(part, output);
@@ -72,7 +74,8 @@ fn write_part(h: Html, g: Gains, w: Words, part: &[u8], output: &mut [u8]) -> us
 fn write_parts(h: Html, w: Words, text: &[u8], output: &mut [u8]) -> usize
     requires { ⌜ w ≡ wordsOf h ⌝ }
     requires { ⌜ length (encodeOf (InHtml h) (now text)) + 7 ≤ length (now output) ⌝ }
-    ensures { λ r. ⌜ (r ≡ length (encodeOf (InHtml h) (now (text .entry)))) × Spills (encodeOf (InHtml h) (now (text .entry))) (now (output .entry)) (now (output .exit)) ⌝ }
+    ensures { λ r. ⌜ r ≡ length (encodeOf (InHtml h) (now (text .entry))) ⌝ }
+    ensures { λ _. ⌜ Spills (encodeOf (InHtml h) (now (text .entry))) (now (output .entry)) (now (output .exit)) ⌝ }
 {
     let g = weigh(h);
     let mut at: usize = 0;
@@ -89,7 +92,8 @@ fn write_parts(h: Html, w: Words, text: &[u8], output: &mut [u8]) -> usize
 pub fn write_most(h: Html, w: Words, text: &[u8], grow: usize, output: &mut [u8]) -> usize
     requires { ⌜ w ≡ wordsOf h ⌝ }
     requires { ⌜ length (encodeOf (InHtml h) (now text)) + 7 ≤ length (now output) ⌝ }
-    ensures { λ r. ⌜ (r ≡ length (encodeOf (InHtml h) (now (text .entry)))) × Spills (encodeOf (InHtml h) (now (text .entry))) (now (output .entry)) (now (output .exit)) ⌝ }
+    ensures { λ r. ⌜ r ≡ length (encodeOf (InHtml h) (now (text .entry))) ⌝ }
+    ensures { λ _. ⌜ Spills (encodeOf (InHtml h) (now (text .entry))) (now (output .entry)) (now (output .exit)) ⌝ }
 {
     if text.len() / 8 <= grow {
         return write_bytes(h, w, text, output);
@@ -101,7 +105,8 @@ pub fn write_most(h: Html, w: Words, text: &[u8], grow: usize, output: &mut [u8]
 pub fn write_exactly(h: Html, w: Words, text: &[u8], output: &mut [u8]) -> usize
     requires { ⌜ (w ≡ wordsOf h) × (length (now text) < 8) ⌝ }
     requires { ⌜ length (encodeOf (InHtml h) (now text)) ≤ length (now output) ⌝ }
-    ensures { λ r. ⌜ (r ≡ length (encodeOf (InHtml h) (now (text .entry)))) × (now (output .exit) ≡ over (encodeOf (InHtml h) (now (text .entry))) (now (output .entry))) ⌝ }
+    ensures { λ r. ⌜ r ≡ length (encodeOf (InHtml h) (now (text .entry))) ⌝ }
+    ensures { λ _. ⌜ now (output .exit) ≡ over (encodeOf (InHtml h) (now (text .entry))) (now (output .entry)) ⌝ }
 {
     let mut buffer: [u8; 64] = [0; 64];
     let n = write_bytes(h, w, text, &mut buffer);

@@ -37,7 +37,7 @@ impl Gains {
     }
 }
 
-// What is to be known of a context.
+// What is to be known of a context: the growth of the four bytes that not every context replaces.
 pub fn weigh(h: Html) -> Gains
     ensures { λ r. ⌜ r ≡ gainsOf h ⌝ }
 {
@@ -73,13 +73,13 @@ fn is_inside(from: u8, to: u8, b: u8) -> bool
 pub fn is_letter_or_digit(b: u8) -> bool
     ensures { λ r. ⌜ r ≡ letterOrDigit b ⌝ }
 {
-    if is_inside(48, 57, b) {
+    if is_inside(b'0', b'9', b) {
         return true;
     }
-    if is_inside(65, 90, b) {
+    if is_inside(b'A', b'Z', b) {
         return true;
     }
-    is_inside(97, 122, b)
+    is_inside(b'a', b'z', b)
 }
 
 // By how much a byte grows in an unquoted attribute.
@@ -92,7 +92,7 @@ fn gain_unquoted(b: u8) -> u8
     if is_letter_or_digit(b) {
         return 0;
     }
-    5 - when(b, 38, 1) - when(b, 60, 2) - when(b, 62, 2)
+    5 - when(b, b'&', 1) - when(b, b'<', 2) - when(b, b'>', 2)
 }
 
 // By how much a byte grows.
@@ -103,11 +103,11 @@ pub fn gain(h: Html, g: Gains, b: u8) -> u8
     if g.unquoted {
         return gain_unquoted(b);
     }
-    let n = when(b, 38, 4) + when(b, 60, 3) + when(b, 62, g.gt);
+    let n = when(b, b'&', 4) + when(b, b'<', 3) + when(b, b'>', g.gt);
     if g.few {
         return n;
     }
-    n + when(b, 34, g.double) + when(b, 39, g.single) + when(b, 47, g.slash)
+    n + when(b, b'"', g.double) + when(b, b'\'', g.single) + when(b, b'/', g.slash)
 }
 
 // By how much a part grows. Its bytes are so few that the count fits a byte.

@@ -1,7 +1,8 @@
-// The encoder of the HTML seven, at speed: by how much a text grows, and its encoding, written into a lent output.
+// The encoder of the HTML seven, at speed: by how much a text grows, and its encoding, written into a lent output. html-escape's
+// encode/html_entity.
 //
-// No loop here branches on a byte. The growth of a byte is a sum of comparisons, so that the loops over it are made vector code; and what is
-// written for a byte is chosen as one word of eight bytes, of which as many count as its highest byte says.
+// Plain text is quick since the growth of a byte is a sum of comparisons, so that the loops over it are made vector code. Text that is full of
+// `<` is quick since what is written for a byte is chosen as one word of eight bytes, of which as many count as its highest byte says.
 mod fill;
 mod gains;
 mod look;
@@ -24,7 +25,8 @@ pub struct Scan {
 // Counts by how many bytes the encoding of a text is longer. A long text is first tested for being plain, which is quicker.
 pub fn survey(h: Html, text: &[u8]) -> Scan
     requires { ⌜ length (now text) ≤ 65536 ⌝ }
-    ensures { λ r. ⌜ (length (now (text .entry)) + r .grow ≡ length (encodeOf (InHtml h) (now (text .entry)))) × (r .grow ≤ 5 * length (now (text .entry))) × (r .high ≡ 0 → (k : ℕ) → k < length (now (text .entry)) → getD (now (text .entry)) k 0 < 128) ⌝ }
+    ensures { λ r. ⌜ (length (now (text .entry)) + r .grow ≡ length (encodeOf (InHtml h) (now (text .entry)))) × (r .grow ≤ 5 * length (now (text .entry))) ⌝ }
+    ensures { λ r. ⌜ (r .high ≡ 0 → (k : ℕ) → k < length (now (text .entry)) → getD (now (text .entry)) k 0 < 128) ⌝ }
 {
     let g = gains::weigh(h);
     if 256 < text.len() {
@@ -40,7 +42,8 @@ pub fn survey(h: Html, text: &[u8]) -> Scan
 pub fn write(h: Html, text: &[u8], grow: usize, output: &mut [u8]) -> usize
     requires { ⌜ length (now text) + grow ≡ length (encodeOf (InHtml h) (now text)) ⌝ }
     requires { ⌜ length (encodeOf (InHtml h) (now text)) ≤ length (now output) ⌝ }
-    ensures { λ r. ⌜ (r ≡ length (encodeOf (InHtml h) (now (text .entry)))) × (now (output .exit) ≡ over (encodeOf (InHtml h) (now (text .entry))) (now (output .entry))) ⌝ }
+    ensures { λ r. ⌜ r ≡ length (encodeOf (InHtml h) (now (text .entry))) ⌝ }
+    ensures { λ _. ⌜ now (output .exit) ≡ over (encodeOf (InHtml h) (now (text .entry))) (now (output .entry)) ⌝ }
 {
     if grow == 0 {
         return parts::put(text, output);

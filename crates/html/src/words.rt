@@ -1,4 +1,5 @@
 // What is written for a byte, as one word: up to six bytes, the first the lowest, and in the highest byte how many they are.
+// html-escape's `write_html_entity` and `write_hex`.
 use super::gains::is_letter_or_digit;
 use rules::Html;
 ghost use mathlib.Core.Path.{_≡_};
@@ -25,13 +26,13 @@ const APOSTROPHE: u64 = 0x0600_3B37_3278_2326;
 const SOLIDUS: u64 = 0x0600_3B46_3278_2326;
 // `&#x`, room for two digits, `;`
 const HEX: u64 = 0x0600_3B00_0078_2326;
-// `>`, `"`, `'` and `/` as they are
+// `>`
 const PLAIN_GT: u64 = 0x0100_0000_0000_003E;
-
+// `"`
 const PLAIN_QUOT: u64 = 0x0100_0000_0000_0022;
-
+// `'`
 const PLAIN_APOSTROPHE: u64 = 0x0100_0000_0000_0027;
-
+// `/`
 const PLAIN_SOLIDUS: u64 = 0x0100_0000_0000_002F;
 
 // A context that replaces nothing but `&`, `<` and `>`, or every ASCII byte that is no letter or digit, or something between; and the words of
@@ -67,7 +68,7 @@ fn plain(b: u8) -> u64
     0x0100_0000_0000_0000 + b as u64
 }
 
-// What is to be known of a context.
+// What is to be known of a context: the words of the four bytes that not every context replaces.
 pub fn choose(h: Html) -> Words
     ensures { λ r. ⌜ r ≡ wordsOf h ⌝ }
 {
@@ -94,7 +95,7 @@ fn hex_digit(n: u8) -> u8
     requires { ⌜ n < 16 ⌝ }
     ensures { λ r. ⌜ (r ≡ hexDigit n) × (r < 128) ⌝ }
 {
-    if n < 10 { 48 + n } else { 55 + n }
+    if n < 10 { b'0' + n } else { b'A' + (n - 10) }
 }
 
 // The word of a byte that is written as `&#xHH;`.
@@ -123,12 +124,10 @@ fn word_unquoted(b: u8) -> u64
     if is_letter_or_digit(b) {
         return plain(b);
     }
-    select(
-        b,
-        38,
-        AMP,
-        select(b, 60, LT, select(b, 62, GT, select(b, 34, QUOT, hex(b)))),
-    )
+    let x = select(b, b'"', QUOT, hex(b));
+    let x = select(b, b'>', GT, x);
+    let x = select(b, b'<', LT, x);
+    select(b, b'&', AMP, x)
 }
 
 // The word of a byte.
@@ -139,14 +138,13 @@ pub fn word(h: Html, w: Words, b: u8) -> u64
     if w.unquoted {
         return word_unquoted(b);
     }
-    let x = select(b, 38, AMP, select(b, 60, LT, select(b, 62, w.gt, plain(b))));
+    let x = select(b, b'>', w.gt, plain(b));
+    let x = select(b, b'<', LT, x);
+    let x = select(b, b'&', AMP, x);
     if w.few {
         return x;
     }
-    select(
-        b,
-        34,
-        w.double,
-        select(b, 39, w.single, select(b, 47, w.slash, x)),
-    )
+    let x = select(b, b'/', w.slash, x);
+    let x = select(b, b'\'', w.single, x);
+    select(b, b'"', w.double, x)
 }

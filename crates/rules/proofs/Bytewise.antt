@@ -6,14 +6,14 @@ use mathlib.Core.Logic.{_⊎_, inl, inr}
 use mathlib.Core.Option.{Option, none, some}
 use mathlib.Core.Path.{_≡_, refl, sym, ap, _∙_}
 use mathlib.Core.List.{List, [], _∷_, _++_, append-assoc, append-nil}
-use Prim.Native.Nat.{ℕ, suc, _+_, _≤_, _<_}
+use Prim.Native.Nat.{ℕ, suc, _+_, _<_}
 use native.Mathlib.Omega.{arith}
 use lib.Dec.{T, eqb, ltb, ltb→lt}
 use lib.ListN.{length, length-append}
-use Rattle.rules.specs.Bytes.{In, all, first, stands}
-use Rattle.rules.specs.Moves.{Move, keep, swap, takes, gives, moves, result}
+use Rattle.rules.specs.Bytes.{all, stands}
+use Rattle.rules.specs.Moves.{Move, keep, takes, gives, moves, result}
 use Rattle.rules.specs.Tables.{Row, rowAt, key, value, table}
-use Rattle.rules.specs.Encoding.{write, keepByte, encodeStep}
+use Rattle.rules.specs.Encoding.{write, encodeStep}
 use Rattle.rules.specs.Operations.{encodeOf}
 use Rattle.rules.specs.declared.Context.{Context}
 use Rattle.rules.proofs.Tests.{and-left, and-right, all-in, first-sound}

@@ -1,14 +1,12 @@
+-- The range holds the byte exactly if neither test fails.
+-- Assumes nothing.
 use borrow.Author.Tests.{lt-leb, le-leb}
 use Rattle.html.proofs.gains.is_inside.Statement.{statement}
 use Rattle.html.proofs.gains.is_inside.Tie as tie
-use Rattle.html.proofs.gains.is_inside.Reads as reads
-use Rattle.html.proofs.gains.is_inside.Lts as lts
 
--- src/gains.rt:67:9
 returns : tie.Need-returns
 returns c = rw (lt-leb _ _ (c .if1 .taken))
 
--- src/gains.rt:63:1
 returns-2 : tie.Need-returns-2
 returns-2 c = rw (le-leb _ _ (c .if1 .left))
 

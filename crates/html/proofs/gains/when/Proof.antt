@@ -1,15 +1,13 @@
+-- The test of the key, both ways.
+-- Assumes nothing.
 use borrow.Author.Needs.{needs}
 use borrow.Author.Tests.{eq-eqb, ne-eqb}
 use Rattle.html.proofs.gains.when.Statement.{statement}
 use Rattle.html.proofs.gains.when.Tie as tie
-use Rattle.html.proofs.gains.when.Reads as reads
-use Rattle.html.proofs.gains.when.Lts as lts
 
--- src/gains.rt:56:1
 returns : tie.Need-returns
 returns c = (rw (eq-eqb _ _ (c .if1 .taken)), search needs)
 
--- src/gains.rt:56:1
 returns-2 : tie.Need-returns-2
 returns-2 c = (rw (ne-eqb _ _ (c .if1 .left)), search needs)
 

@@ -1,16 +1,14 @@
-use Rattle.html.specs.Written.{written}
-use Rattle.html.proofs.Text.{written-some}
+-- No byte so far is greater, or grows by more, than the greatest so far.
+-- Assumes nothing.
+use Prim.Native.Nat.{ℕ, _+_, _-_, _≤_, _<_}
+use native.Mathlib.Omega.{arith}
+use lib.ListN.{length, getD}
 use borrow.Author.Count.{below-more}
 use borrow.Author.Needs.{needs}
-use lib.ListN.{length, getD}
-use native.Mathlib.Omega.{arith}
-use Prim.Native.Nat.{ℕ, _+_, _-_, _≤_, _<_}
+use Rattle.html.specs.Written.{written}
+use Rattle.html.proofs.Text.{written-some}
 use Rattle.html.proofs.look.peak.Statement.{statement}
 use Rattle.html.proofs.look.peak.Tie as tie
-use Rattle.html.proofs.look.peak.Reads as reads
-use Rattle.html.proofs.look.peak.Lts as lts
-use Rattle.html.proofs.gains.gain.Reads as gain-reads
-use Rattle.html.proofs.look.greater.Reads as greater-reads
 
 abbrev Inv-loop : tie.InvT-loop
 Inv-loop h g part most₀ n₀ i₀ most n i = (i ≤ length part) × ((k : ℕ) → k < i → (getD part k 0 ≤ most) × (length (written h (getD part k 0)) ≤ n + 1))
@@ -18,39 +16,31 @@ Inv-loop h g part most₀ n₀ i₀ most n i = (i ≤ length part) × ((k : ℕ)
 abbrev μ-loop : tie.MeasureT-loop
 μ-loop h g part most₀ n₀ i₀ most n i = length part - i
 
--- src/look.rt:81:5
 loop-holds : tie.Need-loop-holds Inv-loop μ-loop
 loop-holds c = (search needs, λ k l. absurd (omega arith))
 
--- src/look.rt:82:17
 shared-slice-read-b : tie.Need-shared-slice-read-b Inv-loop μ-loop
 shared-slice-read-b c = search needs
 
--- src/look.rt:83:9
 greater-requires : tie.Need-greater-requires Inv-loop μ-loop
 greater-requires c κs = search needs
 
--- src/look.rt:84:24
 gain-requires : tie.Need-gain-requires Inv-loop μ-loop
 gain-requires c κs = c .before .before .before .before .before .pre
 
--- src/look.rt:84:9
 greater-requires-2 : tie.Need-greater-requires-2 Inv-loop μ-loop
 greater-requires-2 c κs = search needs
 
--- src/look.rt:85:9
 add-i : tie.Need-add-i Inv-loop μ-loop
 add-i c = search needs
 
--- src/look.rt:81:5
 loop-less : tie.Need-loop-less Inv-loop μ-loop
 loop-less c = search needs
 
--- src/look.rt:81:5
 loop-again : tie.Need-loop-again Inv-loop μ-loop
 loop-again c =
-    let l = c .before .before .before .before .before .loop in
     let a = c .before .before .before .before .before .before .before .args in
+    let l = c .before .before .before .before .before .loop in
     let x = c .before .before .greater in
     let y = c .greater2 in (
       search needs,
@@ -59,11 +49,11 @@ loop-again c =
           (x .ensures .1, omega (arith, c .before .gain .ensures .0, y .ensures .1)),
     )
 
--- src/look.rt:74:1
 returns : tie.Need-returns Inv-loop μ-loop
 returns c =
     let a = c .before .before .before .args in
-    λ b e k l. let p = c .before .loop .inv .1 k (omega arith) in (omega (arith, p .1, e, written-some (a .h) (getD (a .part .now) k 0)), omega (arith, p .0, b))
+    λ b e k l. let p = c .before .loop .inv .1 k (omega arith) in
+    (omega (arith, p .1, e, written-some (a .h) (getD (a .part .now) k 0)), omega (arith, p .0, b))
 
 pub peak-spec : {M : Type 1} → statement M
 peak-spec =

@@ -1,16 +1,14 @@
-use Rattle.html.specs.Words.{wordOf}
+-- One byte, and the number one in the highest.
+-- Assumes nothing.
 use native.Mathlib.Omega.{arith}
 use borrow.Author.Needs.{needs}
+use Rattle.html.specs.Words.{wordOf}
 use Rattle.html.proofs.words.plain.Statement.{statement}
 use Rattle.html.proofs.words.plain.Tie as tie
-use Rattle.html.proofs.words.plain.Reads as reads
-use Rattle.html.proofs.words.plain.Lts as lts
 
--- src/words.rt:59:5
 add-result : tie.Need-add-result
 add-result c = search needs
 
--- src/words.rt:56:1
 returns : tie.Need-returns
 unfolding wordOf
 returns c = omega arith
