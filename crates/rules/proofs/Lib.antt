@@ -11,3 +11,4 @@ pub mod Growth
 pub mod Whole
 pub mod Laws
 pub mod Loops
+pub mod Names
