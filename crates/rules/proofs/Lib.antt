@@ -17,3 +17,4 @@ pub mod Examples
 pub mod Loops
 pub mod Bytewise
 pub mod Quiet
+pub mod Names
