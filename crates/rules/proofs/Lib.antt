@@ -18,3 +18,5 @@ pub mod Loops
 pub mod Bytewise
 pub mod Quiet
 pub mod Names
+pub mod Blind
+pub mod Below
