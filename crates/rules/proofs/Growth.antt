@@ -161,6 +161,15 @@ module _ (rule : Rule) (fair : (p : ℕ) (s : List ℕ) → Fair Grows (rule p s
   none-replaced : (s : List ℕ) → result (through rule s) ≡ s → replaced (through rule s) ≡ 0
   none-replaced s e = as-long s .1 (ap length e)
 
+  -- What is no longer than the text is the text.
+  no-longer : (s : List ℕ) → length (result (through rule s)) ≡ length s → result (through rule s) ≡ s
+  no-longer s e =
+      let w = whole Grows rule fair goes s in
+      same-result (through rule s)
+      (none-left (replaced (through rule s)) (length (taken (through rule s))) (length (result (through rule s))) (at-least (through rule s) (moves-fair Grows rule fair 0 0 s .0))
+      (e ∙ ap length (sym w)))
+      ∙ w
+
 pub encode-whole : (c : Context) (s : List ℕ) → taken (through (encodeStep c) s) ≡ s
 encode-whole c = whole Grows (encodeStep c) (encode-fair c) (encode-goes c)
 
@@ -178,6 +187,9 @@ raw-sum = grown-sum rawStep raw-fair raw-goes
 
 pub raw-six : (s : List ℕ) → length (result (through rawStep s)) ≤ 6 * length s
 raw-six = six-times rawStep raw-fair raw-goes
+
+pub encode-no-longer : (c : Context) (s : List ℕ) → length (result (through (encodeStep c) s)) ≡ length s → result (through (encodeStep c) s) ≡ s
+encode-no-longer c = no-longer (encodeStep c) (encode-fair c) (encode-goes c)
 
 pub encode-none : (c : Context) (s : List ℕ) → result (through (encodeStep c) s) ≡ s → replaced (through (encodeStep c) s) ≡ 0
 encode-none c = none-replaced (encodeStep c) (encode-fair c) (encode-goes c)

@@ -17,3 +17,6 @@ pub mod Examples
 pub mod Loops
 pub mod Bytewise
 pub mod Quiet
+pub mod Names
+pub mod Blind
+pub mod Below

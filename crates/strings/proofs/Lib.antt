@@ -1,0 +1,5 @@
+pub mod Heads
+pub mod Finds
+pub mod Sums
+pub mod Cuts
+pub mod Steps

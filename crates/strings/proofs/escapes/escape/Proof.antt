@@ -1,0 +1,138 @@
+use Rattle.strings.specs.Strings.{endsOf}
+use Rattle.rules.specs.declared.Replacement.the-variants.{Slashed, Hex, Separator, Substitute, Nothing}
+use mathlib.Core.Bool.{true}
+use Rattle.strings.proofs.Finds.{found-none, found-kind, found-lead, ended-short, ended-long, ends-are}
+use borrow.Author.Tests.{ne-eqb, not-true, not-false}
+use native.Mathlib.Omega.{arith}
+use mathlib.Core.Path.{_≡_, refl, sym, ap, _∙_}
+use Prim.Native.Nat.{ℕ, _+_, _-_, _*_, _≤_, _<_}
+use lib.ListN.{length, getD}
+use borrow.Author.Needs.{needs}
+use Rattle.strings.proofs.escapes.escape.Statement.{statement}
+use Rattle.strings.proofs.escapes.escape.Tie as tie
+use Rattle.strings.proofs.escapes.escape.Reads as reads
+use Rattle.strings.proofs.escapes.escape.Lts as lts
+use Rattle.strings.proofs.escapes.ends_separator.Reads as ends-separator-reads
+use Rattle.strings.proofs.flags.needs_escape.Reads as needs-escape-reads
+
+-- src/escapes.rt:34:13
+shared-slice-read-b : tie.Need-shared-slice-read-b
+shared-slice-read-b c = search needs
+
+-- src/escapes.rt:35:9
+needs-escape-requires : tie.Need-needs-escape-requires
+needs-escape-requires c κs = search needs
+
+-- src/escapes.rt:36:9
+returns : tie.Need-returns
+returns c = let a = c .before .before .before .before .args in
+    let s = a .rest .now in
+    let h : 0 < length s = c .before .before .before .before .pre .0 in
+    (found-none (a .strings) s h (sym (c .before .needs-escape .ensures) ∙ not-true _ (c .if1 .taken)), search needs)
+
+-- src/escapes.rt:49:17
+returns-2 : tie.Need-returns-2
+returns-2 c = let a = c .before .before .before .before .before .before .args in
+    let s = a .rest .now in
+    let h : 0 < length s = c .before .before .before .before .before .before .pre .0 in
+    (found-lead (a .strings) s Nothing h (c .before .match .keys5) (sym (c .before .before .before .needs-escape .ensures) ∙ not-false _ (c .before .before .if1 .left)) (rw (ended-short s (c .if3 .taken))), search needs)
+
+-- src/escapes.rt:51:31
+shared-slice-read-ends-separator : tie.Need-shared-slice-read-ends-separator
+shared-slice-read-ends-separator c = search needs
+
+-- src/escapes.rt:51:40
+shared-slice-read-ends-separator-2 : tie.Need-shared-slice-read-ends-separator-2
+shared-slice-read-ends-separator-2 c = search needs
+
+-- src/escapes.rt:51:16
+ends-separator-requires : tie.Need-ends-separator-requires
+ends-separator-requires c κs = search needs
+
+-- src/escapes.rt:52:17
+returns-3 : tie.Need-returns-3
+returns-3 c = let a = c .before .before .before .before .before .before .before .before .before .before .args in
+    let s = a .rest .now in
+    let h : 0 < length s = c .before .before .before .before .before .before .before .before .before .before .pre .0 in
+    let l : 3 ≤ length s = c .before .before .before .before .if3 .left in
+    let e : endsOf (getD s 1 0) (getD s 2 0) ≡ true = sym (c .before .ends-separator .ensures) ∙ c .if4 .taken in
+    (found-lead (a .strings) s Separator h (c .before .before .before .before .before .match .keys5) (sym (c .before .before .before .before .before .before .before .needs-escape .ensures) ∙ not-false _ (c .before .before .before .before .before .before .if1 .left)) (rw (ended-long s l, e)), (l, omega (arith, ends-are (getD s 1 0) (getD s 2 0) e .1)))
+
+-- src/escapes.rt:30:1
+returns-4 : tie.Need-returns-4
+returns-4 c = let a = c .before .before .before .before .before .args in
+    let s = a .rest .now in
+    let h : 0 < length s = c .before .before .before .before .before .pre .0 in
+    let k : getD s 0 0 ≡ 34 = c .match .keys1 in
+    (found-kind (a .strings) s Slashed h (omega arith) (sym (c .before .before .needs-escape .ensures) ∙ not-false _ (c .before .if1 .left)) (λ e. omega arith) (rw k), search needs)
+
+-- src/escapes.rt:30:1
+returns-5 : tie.Need-returns-5
+returns-5 c = let a = c .before .before .before .before .before .args in
+    let s = a .rest .now in
+    let h : 0 < length s = c .before .before .before .before .before .pre .0 in
+    let k : getD s 0 0 ≡ 39 = c .match .keys2 in
+    (found-kind (a .strings) s Slashed h (omega arith) (sym (c .before .before .needs-escape .ensures) ∙ not-false _ (c .before .if1 .left)) (λ e. omega arith) (rw k), search needs)
+
+-- src/escapes.rt:30:1
+returns-6 : tie.Need-returns-6
+returns-6 c = let a = c .before .before .before .before .before .args in
+    let s = a .rest .now in
+    let h : 0 < length s = c .before .before .before .before .before .pre .0 in
+    let k : getD s 0 0 ≡ 92 = c .match .keys3 in
+    (found-kind (a .strings) s Slashed h (omega arith) (sym (c .before .before .needs-escape .ensures) ∙ not-false _ (c .before .if1 .left)) (λ e. omega arith) (rw k), search needs)
+
+-- src/escapes.rt:30:1
+returns-7 : tie.Need-returns-7
+returns-7 c = let a = c .before .before .before .before .before .before .args in
+    let s = a .rest .now in
+    let h : 0 < length s = c .before .before .before .before .before .before .pre .0 in
+    let k : getD s 0 0 ≡ 0 = c .before .match .keys4 in
+    (found-kind (a .strings) s Substitute h (omega arith) (sym (c .before .before .before .needs-escape .ensures) ∙ not-false _ (c .before .before .if1 .left)) (λ e. omega arith) (rw (k, c .if2 .taken)), search needs)
+
+-- src/escapes.rt:30:1
+returns-8 : tie.Need-returns-8
+returns-8 c = let a = c .before .before .before .before .before .before .args in
+    let s = a .rest .now in
+    let h : 0 < length s = c .before .before .before .before .before .before .pre .0 in
+    let k : getD s 0 0 ≡ 0 = c .before .match .keys4 in
+    (found-kind (a .strings) s Hex h (omega arith) (sym (c .before .before .before .needs-escape .ensures) ∙ not-false _ (c .before .before .if1 .left)) (λ e. omega arith) (rw (k, c .if2 .left)), search needs)
+
+-- src/escapes.rt:30:1
+returns-9 : tie.Need-returns-9
+returns-9 c = let a = c .before .before .before .before .before .before .before .before .before .before .args in
+    let s = a .rest .now in
+    let h : 0 < length s = c .before .before .before .before .before .before .before .before .before .before .pre .0 in
+    let l : 3 ≤ length s = c .before .before .before .before .if3 .left in
+    (found-lead (a .strings) s Nothing h (c .before .before .before .before .before .match .keys5) (sym (c .before .before .before .before .before .before .before .needs-escape .ensures) ∙ not-false _ (c .before .before .before .before .before .before .if1 .left)) (rw (ended-long s l, ← c .before .ends-separator .ensures, c .if4 .left)), search needs)
+
+-- src/escapes.rt:30:1
+returns-10 : tie.Need-returns-10
+returns-10 c = let a = c .before .before .before .before .before .args in
+    let s = a .rest .now in
+    let h : 0 < length s = c .before .before .before .before .before .pre .0 in
+    let r = c .match .rest in (
+      found-kind (a .strings) s Hex h (c .before .before .before .before .shared-slice-known .given 0 .fits) (sym (c .before .before .needs-escape .ensures) ∙ not-false _ (c .before .if1 .left)) (r .1)
+          (rw (ne-eqb _ 34 (r .0 .0 .0 .0 .1), ne-eqb _ 39 (r .0 .0 .0 .1), ne-eqb _ 92 (r .0 .0 .1), ne-eqb _ 0 (r .0 .1))),
+      search needs,
+    )
+
+pub escape-spec : {M : Type 1} → statement M
+escape-spec =
+    tie.close
+    (tie.spec
+    shared-slice-read-b
+    needs-escape-requires
+    returns
+    returns-2
+    shared-slice-read-ends-separator
+    shared-slice-read-ends-separator-2
+    ends-separator-requires
+    returns-3
+    returns-4
+    returns-5
+    returns-6
+    returns-7
+    returns-8
+    returns-9
+    returns-10)
