@@ -18,7 +18,8 @@ use Rattle.html.specs.Written.{written, few, unquoted}
 use Rattle.html.specs.Gains.{gainOf, gainsOf, Grows}
 use Rattle.html.specs.declared.gains.Gains.{Gains}
 use Rattle.html.proofs.Seven.{agree}
-use Rattle.html.proofs.Text.{written-most, next-byte, next-part, next-none, part-length}
+use Rattle.parts.proofs.Part.{part-length}
+use Rattle.html.proofs.Text.{written-most, next-byte, next-part, next-none}
 
 -- ---- a byte
 

@@ -1,24 +1,24 @@
 -- The encoding of a text in an HTML context, byte by byte and part by part.
 -- Assumes nothing.
 use mathlib.Core.Bool.{Bool, true, false}
-use mathlib.Core.Logic.{_⊎_, inl, inr}
 use mathlib.Core.Path.{_≡_, refl, sym, ap, _∙_}
 use mathlib.Core.List.{List, [], _∷_, _++_}
 use Prim.Native.Nat.{ℕ, suc, _+_, _-_, _≤_, _<_}
 use native.Mathlib.Omega.{arith}
-use native.Mathlib.Numerals.{add-one}
 use lib.Dec.{T, ltb}
 use lib.ListN.{length, take, drop, getD, length-append, length-drop, drop-of-length-le, take-append-drop}
-use lib.Seq.{drop-cons, drop-drop, length-take-le, getD-take, getD-drop}
 use borrow.Author.Tests.{ltb-true, ltb-false}
 use Rattle.rules.specs.Bytes.{all}
 use Rattle.rules.specs.Tables.{table}
 use Rattle.rules.specs.Operations.{encodeOf}
 use Rattle.rules.specs.declared.Html.{Html}
 use Rattle.rules.specs.declared.Context.the-variants.{InHtml}
-use Rattle.rules.proofs.Bytewise.{ofByte, encode-cons, encode-byte, encode-append, encode-same}
-use Rattle.rules.proofs.Growth.{encode-six, encode-sum}
+use Rattle.rules.proofs.Loops.{drop-next}
+use Rattle.rules.proofs.Laws.{encode-same}
+use Rattle.rules.proofs.Bytewise.{ofByte, encode-cons, encode-append}
+use Rattle.rules.proofs.Growth.{encode-six, encode-sum, encode-as-long}
 use Rattle.parts.proofs.Filled.{Next, lent-rest}
+use Rattle.parts.proofs.Part.{part-length, part-at, parted}
 use Rattle.html.specs.Written.{written}
 use Rattle.html.specs.Gains.{Each, Calm}
 use Rattle.html.proofs.Seven.{seven}
@@ -26,21 +26,6 @@ use Rattle.html.proofs.Seven.{seven}
 -- Every key is one byte.
 bytewise : (h : Html) → T (all ofByte (table (InHtml h)))
 bytewise = seven (λ (h : Html). all ofByte (table (InHtml h))) tt
-
--- ---- parts of a text
-
-pub drop-next : (t : List ℕ) (i : ℕ) → i < length t → drop i t ≡ getD t i 0 ∷ drop (i + 1) t
-drop-next t i h = rw add-one (drop-cons t i 0 h)
-
--- A part and what is after it.
-parted : (t : List ℕ) (i e : ℕ) → i ≤ e → take (e - i) (drop i t) ++ drop e t ≡ drop i t
-parted t i e h =
-    let s : e ≡ i + (e - i) = omega arith in
-    let d : drop e t ≡ drop (e - i) (drop i t) = ap (λ (n : ℕ). drop n t) s ∙ sym (drop-drop (e - i) i t) in
-    rw d (take-append-drop (e - i) (drop i t))
-
-pub part-length : (t : List ℕ) (i e : ℕ) → i ≤ e → e ≤ length t → length (take (e - i) (drop i t)) ≡ e - i
-part-length t i e h k = length-take-le (e - i) (drop i t) (rw length-drop (omega arith))
 
 -- What holds of every byte before a part and of every byte of the part.
 pub each-part : (P : ℕ → Type 0) (t : List ℕ) (i e : ℕ) → i ≤ e → e ≤ length t → ((k : ℕ) → k < i → P (getD t k 0)) → Each P (take (e - i) (drop i t))
@@ -52,8 +37,7 @@ each-part P t i e h l f g k b = go (ltb k i) refl
     go false q =
         let m : i ≤ k = ltb-false k i q in
         let j : i + (k - i) ≡ k = omega arith in
-        let v = g (k - i) (rw (part-length t i e h l) (omega arith)) in
-        rw (getD-take (e - i) (drop i t) (k - i) 0 (omega arith), getD-drop i t (k - i) 0, j) at v
+        rw (part-at t i e (k - i) (omega arith), j) at (g (k - i) (rw (part-length t i e h l) (omega arith)))
 
 module _ (h : Html) where
   -- ---- a byte
@@ -70,11 +54,7 @@ module _ (h : Html) where
   -- And at least one.
   pub written-some : (b : ℕ) → 1 ≤ length (written h b)
   unfolding written
-  written-some b = go (encode-byte (InHtml h) (bytewise h) b)
-    where
-      go : (encodeOf (InHtml h) (b ∷ []) ≡ b ∷ []) ⊎ (1 < length (encodeOf (InHtml h) (b ∷ []))) → 1 ≤ length (encodeOf (InHtml h) (b ∷ []))
-      go (inl e) = omega (arith, ap length e)
-      go (inr l) = omega arith
+  written-some b = omega (arith, encode-sum (InHtml h) (b ∷ []))
 
   -- ---- a text
 
@@ -95,7 +75,7 @@ module _ (h : Html) where
 
   -- What does not grow is copied.
   pub copied : (t : List ℕ) → length (encodeOf (InHtml h) t) ≡ length t → encodeOf (InHtml h) t ≡ t
-  copied t e = encode-same (InHtml h) (bytewise h) t e
+  copied t e = encode-same (InHtml h) t .0 (encode-as-long (InHtml h) t .1 e)
 
   -- A text in two, the rest as it is lent.
   pub halves : (t : List ℕ) (e : ℕ) → encodeOf (InHtml h) t ≡ encodeOf (InHtml h) (take e t) ++ encodeOf (InHtml h) (take (length t - e) (drop e t))

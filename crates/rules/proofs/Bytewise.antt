@@ -1,23 +1,21 @@
--- Where every key of a context is one byte, and every value is longer, the encoder goes byte by byte: what it writes for a text is what it
--- writes for each byte alone, one after the other. The HTML seven and the style strings are such; a script string is not.
+-- Where every key of a context is one byte the encoder goes byte by byte: what it writes for a text is what it writes for each byte alone, one
+-- after the other. The HTML seven and the style strings are such; a script string is not.
 -- Assumes nothing.
 use mathlib.Core.Bool.{Bool, true, false, _&&_}
-use mathlib.Core.Logic.{_⊎_, inl, inr}
 use mathlib.Core.Option.{Option, none, some}
 use mathlib.Core.Path.{_≡_, refl, sym, ap, _∙_}
 use mathlib.Core.List.{List, [], _∷_, _++_, append-assoc, append-nil}
-use Prim.Native.Nat.{ℕ, suc, _+_, _<_}
+use Prim.Native.Nat.{ℕ}
 use native.Mathlib.Omega.{arith}
-use lib.Dec.{T, eqb, ltb, ltb→lt}
-use lib.ListN.{length, length-append}
+use lib.Dec.{T, eqb}
+use lib.ListN.{length}
 use Rattle.rules.specs.Bytes.{all, stands}
 use Rattle.rules.specs.Moves.{Move, keep, takes, gives, moves, result}
-use Rattle.rules.specs.Tables.{Row, rowAt, key, value, table}
+use Rattle.rules.specs.Tables.{Row, rowAt, key, table}
 use Rattle.rules.specs.Encoding.{write, encodeStep}
 use Rattle.rules.specs.Operations.{encodeOf}
 use Rattle.rules.specs.declared.Context.{Context}
-use Rattle.rules.proofs.Tests.{and-left, and-right, all-in, first-sound}
-use Rattle.rules.proofs.Growth.{encode-sum}
+use Rattle.rules.proofs.Tests.{all-in, first-sound}
 use Rattle.rules.proofs.Loops.{from-next}
 
 -- One byte.
@@ -26,17 +24,15 @@ one [] = false
 one (x ∷ []) = true
 one (x ∷ y ∷ xs) = false
 
--- The row's key is one byte, and its value is longer.
+-- The row's key is one byte.
 abbrev pub ofByte : Row → Bool
-ofByte row = one (key row) && ltb 1 (length (value row))
+ofByte row = one (key row)
 
 -- Which row is written for a byte does not depend on what follows.
 row-alone : (rows : List Row) → T (all ofByte rows) → (b : ℕ) (t : List ℕ) → rowAt key rows (b ∷ t) ≡ rowAt key rows (b ∷ [])
 row-alone [] h b t = refl
 row-alone (([], v) ∷ rows) h b t = absurd h
-row-alone ((x ∷ [], v) ∷ rows) h b t =
-    ap (λ (o : Option Row). elim (eqb x b && true) [ true ↦ some (x ∷ [], v) | false ↦ o ])
-    (row-alone rows (and-right (ofByte (x ∷ [], v)) (all ofByte rows) h) b t)
+row-alone ((x ∷ [], v) ∷ rows) h b t = ap (λ (o : Option Row). elim (eqb x b && true) [ true ↦ some (x ∷ [], v) | false ↦ o ]) (row-alone rows h b t)
 row-alone ((x ∷ y ∷ k, v) ∷ rows) h b t = absurd h
 
 one-long : (k : List ℕ) → T (one k) → length k ≡ 1
@@ -50,18 +46,16 @@ module _ (c : Context) (bytewise : T (all ofByte (table c))) where
   unfolding encodeStep
   step-alone b t = ap (λ (o : Option Row). write o (keep (b ∷ []))) (row-alone (table c) bytewise b t)
 
-  -- It takes the byte, and keeps it or gives more.
-  step-byte : (b : ℕ) → (length (takes (encodeStep c 0 (b ∷ []))) ≡ 1) × ((gives (encodeStep c 0 (b ∷ [])) ≡ b ∷ []) ⊎ (1 < length (gives (encodeStep c 0 (b ∷ [])))))
+  -- It takes the byte.
+  step-takes : (b : ℕ) → length (takes (encodeStep c 0 (b ∷ []))) ≡ 1
   unfolding encodeStep
-  step-byte b = go (rowAt key (table c) (b ∷ [])) refl
+  step-takes b = go (rowAt key (table c) (b ∷ [])) refl
     where
-      go : (o : Option Row) → rowAt key (table c) (b ∷ []) ≡ o
-          → (length (takes (write o (keep (b ∷ [])))) ≡ 1) × ((gives (write o (keep (b ∷ []))) ≡ b ∷ []) ⊎ (1 < length (gives (write o (keep (b ∷ []))))))
-      go none e = (refl, inl refl)
+      go : (o : Option Row) → rowAt key (table c) (b ∷ []) ≡ o → length (takes (write o (keep (b ∷ [])))) ≡ 1
+      go none e = refl
       go (some row) e =
           let (i, s) = first-sound (λ (row : Row). stands (key row)) (table c) (b ∷ []) row e in
-          let f = all-in ofByte (table c) bytewise row i in
-          (one-long (key row) (and-left (one (key row)) (ltb 1 (length (value row))) f), inr (ltb→lt 1 (length (value row)) (and-right (one (key row)) (ltb 1 (length (value row))) f)))
+          one-long (key row) (all-in ofByte (table c) bytewise row i)
 
   -- The byte before does not count.
   no-before : (p : ℕ) (t : List ℕ) → moves (encodeStep c) p 0 t ≡ moves (encodeStep c) 0 0 t
@@ -73,19 +67,14 @@ module _ (c : Context) (bytewise : T (all ofByte (table c))) where
   cons-given : (b : ℕ) (t : List ℕ) → encodeOf c (b ∷ t) ≡ gives (encodeStep c 0 (b ∷ [])) ++ encodeOf c t
   cons-given b t =
       let m = encodeStep c 0 (b ∷ []) in
-      ap result (from-next (encodeStep c) (b ∷ t) 0 0 m (omega arith) (step-alone b t) (step-byte b .0))
+      ap result (from-next (encodeStep c) (b ∷ t) 0 0 m (omega arith) (step-alone b t) (step-takes b))
       ∙ ap (λ (ms : List Move). gives m ++ result ms) (no-before b t)
-
-  given-alone : (b : ℕ) → encodeOf c (b ∷ []) ≡ gives (encodeStep c 0 (b ∷ []))
-  given-alone b = cons-given b [] ∙ append-nil (gives (encodeStep c 0 (b ∷ [])))
 
   -- What is written for a text that begins with a byte.
   pub encode-cons : (b : ℕ) (t : List ℕ) → encodeOf c (b ∷ t) ≡ encodeOf c (b ∷ []) ++ encodeOf c t
-  encode-cons b t = cons-given b t ∙ ap (λ (w : List ℕ). w ++ encodeOf c t) (sym (given-alone b))
-
-  -- A byte is written as itself, or as more than one.
-  pub encode-byte : (b : ℕ) → (encodeOf c (b ∷ []) ≡ b ∷ []) ⊎ (1 < length (encodeOf c (b ∷ [])))
-  encode-byte b = rw (given-alone b) (step-byte b .1)
+  encode-cons b t =
+      let alone = cons-given b [] ∙ append-nil (gives (encodeStep c 0 (b ∷ []))) in
+      cons-given b t ∙ ap (λ (w : List ℕ). w ++ encodeOf c t) (sym alone)
 
   -- What is written for two texts, one after the other.
   pub encode-append : (s t : List ℕ) → encodeOf c (s ++ t) ≡ encodeOf c s ++ encodeOf c t
@@ -95,15 +84,3 @@ module _ (c : Context) (bytewise : T (all ofByte (table c))) where
       ∙ ap (λ (w : List ℕ). encodeOf c (b ∷ []) ++ w) (encode-append s t)
       ∙ sym (append-assoc (encodeOf c (b ∷ [])) (encodeOf c s) (encodeOf c t))
       ∙ ap (λ (w : List ℕ). w ++ encodeOf c t) (sym (encode-cons b s))
-
-  -- What is written is as long as the text only if it is the text.
-  pub encode-same : (t : List ℕ) → length (encodeOf c t) ≡ length t → encodeOf c t ≡ t
-  encode-same [] e = refl
-  encode-same (b ∷ t) e = go (encode-byte b) (encode-same t)
-    where
-      more : length (encodeOf c (b ∷ [])) + length (encodeOf c t) ≡ suc (length t)
-      more = sym (ap length (encode-cons b t) ∙ length-append (encodeOf c (b ∷ [])) (encodeOf c t)) ∙ e
-
-      go : (encodeOf c (b ∷ []) ≡ b ∷ []) ⊎ (1 < length (encodeOf c (b ∷ []))) → (length (encodeOf c t) ≡ length t → encodeOf c t ≡ t) → encodeOf c (b ∷ t) ≡ b ∷ t
-      go (inl f) ih = encode-cons b t ∙ (λ i. f i ++ ih (omega (arith, more, ap length f)) i)
-      go (inr h) ih = absurd (omega (arith, more, h, encode-sum c t))

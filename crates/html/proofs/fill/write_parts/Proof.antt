@@ -6,8 +6,9 @@ use lib.ListN.{length, drop}
 use borrow.Author.Needs.{needs}
 use Rattle.rules.specs.Operations.{encodeOf}
 use Rattle.rules.specs.declared.Context.the-variants.{InHtml}
+use Rattle.parts.proofs.Part.{part-length}
 use Rattle.html.proofs.Spilt.{Spilt, spilt-start, spilt-room, spilt-next, spilt-put, spilt-end}
-use Rattle.html.proofs.Text.{next-part, next-none, part-length}
+use Rattle.html.proofs.Text.{next-part, next-none}
 use Rattle.html.proofs.fill.write_parts.Statement.{statement}
 use Rattle.html.proofs.fill.write_parts.Tie as tie
 

@@ -5,9 +5,10 @@ use Prim.Native.Nat.{ℕ, _-_, _≤_, _<_}
 use native.Mathlib.Omega.{arith}
 use lib.ListN.{length, getD}
 use borrow.Author.Needs.{needs}
+use Rattle.parts.proofs.Part.{part-length}
 use Rattle.html.specs.Gains.{Ascii}
 use Rattle.html.proofs.Growth.{Grown, grown-start, grown-part, grown-end}
-use Rattle.html.proofs.Text.{part-length, each-part}
+use Rattle.html.proofs.Text.{each-part}
 use Rattle.html.proofs.look.count.Statement.{statement}
 use Rattle.html.proofs.look.count.Tie as tie
 
