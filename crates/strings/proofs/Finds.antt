@@ -1,5 +1,6 @@
--- What is found at the head of a text. One test, computed for every byte in every string: its flags say whether a key begins with it, its kind
--- makes the move of the rules, and it grows as much as the code counts. The line separators are the rest. Assumes nothing.
+-- What is found at the head of a text. One test, computed for every ASCII byte in every string: its flags say whether a key begins with it, its kind
+-- makes the move of the rules, and it grows as much as the code counts. Of the other bytes only E2 begins keys, those of the line separators.
+-- Assumes nothing.
 use mathlib.Core.Bool.{Bool, true, false, not, _&&_, _||_, cond}
 use mathlib.Core.Logic.{_⊎_, inl, inr}
 use mathlib.Core.Option.{Option, none, some}
@@ -8,9 +9,9 @@ use mathlib.Core.List.{List, [], _∷_}
 use Prim.Native.Nat.{ℕ, _+_, _<_, _≤_}
 use native.Mathlib.Nat.{zero-add, not-suc-le-zero}
 use native.Mathlib.Omega.{arith}
-use borrow.Author.Tests.{eq-eqb, ne-eqb, eqb-true, eqb-false}
-use lib.Bits.{bitAnd}
-use lib.Dec.{T, eqb, eqb→eq}
+use borrow.Author.Tests.{eq-eqb, ne-eqb, le-ltb, eqb-true, eqb-false, ltb-true, ltb-false}
+use lib.Bits.{bitAnd, and-zero-l}
+use lib.Dec.{T, eqb, ltb, eqb→eq}
 use lib.ListN.{length, drop, getD}
 use Rattle.rules.specs.Bytes.{ascii, all, count, stands, sameBytes}
 use Rattle.rules.specs.Moves.{Move, keep, swap, stop, takes, gives}
@@ -27,7 +28,7 @@ use Rattle.rules.proofs.Tests.{and-left, and-right, or-cases, same-bytes}
 use Rattle.rules.proofs.Below.{below, counted}
 use Rattle.strings.specs.declared.Strings.{Strings}
 use Rattle.strings.specs.Strings.{contextIn, flagOf, escapeFlags, maskOf, starts, Held, singleKey, doubleKey, gainOf, sameOf, endsOf, ended}
-use Rattle.strings.proofs.Heads.{kept, lone}
+use Rattle.strings.proofs.Heads.{kept, no-start, lone}
 
 abbrev agree : Bool → Bool → Bool
 agree true b = b
@@ -97,58 +98,86 @@ Grows strings b =
     × (length (gives (alone strings b)) + cond (strings .style) (sameOf 0 b) 0 ≡ 1 + gainOf (singleKey (strings .quotes)) (doubleKey (strings .quotes)) b)
 
 abbrev right : Strings → ℕ → Bool
-right strings b = flagged strings b && (eqb b 0xE2 || (kinded strings b && grown strings b))
+right strings b = flagged strings b && (kinded strings b && grown strings b)
 
-all-right : (style : Bool) (q : Quotes) (b : ℕ) → b < 256 → T (right (at style q) b)
-unfolding encodeStep starts escapeFlags gainOf sameOf
-all-right true Single = below (right (at true Single)) 256 tt
-all-right true Double = below (right (at true Double)) 256 tt
-all-right true Both = below (right (at true Both)) 256 tt
-all-right false Single = below (right (at false Single)) 256 tt
-all-right false Double = below (right (at false Double)) 256 tt
-all-right false Both = below (right (at false Both)) 256 tt
+all-right : (style : Bool) (q : Quotes) (b : ℕ) → b < 0x80 → T (right (at style q) b)
+unfolding encodeStep starts gainOf sameOf
+all-right true Single = below (right (at true Single)) 0x80 tt
+all-right true Double = below (right (at true Double)) 0x80 tt
+all-right true Both = below (right (at true Both)) 0x80 tt
+all-right false Single = below (right (at false Single)) 0x80 tt
+all-right false Double = below (right (at false Double)) 0x80 tt
+all-right false Both = below (right (at false Both)) 0x80 tt
 
-module _ (strings : Strings) (b : ℕ) (h : b < 256) where
+module _ (strings : Strings) (b : ℕ) (h : b < 0x80) where
   byte-right : T (right strings b)
   byte-right = all-right (strings .style) (strings .quotes) b h
 
-  -- The flags of a byte that count say whether a key begins with it.
-  pub flags-right : not (eqb (bitAnd (getD escapeFlags b 0) (maskOf strings)) 0) ≡ starts (table (contextIn strings)) b
-  unfolding escapeFlags
-  flags-right =
-      rw (counted flagOf 0 256 b h, zero-add)
-      (agrees (not (eqb (bitAnd (flagOf b) (maskOf strings)) 0)) (starts (table (contextIn strings)) b)
-      (and-left (flagged strings b) (eqb b 0xE2 || (kinded strings b && grown strings b)) byte-right))
+  ascii-flags : not (eqb (bitAnd (flagOf b) (maskOf strings)) 0) ≡ starts (table (contextIn strings)) b
+  ascii-flags =
+      agrees (not (eqb (bitAnd (flagOf b) (maskOf strings)) 0)) (starts (table (contextIn strings)) b)
+      (and-left (flagged strings b) (kinded strings b && grown strings b) byte-right)
 
-  module _ (ne : b ≡ 0xE2 → ⊥) where
-    kind-right : T (kinded strings b && grown strings b)
-    kind-right = go (or-cases (eqb b 0xE2) (kinded strings b && grown strings b) (and-right (flagged strings b) (eqb b 0xE2 || (kinded strings b && grown strings b)) byte-right))
-      where
-        go : T (eqb b 0xE2) ⊎ T (kinded strings b && grown strings b) → T (kinded strings b && grown strings b)
-        go (inl t) = absurd (ne (eqb→eq b 0xE2 t))
-        go (inr t) = t
+  -- How much a byte grows by itself.
+  pub ascii-grows : Grows strings b
+  ascii-grows =
+      let one = eqb (length (takes (alone strings b))) 1 in
+      let more = eqb (length (gives (alone strings b)) + cond (strings .style) (sameOf 0 b) 0) (1 + gainOf (singleKey (strings .quotes)) (doubleKey (strings .quotes)) b) in
+      let g = and-right (kinded strings b) (grown strings b) (and-right (flagged strings b) (kinded strings b && grown strings b) byte-right) in
+      (eqb→eq _ _ (and-left one more g), eqb→eq _ _ (and-right one more g))
 
-    -- How much a byte grows by itself.
-    pub byte-grows : Grows strings b
-    byte-grows =
-        let one = eqb (length (takes (alone strings b))) 1 in
-        let more = eqb (length (gives (alone strings b)) + cond (strings .style) (sameOf 0 b) 0) (1 + gainOf (singleKey (strings .quotes)) (doubleKey (strings .quotes)) b) in
-        let g = and-right (kinded strings b) (grown strings b) kind-right in
-        (eqb→eq _ _ (and-left one more g), eqb→eq _ _ (and-right one more g))
+  ascii-kind : starts (table (contextIn strings)) b ≡ true → replacementMove (strings .style) (b ∷ []) (kindOf (strings .style) b) ≡ alone strings b
+  ascii-kind e =
+      let k : replacementMove (strings .style) (b ∷ []) (cond (starts (table (contextIn strings)) b) (kindOf (strings .style) b) Nothing) ≡ alone strings b =
+      same-move _ (alone strings b) (and-left (kinded strings b) (grown strings b) (and-right (flagged strings b) (kinded strings b && grown strings b) byte-right)) in
+      rw e at k
 
-    -- The move at a byte that begins a key.
-    pub byte-kind : starts (table (contextIn strings)) b ≡ true → (p : ℕ) (s : List ℕ) → replacementMove (strings .style) (b ∷ s) (kindOf (strings .style) b) ≡ encodeStep (contextIn strings) p (b ∷ s)
-    byte-kind e p s =
-        let k : replacementMove (strings .style) (b ∷ []) (cond (starts (table (contextIn strings)) b) (kindOf (strings .style) b) Nothing) ≡ alone strings b =
-        same-move _ (alone strings b) (and-left (kinded strings b) (grown strings b) kind-right) in
-        headmost (eqb b 34 || eqb b 39 || eqb b 92) (eqb b 0 && strings .style)
-        ∙ rw e at k
-        ∙ sym (lone (contextIn strings) p b s ne)
-      where
-        headmost : (t u : Bool) → replacementMove (strings .style) (b ∷ s) (cond t Slashed (cond u Substitute Hex)) ≡ replacementMove (strings .style) (b ∷ []) (cond t Slashed (cond u Substitute Hex))
-        headmost true u = refl
-        headmost false true = refl
-        headmost false false = refl
+-- ---- the flags of all bytes
+
+lead-flags : (style : Bool) (q : Quotes) → not (eqb (bitAnd (flagOf 0xE2) (maskOf (at style q))) 0) ≡ starts (table (contextIn (at style q))) 0xE2
+unfolding starts
+lead-flags true Single = refl
+lead-flags true Double = refl
+lead-flags true Both = refl
+lead-flags false Single = refl
+lead-flags false Double = refl
+lead-flags false Both = refl
+
+high-flags : (b : ℕ) → 0x80 ≤ b → (b ≡ 0xE2 → ⊥) → flagOf b ≡ 0
+high-flags b h ne =
+    let l : ltb b 32 ≡ false = le-ltb b 32 (omega arith) in
+    rw (l, far 0x5C (omega arith), far 0x3C (omega arith), far 0x27 (omega arith), far 0x22 (omega arith), ne-eqb b 0xE2 ne)
+  where
+    far : (k : ℕ) → k < 0x80 → eqb b k ≡ false
+    far k l = ne-eqb b k (λ e. omega arith)
+
+-- The flags of a byte that count say whether a key begins with it.
+pub flags-right : (strings : Strings) (b : ℕ) → b < 256 → not (eqb (bitAnd (getD escapeFlags b 0) (maskOf strings)) 0) ≡ starts (table (contextIn strings)) b
+unfolding escapeFlags
+flags-right strings b h = rw (counted flagOf 0 256 b h, zero-add) (go (ltb b 0x80) (eqb b 0xE2) refl refl)
+  where
+    go : (t u : Bool) → ltb b 0x80 ≡ t → eqb b 0xE2 ≡ u → not (eqb (bitAnd (flagOf b) (maskOf strings)) 0) ≡ starts (table (contextIn strings)) b
+    go true u e f = ascii-flags strings b (ltb-true b 0x80 e)
+    go false true e f = rw (eqb-true b 0xE2 f) (lead-flags (strings .style) (strings .quotes))
+    go false false e f =
+        let ne = eqb-false b 0xE2 f in
+        let l = ltb-false b 0x80 e in
+        rw (high-flags b l ne, no-start (contextIn strings) b l ne) (ap (λ (n : ℕ). not (eqb n 0)) (and-zero-l (maskOf strings)))
+
+-- The move at a byte that begins a key, but E2.
+byte-kind : (strings : Strings) (b : ℕ) → (b ≡ 0xE2 → ⊥) → starts (table (contextIn strings)) b ≡ true
+    → (p : ℕ) (s : List ℕ) → replacementMove (strings .style) (b ∷ s) (kindOf (strings .style) b) ≡ encodeStep (contextIn strings) p (b ∷ s)
+byte-kind strings b ne e p s =
+    headmost (eqb b 34 || eqb b 39 || eqb b 92) (eqb b 0 && strings .style) ∙ go (ltb b 0x80) refl ∙ sym (lone (contextIn strings) p b s ne)
+  where
+    headmost : (t u : Bool) → replacementMove (strings .style) (b ∷ s) (cond t Slashed (cond u Substitute Hex)) ≡ replacementMove (strings .style) (b ∷ []) (cond t Slashed (cond u Substitute Hex))
+    headmost true u = refl
+    headmost false true = refl
+    headmost false false = refl
+
+    go : (t : Bool) → ltb b 0x80 ≡ t → replacementMove (strings .style) (b ∷ []) (kindOf (strings .style) b) ≡ alone strings b
+    go true l = ascii-kind strings b (ltb-true b 0x80 l) e
+    go false l = absurd (subst T (sym e ∙ no-start (contextIn strings) b (ltb-false b 0x80 l) ne) tt)
 
 -- ---- the line separators
 
@@ -240,10 +269,10 @@ module _ (strings : Strings) where
   found-none (x ∷ s) h e p = sym (kept (contextIn strings) p x s e)
 
   -- A key begins with it, and it is not E2.
-  pub found-kind : (s : List ℕ) (r : Replacement) → 0 < length s → getD s 0 0 < 256 → starts (table (contextIn strings)) (getD s 0 0) ≡ true → (getD s 0 0 ≡ 0xE2 → ⊥)
+  pub found-kind : (s : List ℕ) (r : Replacement) → 0 < length s → starts (table (contextIn strings)) (getD s 0 0) ≡ true → (getD s 0 0 ≡ 0xE2 → ⊥)
       → kindOf (strings .style) (getD s 0 0) ≡ r → (p : ℕ) → replacementMove (strings .style) s r ≡ encodeStep (contextIn strings) p s
-  found-kind [] r h l e ne k p = absurd (not-suc-le-zero h)
-  found-kind (x ∷ s) r h l e ne k p = rw (← k) (byte-kind strings x l ne e p s)
+  found-kind [] r h e ne k p = absurd (not-suc-le-zero h)
+  found-kind (x ∷ s) r h e ne k p = rw (← k) (byte-kind strings x ne e p s)
 
   -- A key begins with it, and it is E2.
   pub found-lead : (s : List ℕ) (r : Replacement) → 0 < length s → getD s 0 0 ≡ 0xE2 → starts (table (contextIn strings)) (getD s 0 0) ≡ true

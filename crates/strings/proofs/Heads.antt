@@ -1,6 +1,7 @@
 -- The first byte of a text settles the move there: where no key begins with it the byte is kept, and only E2 begins a key of more than one byte.
 -- Assumes nothing.
 use mathlib.Core.Bool.{Bool, true, false, _&&_, _||_}
+use mathlib.Core.Logic.{_⊎_, inl, inr}
 use mathlib.Core.Option.{Option, none, some}
 use mathlib.Core.Path.{_≡_, refl, sym, ap, _∙_, subst}
 use mathlib.Core.List.{List, [], _∷_}
@@ -8,12 +9,12 @@ use Prim.Native.Nat.{ℕ, _≤_, _<_}
 use native.Mathlib.Omega.{arith}
 use borrow.Author.Tests.{ne-eqb}
 use lib.Dec.{T, eqb, ltb, eqb→eq, ltb→lt}
-use Rattle.rules.specs.Bytes.{all, any, first, stands}
+use Rattle.rules.specs.Bytes.{all, any, stands}
 use Rattle.rules.specs.Moves.{keep}
 use Rattle.rules.specs.Tables.{Row, rowAt, key, table}
-use Rattle.rules.specs.Encoding.{write, keepByte, encodeStep}
+use Rattle.rules.specs.Encoding.{write, encodeStep}
 use Rattle.rules.specs.declared.Context.{Context}
-use Rattle.rules.proofs.Tests.{and-left, and-right, all-in, first-none}
+use Rattle.rules.proofs.Tests.{and-left, and-right, or-cases}
 use Rattle.rules.proofs.Every.{every}
 use Rattle.strings.specs.Strings.{headed, starts}
 
@@ -43,24 +44,28 @@ pub kept : (c : Context) (p b : ℕ) (s : List ℕ) → starts (table c) b ≡ f
 unfolding encodeStep
 kept c p b s e = ap (λ (o : Option Row). write o (keep (b ∷ []))) (none-starts (table c) b s e)
 
--- ---- the keys begin with bytes
+-- ---- the keys begin with ASCII bytes and E2
 
-abbrev small : Row → Bool
-small row = elim (key row) [ [] ↦ false | x ∷ xs ↦ ltb x 256 ]
+abbrev early : Row → Bool
+early row = elim (key row) [ [] ↦ false | x ∷ xs ↦ ltb x 0x80 || eqb x 0xE2 ]
 
-unstarted : (rows : List Row) (b : ℕ) → T (all small rows) → 256 ≤ b → starts rows b ≡ false
+unstarted : (rows : List Row) (b : ℕ) → T (all early rows) → 0x80 ≤ b → (b ≡ 0xE2 → ⊥) → starts rows b ≡ false
 unfolding starts
-unstarted [] b t h = refl
-unstarted (row ∷ rows) b t h =
-    rw (go (key row) (and-left (small row) (all small rows) t)) (unstarted rows b (and-right (small row) (all small rows) t) h)
+unstarted [] b t h ne = refl
+unstarted (row ∷ rows) b t h ne =
+    rw (go (key row) (and-left (early row) (all early rows) t)) (unstarted rows b (and-right (early row) (all early rows) t) h ne)
   where
-    go : (k : List ℕ) → T (elim k [ [] ↦ false | x ∷ xs ↦ ltb x 256 ]) → headed b k ≡ false
-    go [] u = absurd u
-    go (x ∷ k) u = let l : x < 256 = ltb→lt x 256 u in ne-eqb x b (λ e. omega arith)
+    apart : (x : ℕ) → T (ltb x 0x80) ⊎ T (eqb x 0xE2) → x ≡ b → ⊥
+    apart x (inl u) e = omega (arith, ltb→lt x 0x80 u)
+    apart x (inr u) e = ne (sym e ∙ eqb→eq x 0xE2 u)
 
--- What is no byte begins none.
-pub no-byte : (c : Context) (b : ℕ) → 256 ≤ b → starts (table c) b ≡ false
-no-byte c b h = unstarted (table c) b (every (λ (c : Context). all small (table c)) tt c) h
+    go : (k : List ℕ) → T (elim k [ [] ↦ false | x ∷ xs ↦ ltb x 0x80 || eqb x 0xE2 ]) → headed b k ≡ false
+    go [] u = absurd u
+    go (x ∷ k) u = ne-eqb x b (apart x (or-cases (ltb x 0x80) (eqb x 0xE2) u))
+
+-- No other byte begins one.
+pub no-start : (c : Context) (b : ℕ) → 0x80 ≤ b → (b ≡ 0xE2 → ⊥) → starts (table c) b ≡ false
+no-start c b h ne = unstarted (table c) b (every (λ (c : Context). all early (table c)) tt c) h ne
 
 -- ---- only E2 begins a key of more than one byte
 

@@ -27,8 +27,8 @@ use Rattle.rules.proofs.Loops.{drop-next}
 use Rattle.rules.proofs.Growth.{encode-sum}
 use Rattle.strings.specs.declared.Strings.{Strings}
 use Rattle.strings.specs.Strings.{contextIn, starts, singleKey, doubleKey, gainOf, sameOf, total, endsOf, ended, separatorsIn}
-use Rattle.strings.proofs.Heads.{kept, lone, no-byte}
-use Rattle.strings.proofs.Finds.{alone, at, Grows, byte-grows, ends-are, lead-kept, lead-taken, lead-style}
+use Rattle.strings.proofs.Heads.{kept, lone, no-start}
+use Rattle.strings.proofs.Finds.{alone, at, Grows, ascii-grows, ends-are, lead-kept, lead-taken, lead-style}
 
 -- ---- the sums as a loop meets them
 
@@ -94,12 +94,12 @@ gain-high q b h =
     far k l = ne-eqb b k (λ e. omega arith)
 
 module _ (strings : Strings) where
-  -- What is no byte is copied.
-  beyond : (b : ℕ) → 256 ≤ b → Grows strings b
+  -- The other bytes are copied.
+  high-grows : (b : ℕ) → 0x80 ≤ b → (b ≡ 0xE2 → ⊥) → Grows strings b
   unfolding sameOf
-  beyond b h =
+  high-grows b h ne =
       let z : eqb 0 b ≡ false = ne-eqb 0 b (λ e. omega arith) in
-      rw (kept (contextIn strings) 0 b [] (no-byte (contextIn strings) b h), gain-high (strings .quotes) b (omega arith), z) (refl, same (strings .style))
+      rw (kept (contextIn strings) 0 b [] (no-start (contextIn strings) b h ne), gain-high (strings .quotes) b h, z) (refl, same (strings .style))
     where
       same : (t : Bool) → _≡_ {A = ℕ} (1 + cond t 0 0) 1
       same true = refl
@@ -107,11 +107,11 @@ module _ (strings : Strings) where
 
   -- Every byte but E2 grows by itself.
   pub grows : (b : ℕ) → (b ≡ 0xE2 → ⊥) → Grows strings b
-  grows b ne = go (ltb b 256) refl
+  grows b ne = go (ltb b 0x80) refl
     where
-      go : (t : Bool) → ltb b 256 ≡ t → Grows strings b
-      go true e = byte-grows strings b (ltb-true b 256 e) ne
-      go false e = beyond b (ltb-false b 256 e)
+      go : (t : Bool) → ltb b 0x80 ≡ t → Grows strings b
+      go true e = ascii-grows strings b (ltb-true b 0x80 e)
+      go false e = high-grows b (ltb-false b 0x80 e) ne
 
   -- What is written for a text that such a byte begins.
   pub byte-first : (b : ℕ) (s : List ℕ) → (b ≡ 0xE2 → ⊥) → encodeOf (contextIn strings) (b ∷ s) ≡ gives (alone strings b) ++ encodeOf (contextIn strings) s

@@ -64,7 +64,7 @@ returns-4 c = let a = c .before .before .before .before .before .args in
     let s = a .rest .now in
     let h : 0 < length s = c .before .before .before .before .before .pre .0 in
     let k : getD s 0 0 ≡ 34 = c .match .keys1 in
-    (found-kind (a .strings) s Slashed h (omega arith) (sym (c .before .before .needs-escape .ensures) ∙ not-false _ (c .before .if1 .left)) (λ e. omega arith) (rw k), search needs)
+    (found-kind (a .strings) s Slashed h (sym (c .before .before .needs-escape .ensures) ∙ not-false _ (c .before .if1 .left)) (λ e. omega arith) (rw k), search needs)
 
 -- src/escapes.rt:30:1
 returns-5 : tie.Need-returns-5
@@ -72,7 +72,7 @@ returns-5 c = let a = c .before .before .before .before .before .args in
     let s = a .rest .now in
     let h : 0 < length s = c .before .before .before .before .before .pre .0 in
     let k : getD s 0 0 ≡ 39 = c .match .keys2 in
-    (found-kind (a .strings) s Slashed h (omega arith) (sym (c .before .before .needs-escape .ensures) ∙ not-false _ (c .before .if1 .left)) (λ e. omega arith) (rw k), search needs)
+    (found-kind (a .strings) s Slashed h (sym (c .before .before .needs-escape .ensures) ∙ not-false _ (c .before .if1 .left)) (λ e. omega arith) (rw k), search needs)
 
 -- src/escapes.rt:30:1
 returns-6 : tie.Need-returns-6
@@ -80,7 +80,7 @@ returns-6 c = let a = c .before .before .before .before .before .args in
     let s = a .rest .now in
     let h : 0 < length s = c .before .before .before .before .before .pre .0 in
     let k : getD s 0 0 ≡ 92 = c .match .keys3 in
-    (found-kind (a .strings) s Slashed h (omega arith) (sym (c .before .before .needs-escape .ensures) ∙ not-false _ (c .before .if1 .left)) (λ e. omega arith) (rw k), search needs)
+    (found-kind (a .strings) s Slashed h (sym (c .before .before .needs-escape .ensures) ∙ not-false _ (c .before .if1 .left)) (λ e. omega arith) (rw k), search needs)
 
 -- src/escapes.rt:30:1
 returns-7 : tie.Need-returns-7
@@ -88,7 +88,7 @@ returns-7 c = let a = c .before .before .before .before .before .before .args in
     let s = a .rest .now in
     let h : 0 < length s = c .before .before .before .before .before .before .pre .0 in
     let k : getD s 0 0 ≡ 0 = c .before .match .keys4 in
-    (found-kind (a .strings) s Substitute h (omega arith) (sym (c .before .before .before .needs-escape .ensures) ∙ not-false _ (c .before .before .if1 .left)) (λ e. omega arith) (rw (k, c .if2 .taken)), search needs)
+    (found-kind (a .strings) s Substitute h (sym (c .before .before .before .needs-escape .ensures) ∙ not-false _ (c .before .before .if1 .left)) (λ e. omega arith) (rw (k, c .if2 .taken)), search needs)
 
 -- src/escapes.rt:30:1
 returns-8 : tie.Need-returns-8
@@ -96,7 +96,7 @@ returns-8 c = let a = c .before .before .before .before .before .before .args in
     let s = a .rest .now in
     let h : 0 < length s = c .before .before .before .before .before .before .pre .0 in
     let k : getD s 0 0 ≡ 0 = c .before .match .keys4 in
-    (found-kind (a .strings) s Hex h (omega arith) (sym (c .before .before .before .needs-escape .ensures) ∙ not-false _ (c .before .before .if1 .left)) (λ e. omega arith) (rw (k, c .if2 .left)), search needs)
+    (found-kind (a .strings) s Hex h (sym (c .before .before .before .needs-escape .ensures) ∙ not-false _ (c .before .before .if1 .left)) (λ e. omega arith) (rw (k, c .if2 .left)), search needs)
 
 -- src/escapes.rt:30:1
 returns-9 : tie.Need-returns-9
@@ -112,7 +112,7 @@ returns-10 c = let a = c .before .before .before .before .before .args in
     let s = a .rest .now in
     let h : 0 < length s = c .before .before .before .before .before .pre .0 in
     let r = c .match .rest in (
-      found-kind (a .strings) s Hex h (c .before .before .before .before .shared-slice-known .given 0 .fits) (sym (c .before .before .needs-escape .ensures) ∙ not-false _ (c .before .if1 .left)) (r .1)
+      found-kind (a .strings) s Hex h (sym (c .before .before .needs-escape .ensures) ∙ not-false _ (c .before .if1 .left)) (r .1)
           (rw (ne-eqb _ 34 (r .0 .0 .0 .0 .1), ne-eqb _ 39 (r .0 .0 .0 .1), ne-eqb _ 92 (r .0 .0 .1), ne-eqb _ 0 (r .0 .1))),
       search needs,
     )
