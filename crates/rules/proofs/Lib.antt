@@ -15,3 +15,4 @@ pub mod Calls
 pub mod Examples
 pub mod Loops
 pub mod Quiet
+pub mod Names
