@@ -1,3 +1,1 @@
-pub mod Names
-pub mod Hints
-pub mod Places
+pub mod Less

@@ -106,7 +106,7 @@ char-tails x a c = go (c .0) (all-in tailsOk sequences tt (c .0) (c .1)) (c .2) 
 
 -- ---- a rule that keeps the first byte of a character, and every byte 80 to BF, keeps its bytes one by one
 
-taken-singles : (a : List ℕ) → taken (singly a) ≡ a
+pub taken-singles : (a : List ℕ) → taken (singly a) ≡ a
 taken-singles [] = refl
 taken-singles (x ∷ a) = ap (λ (s : List ℕ). x ∷ s) (taken-singles a)
 

@@ -2,14 +2,14 @@
 -- Assumes nothing.
 use mathlib.Core.Bool.{Bool, true, false, not, _&&_, _||_, cond}
 use mathlib.Core.Logic.{_⊎_, inl, inr}
-use mathlib.Core.Option.{Option, none, some, Option·none-ne-some}
-use mathlib.Core.Path.{_≡_, refl, ap, _∙_, subst}
-use mathlib.Core.List.{List, [], _∷_, _++_, map}
+use mathlib.Core.Option.{Option, none, some, Option·none-ne-some, Option·some-injective}
+use mathlib.Core.Path.{_≡_, refl, sym, ap, _∙_, subst}
+use mathlib.Core.List.{List, [], _∷_, _++_, map, append-assoc}
 use Prim.Native.Nat.{ℕ, pred}
 use lib.Dec.{T, eqb, eqb→eq, eqb-refl, T-not}
 use lib.ListN.{length}
 use Rattle.rules.specs.Bytes.{ascii, In, All, all, any, fits, stands, sameBytes, oneOf}
-use Rattle.rules.specs.Moves.{Move, keep, swap, stop, gives, taken, result}
+use Rattle.rules.specs.Moves.{Move, keep, swap, stop, gives, moves, taken, result}
 use Rattle.rules.specs.Tables.{Row, rowAt, key, value, htmlRows, rows, replacedChars}
 use Rattle.rules.specs.Units.{left, undecoded}
 use Rattle.rules.specs.declared.Context.{Context}
@@ -18,12 +18,12 @@ use Rattle.rules.specs.Units.{IsUnit}
 use Rattle.rules.specs.Encoding.{closes, anyCase, terminators}
 use Rattle.rules.specs.Reading.{undo}
 use Rattle.rules.specs.Names.{names}
-use Rattle.rules.specs.References.{bodyWith, bodyOf, onBody, referenceBy, decodeChar, referenceStep}
+use Rattle.rules.specs.References.{bodyWith, bodyOf, meaning, onMeaning, onBody, referenceBy, decodeChar, referenceStep}
 use Rattle.rules.specs.Escapes.{afterLess, escapeBy}
 use Rattle.rules.specs.Operations.{decodeStep, decodeOf}
-use Rattle.rules.proofs.Tests.{and-left, and-right, and-both, or-cases, or-false, is-false, all-in, first-none, same-bytes, same-in}
-use Rattle.rules.proofs.Machine.{Makes, Follows, singly, cut-moves, result-cut}
-use Rattle.rules.proofs.Chars.{isTail, char-singly}
+use Rattle.rules.proofs.Tests.{and-left, and-right, and-both, or-cases, or-false, is-false, all-in, first-none, same-bytes, same-in, in-append}
+use Rattle.rules.proofs.Machine.{Makes, Follows, retrace, singly, cut-moves, result-cut}
+use Rattle.rules.proofs.Chars.{isTail, taken-singles, char-singly}
 use Rattle.rules.proofs.Tables.{bar-stops, row-length, row-first}
 use Rattle.rules.proofs.Every.{every, values-code}
 
@@ -138,7 +138,8 @@ abbrev pub IsDecoded : Context → Move → Type 0
 IsDecoded c u = IsUnit (rows c) (replacedChars c) u × (In (gives u) (undecoded c) → ⊥)
 
 module _ (c : Context) where
-  at-mark : (p x : ℕ) (s : List ℕ) → (T (eqb x (mark c)) → ⊥) → decodeStep c p (x ∷ s) ≡ keep (x ∷ [])
+  -- At any other byte than its mark a decoder keeps the byte.
+  pub at-mark : (p x : ℕ) (s : List ℕ) → (T (eqb x (mark c)) → ⊥) → decodeStep c p (x ∷ s) ≡ keep (x ∷ [])
   at-mark = decode-quiet c (every marked tt c)
 
   decode-keeps : (a : List ℕ) → IsDecoded c (keep a) → (r : List ℕ) → Follows (decodeStep c) (singly a) r
@@ -162,3 +163,46 @@ module _ (c : Context) where
   -- Through such a run the decoder gives what the run gives.
   pub decode-run : (us : List Move) → All (IsDecoded c) us → decodeOf c (taken us) ≡ result us
   decode-run us g = ap result (cut-moves (decodeStep c) (IsDecoded c) decode-keeps decode-swaps 0 us g) ∙ result-cut us
+
+-- ---- a reference that stays
+
+no-amp : (s body : List ℕ) → bodyOf s ≡ some body → (x : ℕ) → In x body → T (eqb x 38) → ⊥
+no-amp [] body e = absurd (Option·none-ne-some body e)
+no-amp (y ∷ s) body e = go (eqb y 59) (eqb y 38) refl (bodyOf s) refl (no-amp s) e
+  where
+    go : (p q : Bool) → eqb y 38 ≡ q → (o : Option (List ℕ)) → bodyOf s ≡ o → ((b : List ℕ) → bodyOf s ≡ some b → (x : ℕ) → In x b → T (eqb x 38) → ⊥)
+        → bodyWith p q y o ≡ some body → (x : ℕ) → In x body → T (eqb x 38) → ⊥
+    go true q h o f ih e x i t = subst (In x) (sym (Option·some-injective [] body e)) i
+    go false true h o f ih e x i t = absurd (Option·none-ne-some body e)
+    go false false h none f ih e x i t = absurd (Option·none-ne-some body e)
+    go false false h (some b) f ih e x i t = found (subst (In x) (sym (Option·some-injective (y ∷ b) body e)) i)
+      where
+        found : (x ≡ y) ⊎ In x b → ⊥
+        found (inl q) = subst T h (subst (λ (z : ℕ). T (eqb z 38)) q t)
+        found (inr j) = ih b f x j t
+
+quiet-singly : (char : ℕ → Option (List ℕ)) (a r : List ℕ) → ((x : ℕ) → In x a → T (eqb x 38) → ⊥) → Follows (referenceBy char) (singly a) r
+quiet-singly char [] r h = tt
+quiet-singly char (x ∷ a) r h = ((0, refl, λ p. reference-quiet char p x (taken (singly a) ++ r) (h x (inl refl))), quiet-singly char a r (λ y i. h y (inr i)))
+
+-- "Otherwise the reference stays, and the search goes on after the `;`": its bytes are kept one by one, and then come the moves of what follows.
+pub search-goes-on : (char : ℕ → Option (List ℕ)) (p : ℕ) (s body r : List ℕ) → bodyOf s ≡ some body → meaning char body ≡ none → s ≡ body ++ 59 ∷ r
+    → (q : ℕ) × (moves (referenceBy char) p 0 (38 ∷ s) ≡ singly (38 ∷ body ++ ascii ";") ++ moves (referenceBy char) q 0 r)
+search-goes-on char p s body r e m w =
+    let amp : Makes (referenceBy char) (keep (38 ∷ [])) (taken (singly (body ++ ascii ";")) ++ r) = (0, refl, λ p. stays) in
+    let (q, f) = retrace (referenceBy char) p (singly (38 ∷ body ++ ascii ";")) r (amp, quiet-singly char (body ++ ascii ";") r quiet) in
+    (q, ap (λ (t : List ℕ). moves (referenceBy char) p 0 (38 ∷ t)) all ∙ f)
+  where
+    all : s ≡ taken (singly (body ++ ascii ";")) ++ r
+    all = w ∙ sym (append-assoc body (59 ∷ []) r) ∙ ap (λ (t : List ℕ). t ++ r) (sym (taken-singles (body ++ ascii ";")))
+
+    stays : onBody char true (bodyOf (taken (singly (body ++ ascii ";")) ++ r)) 38 ≡ keep (38 ∷ [])
+    stays = ap (λ (t : List ℕ). onBody char true (bodyOf t) 38) (sym all) ∙ ap (λ (o : Option (List ℕ)). onBody char true o 38) e ∙ ap (λ (v : Option (List ℕ)). onMeaning v 38 body) m
+
+    quiet : (x : ℕ) → In x (body ++ ascii ";") → T (eqb x 38) → ⊥
+    quiet x i t = go (in-append x body (ascii ";") i)
+      where
+        go : In x body ⊎ In x (ascii ";") → ⊥
+        go (inl j) = no-amp s body e x j t
+        go (inr (inl q)) = subst (λ (z : ℕ). T (eqb z 38)) q t
+        go (inr (inr j)) = j

@@ -1,26 +1,27 @@
 -- The encoder writes each character of a text as its unit.
 -- Assumes nothing.
-use mathlib.Core.Bool.{Bool, false, not}
+use mathlib.Core.Bool.{Bool, false, not, _&&_}
 use mathlib.Core.Logic.{_⊎_, inl, inr}
 use mathlib.Core.Option.{Option, none, some}
 use mathlib.Core.Path.{_≡_, refl, sym, ap, _∙_, subst}
-use mathlib.Core.List.{List, [], _∷_, _++_, map, append-nil}
+use mathlib.Core.List.{List, [], _∷_, _++_, map, append-assoc, append-nil}
 use Prim.Native.Nat.{ℕ, pred}
 use lib.Dec.{T, eqb, eqb→eq, T-not}
 use lib.ListN.{length}
 use Rattle.rules.specs.Bytes.{In, All, all, any, join, stands, sameBytes}
 use Rattle.rules.specs.Moves.{Move, keep, swap, stop, gives, taken, result, through}
-use Rattle.rules.specs.Utf8.{IsChar, IsFree}
-use Rattle.rules.specs.Tables.{Row, rowAt, key, rows, lossy, table, replacedChars}
+use Rattle.rules.specs.Utf8.{IsChar, IsText, IsFree, charStep, validTo}
+use Rattle.rules.specs.Tables.{Row, rowAt, key, value, rows, lossy, table, replacedChars}
 use Rattle.rules.specs.Units.{unread}
 use Rattle.rules.specs.declared.Context.{Context}
 use Rattle.rules.specs.Units.{IsUnit, IsRun}
 use Rattle.rules.specs.Encoding.{write, keepByte, encodeStep}
 use Rattle.rules.specs.Operations.{encodeOf}
-use Rattle.rules.proofs.Tests.{and-left, all-in, same-in, in-same, first-none, first-sound, none-fits, stands-self, stands-split, in-append, in-right, in-map, map-in}
+use Rattle.rules.proofs.Tests.{and-left, and-right, all-in, same-in, in-same, first-none, first-sound, none-fits, stands-self, stands-split, in-append, in-right, in-map, map-in}
 use Rattle.rules.proofs.Machine.{Makes, Follows, turn, singly, cut, cut-moves, taken-turn, result-turn, result-cut}
 use Rattle.rules.proofs.Chars.{isChar, is-char, isTail, char-unique, char-singly}
 use Rattle.rules.proofs.Tables.{code-chars, row-stops, row-length, row-first}
+use Rattle.rules.proofs.Valid.{valid-iff}
 use Rattle.rules.proofs.Every.{every, keys-code}
 
 -- No key begins with a byte 80 to BF.
@@ -33,6 +34,37 @@ keys-lead = every (λ (c : Context). all leads (table c)) tt
 lead-stops : (k v : List ℕ) (y : ℕ) (s : List ℕ) → T (leads (k, v)) → T (isTail y) → T (stands k (y ∷ s)) → ⊥
 lead-stops [] v y s l t h = l
 lead-stops (x ∷ k) v y s l t h = T-not (isTail x) l (subst (λ (z : ℕ). T (isTail z)) (sym (eqb→eq x y (and-left (eqb x y) (stands k s) h))) t)
+
+-- ---- texts one after the other
+
+join-append : (cs ds : List (List ℕ)) → join (cs ++ ds) ≡ join cs ++ join ds
+join-append [] ds = refl
+join-append (a ∷ cs) ds = ap (λ (s : List ℕ). a ++ s) (join-append cs ds) ∙ sym (append-assoc a (join cs) (join ds))
+
+chars-append : (cs ds : List (List ℕ)) → All IsChar cs → All IsChar ds → All IsChar (cs ++ ds)
+chars-append [] ds h i = i
+chars-append (a ∷ cs) ds h i = (h .0, chars-append cs ds (h .1) i)
+
+pub text-append : (s u : List ℕ) → IsText s → IsText u → IsText (s ++ u)
+text-append s u t v =
+    let (cs, h, e) = t in
+    let (ds, i, f) = v in
+    (cs ++ ds, chars-append cs ds h i, (λ i. e i ++ f i) ∙ sym (join-append cs ds))
+
+-- What a row writes is a text, by a computed test.
+abbrev isText : Row → Bool
+unfolding charStep
+isText e = eqb (validTo (value e)) (length (value e))
+
+value-text : (c : Context) (e : Row) → In e (rows c) → IsText (value e)
+unfolding charStep
+value-text c e i = valid-iff (value e) .1 (eqb→eq (validTo (value e)) (length (value e)) (all-in isText (rows c) (every (λ (c : Context). all isText (rows c)) tt c) e i))
+
+-- What a row writes is a character that the context copies.
+abbrev isPlain : Context → Row → Bool
+isPlain c e = isChar (value e) && not (any (sameBytes (value e)) (replacedChars c))
+
+-- ---- each context
 
 module _ (c : Context) where
   kept-where : (p x : ℕ) (s : List ℕ) → ((e : Row) → In e (table c) → T (stands (key e) (x ∷ s)) → ⊥) → encodeStep c p (x ∷ s) ≡ keep (x ∷ [])
@@ -140,3 +172,39 @@ module _ (c : Context) where
   wide (keep a ∷ us) g = (g .0, wide us (g .1))
   wide (swap v k ∷ us) g = (in-right (k, v) (lossy c) (rows c) (g .0), wide us (g .1))
   wide (stop ∷ us) g = absurd (g .0)
+
+  -- Any text is what a run of units of the whole table gives.
+  pub table-run : (cs : List (List ℕ)) → All IsChar cs → (us : List Move) × All (IsUnit (table c) (replacedChars c)) us × (join cs ≡ result us)
+  table-run [] h = ([], tt, refl)
+  table-run (a ∷ cs) h =
+      let (u, i, e) = unit-of a (h .0) in
+      let (us, g, q) = table-run cs (h .1) in
+      (u ∷ us, (i, g), λ i. sym e i ++ q i)
+
+  -- What is written for NUL in a style string is a plain character.
+  lossy-plain : (e : Row) → In e (lossy c) → IsUnit (rows c) (replacedChars c) (keep (value e))
+  lossy-plain e i =
+      let t = all-in (isPlain c) (lossy c) (every (λ (c : Context). all (isPlain c) (lossy c)) tt c) e i in (
+        is-char (value e) (and-left (isChar (value e)) (not (any (sameBytes (value e)) (replacedChars c))) t),
+        λ j. T-not (any (sameBytes (value e)) (replacedChars c)) (and-right (isChar (value e)) (not (any (sameBytes (value e)) (replacedChars c))) t)
+            (in-same (value e) (replacedChars c) j),
+      )
+
+  -- So what such a run takes is a form.
+  pub plain-run : (us : List Move) → All (IsUnit (table c) (replacedChars c)) us → (vs : List Move) × IsRun c vs × (taken us ≡ taken vs)
+  plain-run [] g = ([], tt, refl)
+  plain-run (keep a ∷ us) g = let (vs, h, e) = plain-run us (g .1) in (keep a ∷ vs, (g .0, h), ap (λ (s : List ℕ). a ++ s) e)
+  plain-run (swap v k ∷ us) g = let (vs, h, e) = plain-run us (g .1) in go (in-append (k, v) (lossy c) (rows c) (g .0)) vs h e
+    where
+      go : In (k, v) (lossy c) ⊎ In (k, v) (rows c) → (vs : List Move) → IsRun c vs → taken us ≡ taken vs
+          → (ws : List Move) × IsRun c ws × (v ++ taken us ≡ taken ws)
+      go (inl i) vs h e = (keep v ∷ vs, (lossy-plain (k, v) i, h), ap (λ (s : List ℕ). v ++ s) e)
+      go (inr i) vs h e = (swap v k ∷ vs, (i, h), ap (λ (s : List ℕ). v ++ s) e)
+  plain-run (stop ∷ us) g = absurd (g .0)
+
+  -- A form is a text.
+  pub run-text : (us : List Move) → IsRun c us → IsText (taken us)
+  run-text [] g = ([], tt, refl)
+  run-text (keep a ∷ us) g = let (cs, h, e) = run-text us (g .1) in (a ∷ cs, (g .0 .0, h), ap (λ (s : List ℕ). a ++ s) e)
+  run-text (swap v k ∷ us) g = text-append v (taken us) (value-text c (k, v) (g .0)) (run-text us (g .1))
+  run-text (stop ∷ us) g = absurd (g .0)

@@ -1,6 +1,8 @@
--- encode and script_raw take the whole text; how long what they write can be, and when it is the text itself.
+-- encode and script_raw take the whole text; each place that they replace grows, at most to six times its length, so that what they write
+-- is the text exactly if nothing is replaced.
 -- Assumes nothing.
 use mathlib.Core.Bool.{Bool, true, false, _&&_, cond}
+use mathlib.Core.Logic.{_↔_}
 use mathlib.Core.Option.{Option, none, some}
 use mathlib.Core.Path.{_≡_, refl, sym, ap, _∙_, subst}
 use mathlib.Core.List.{List, [], _∷_}
@@ -9,7 +11,7 @@ use native.Mathlib.Omega.{arith}
 use lib.Dec.{leb, ltb, eqb, leb→le, ltb→lt}
 use lib.ListN.{length, length-append}
 use Rattle.rules.specs.Bytes.{ascii, All, all, stands}
-use Rattle.rules.specs.Moves.{Move, keep, swap, stop, takes, gives, Rule, taken, result, replaced, growth, through}
+use Rattle.rules.specs.Moves.{Move, keep, swap, stop, takes, gives, Rule, taken, result, replaced, growth, shrinkage, through}
 use Rattle.rules.specs.Tables.{Row, rowAt, key, value, table, replacedChars}
 use Rattle.rules.specs.declared.Context.{Context}
 use Rattle.rules.specs.Encoding.{write, keepByte, encodeStep, rawStep, parted}
@@ -100,20 +102,31 @@ at-least (m ∷ ms) g =
     rw (replaced-cons m ms, length-append (gives m) (result ms), length-append (takes m) (taken ms))
     (sum-up (replaced (m ∷ [])) (length (gives m)) (length (takes m)) (replaced ms) (length (result ms)) (length (taken ms)) (g .0 .1) (at-least ms (g .1)))
 
-kept-sum : (a r t g : ℕ) → r ≡ t + g → a + r ≡ a + t + g
-kept-sum a r t g e = omega arith
+swap-balance : (a b r t g k : ℕ) → r + k ≡ t + g → b + r + (a - b + k) ≡ a + t + (b - a + g)
+swap-balance a b r t g k e = omega arith
 
-swap-sum : (a b r t g : ℕ) → 1 + a ≤ b → r ≡ t + g → b + r ≡ a + t + (b - a + g)
-swap-sum a b r t g h e = omega arith
+keep-balance : (a r t g k : ℕ) → r + k ≡ t + g → a + r + k ≡ a + t + g
+keep-balance a r t g k e = omega arith
 
-pub sum : (ms : List Move) → All Grows ms → length (result ms) ≡ length (taken ms) + growth ms
-sum [] g = refl
-sum (keep a ∷ ms) g =
-    rw (length-append a (result ms), length-append a (taken ms)) (kept-sum (length a) (length (result ms)) (length (taken ms)) (growth ms) (sum ms (g .1)))
-sum (swap a b ∷ ms) g =
+-- Of any moves: what they give and what the places that shrink lose is what they take and what the places that grow gain.
+pub balance : (ms : List Move) → length (result ms) + shrinkage ms ≡ length (taken ms) + growth ms
+balance [] = refl
+balance (keep a ∷ ms) =
+    rw (length-append a (result ms), length-append a (taken ms)) (keep-balance (length a) (length (result ms)) (length (taken ms)) (growth ms) (shrinkage ms) (balance ms))
+balance (swap a b ∷ ms) =
     rw (length-append b (result ms), length-append a (taken ms))
-    (swap-sum (length a) (length b) (length (result ms)) (length (taken ms)) (growth ms) (g .0 .1) (sum ms (g .1)))
-sum (stop ∷ ms) g = sum ms (g .1)
+    (swap-balance (length a) (length b) (length (result ms)) (length (taken ms)) (growth ms) (shrinkage ms) (balance ms))
+balance (stop ∷ ms) = balance ms
+
+no-loss : (a b k : ℕ) → 1 + a ≤ b → k ≡ 0 → a - b + k ≡ 0
+no-loss a b k h e = omega arith
+
+-- Where every replaced place grows none shrinks.
+none-shrinks : (ms : List Move) → All Grows ms → shrinkage ms ≡ 0
+none-shrinks [] g = refl
+none-shrinks (keep a ∷ ms) g = none-shrinks ms (g .1)
+none-shrinks (swap a b ∷ ms) g = no-loss (length a) (length b) (shrinkage ms) (g .0 .1) (none-shrinks ms (g .1))
+none-shrinks (stop ∷ ms) g = none-shrinks ms (g .1)
 
 none-left : (n a b : ℕ) → n + a ≤ b → b ≡ a → n ≡ 0
 none-left n a b h e = omega arith
@@ -124,12 +137,29 @@ module _ (rule : Rule) (fair : (p : ℕ) (s : List ℕ) → Fair Grows (rule p s
   six-times s = subst (λ (l : List ℕ). length (result (through rule s)) ≤ 6 * length l) (whole Grows rule fair goes s) (at-most (through rule s) (moves-fair Grows rule fair 0 0 s .0))
 
   grown-sum : (s : List ℕ) → length (result (through rule s)) ≡ length s + growth (through rule s)
-  grown-sum s = sum (through rule s) (moves-fair Grows rule fair 0 0 s .0) ∙ ap (λ (l : List ℕ). length l + growth (through rule s)) (whole Grows rule fair goes s)
+  grown-sum s =
+      dropped (length (result (through rule s))) (shrinkage (through rule s)) (length (taken (through rule s)) + growth (through rule s)) (balance (through rule s))
+      (none-shrinks (through rule s) (moves-fair Grows rule fair 0 0 s .0))
+      ∙ ap (λ (l : List ℕ). length l + growth (through rule s)) (whole Grows rule fair goes s)
+    where
+      dropped : (a k b : ℕ) → a + k ≡ b → k ≡ 0 → a ≡ b
+      dropped a k b e z = omega arith
+
+  -- Each replaced place adds a byte.
+  least : (s : List ℕ) → replaced (through rule s) + length s ≤ length (result (through rule s))
+  least s =
+      subst (λ (l : List ℕ). replaced (through rule s) + length l ≤ length (result (through rule s))) (whole Grows rule fair goes s)
+      (at-least (through rule s) (moves-fair Grows rule fair 0 0 s .0))
+
+  -- So nothing is replaced exactly if the result is as long as the text.
+  as-long : (s : List ℕ) → (replaced (through rule s) ≡ 0) ↔ (length (result (through rule s)) ≡ length s)
+  as-long s = (
+    λ z. ap length (same-result (through rule s) z ∙ whole Grows rule fair goes s),
+    λ e. none-left (replaced (through rule s)) (length s) (length (result (through rule s))) (least s) e,
+  )
 
   none-replaced : (s : List ℕ) → result (through rule s) ≡ s → replaced (through rule s) ≡ 0
-  none-replaced s e =
-      none-left (replaced (through rule s)) (length (taken (through rule s))) (length (result (through rule s))) (at-least (through rule s) (moves-fair Grows rule fair 0 0 s .0))
-      (ap length (e ∙ sym (whole Grows rule fair goes s)))
+  none-replaced s e = as-long s .1 (ap length e)
 
   -- What is no longer than the text is the text.
   no-longer : (s : List ℕ) → length (result (through rule s)) ≡ length s → result (through rule s) ≡ s
@@ -152,6 +182,9 @@ encode-six c = six-times (encodeStep c) (encode-fair c) (encode-goes c)
 pub encode-sum : (c : Context) (s : List ℕ) → length (result (through (encodeStep c) s)) ≡ length s + growth (through (encodeStep c) s)
 encode-sum c = grown-sum (encodeStep c) (encode-fair c) (encode-goes c)
 
+pub raw-sum : (s : List ℕ) → length (result (through rawStep s)) ≡ length s + growth (through rawStep s)
+raw-sum = grown-sum rawStep raw-fair raw-goes
+
 pub raw-six : (s : List ℕ) → length (result (through rawStep s)) ≤ 6 * length s
 raw-six = six-times rawStep raw-fair raw-goes
 
@@ -163,3 +196,9 @@ encode-none c = none-replaced (encodeStep c) (encode-fair c) (encode-goes c)
 
 pub raw-none : (s : List ℕ) → result (through rawStep s) ≡ s → replaced (through rawStep s) ≡ 0
 raw-none = none-replaced rawStep raw-fair raw-goes
+
+pub encode-as-long : (c : Context) (s : List ℕ) → (replaced (through (encodeStep c) s) ≡ 0) ↔ (length (result (through (encodeStep c) s)) ≡ length s)
+encode-as-long c = as-long (encodeStep c) (encode-fair c) (encode-goes c)
+
+pub raw-as-long : (s : List ℕ) → (replaced (through rawStep s) ≡ 0) ↔ (length (result (through rawStep s)) ≡ length s)
+raw-as-long = as-long rawStep raw-fair raw-goes

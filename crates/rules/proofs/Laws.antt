@@ -1,31 +1,39 @@
 -- The laws that document 01 asks for, each once over the context.
 -- Assumes nothing.
+use mathlib.Core.Bool.{Bool, not, _&&_}
 use mathlib.Core.Logic.{_↔_}
-use mathlib.Core.Path.{_≡_, sym, ap, _∙_, subst}
+use mathlib.Core.Path.{_≡_, refl, sym, ap, _∙_, subst}
 use mathlib.Core.List.{List, [], _∷_, _++_}
 use Prim.Native.Nat.{ℕ, _≤_, _*_, _+_}
-use lib.Dec.{T}
-use lib.ListN.{length, take}
-use Rattle.rules.specs.Bytes.{In, All, all, any, sameBytes}
-use Rattle.rules.specs.Moves.{Move, gives, taken, result, replaced, growth, through}
-use Rattle.rules.specs.Utf8.{IsFree}
-use Rattle.rules.specs.Tables.{rows, replacedChars}
-use Rattle.rules.specs.Units.{unread, undecoded}
-use Rattle.rules.specs.declared.Context.{Context}
-use Rattle.rules.specs.Units.{IsUnit, IsRun, IsForm}
+use native.Mathlib.Omega.{arith}
+use lib.Dec.{T, leb, leb→le}
+use lib.ListN.{length, take, length-append}
+use Rattle.rules.specs.Bytes.{ascii, In, All, all, any, sameBytes}
+use Rattle.rules.specs.Moves.{Move, keep, swap, stop, gives, taken, result, replaced, growth, through}
+use Rattle.rules.specs.Utf8.{IsText, IsFree}
+use Rattle.rules.specs.Tables.{Row, key, value, rows, replacedChars}
+use Rattle.rules.specs.Units.{IsUnit, IsRun, IsForm, unread, undecoded}
 use Rattle.rules.specs.Encoding.{encodeStep, rawStep}
 use Rattle.rules.specs.Reading.{readStep}
-use Rattle.rules.specs.References.{browseStep}
+use Rattle.rules.specs.Names.{names}
+use Rattle.rules.specs.References.{referenceStep, browseStep}
 use Rattle.rules.specs.Operations.{decodeStep, encodeOf, decodeOf, readOf, browseOf, rawOf, readTo}
+use Rattle.rules.specs.declared.Html.the-variants.{Text, Quoted}
+use Rattle.rules.specs.declared.Context.{Context}
+use Rattle.rules.specs.declared.Context.the-variants.{InHtml}
 use Rattle.rules.proofs.Tests.{all-in, same-in}
-use Rattle.rules.proofs.Machine.{same-result, place-within, whole-if}
+use Rattle.rules.proofs.Machine.{moves-fair, same-result, place-within, whole-if}
 use Rattle.rules.proofs.Codes.{Reads, units-read, units-unique, place-written, place-longest, written-iff}
 use Rattle.rules.proofs.Tables.{table-reads}
 use Rattle.rules.proofs.Every.{every, values-code}
-use Rattle.rules.proofs.Encoder.{encode-run, run-of, run-free, wide}
+use Rattle.rules.proofs.Encoder.{encode-run, run-of, run-free, wide, table-run, plain-run, run-text}
 use Rattle.rules.proofs.Decoder.{IsDecoded, decode-run}
-use Rattle.rules.proofs.Growth.{encode-whole, encode-none, encode-six, encode-sum, raw-whole, raw-none, raw-six}
-use Rattle.rules.proofs.Whole.{decode-whole, browse-whole}
+use Rattle.rules.proofs.Growth.{encode-whole, encode-none, encode-six, encode-sum, raw-whole, raw-none, raw-six, raw-sum}
+use Rattle.rules.proofs.Whole.{decode-whole, decode-fifth, browse-whole, browse-fifth}
+
+-- A row's key is no longer than its value.
+abbrev noLonger : Row → Bool
+noLonger e = leb (length (key e)) (length (value e))
 
 -- ---- demand 3
 
@@ -94,6 +102,25 @@ module _ (c : Context) where
   pub form-written : (s : List ℕ) → IsForm c s ↔ ((x : List ℕ) × IsFree (unread c) x × (s ≡ encodeOf c x))
   form-written s = (λ f. (readOf c s, form-free s f, sym (encode-read s f)), λ w. subst (IsForm c) (sym (w .2)) (encode-form (w .0) (w .1)))
 
+  -- What encode writes of any text is a form: in a style string NUL is written as another character is.
+  pub encode-any : (s : List ℕ) → IsText s → IsForm c (encodeOf c s)
+  encode-any s t =
+      let (cs, h, e) = t in
+      let (us, g, q) = table-run c cs h in
+      let (vs, i, f) = plain-run c us g in
+      (vs, i, ap (encodeOf c) (e ∙ q) ∙ encode-run c us g ∙ f)
+
+  -- So a string is a form exactly if some text encodes to it; the strict reader refuses exactly the others.
+  pub form-encoded : (s : List ℕ) → IsForm c s ↔ ((x : List ℕ) × IsText x × (s ≡ encodeOf c x))
+  form-encoded s = (
+    λ f. let (cs, h, b, e) = form-free s f in (readOf c s, (cs, h, e), sym (encode-read s f)),
+    λ w. subst (IsForm c) (sym (w .2)) (encode-any (w .0) (w .1)),
+  )
+
+  -- A form is valid UTF-8.
+  pub form-text : (s : List ℕ) → IsForm c s → IsText s
+  form-text s f = let (us, g, e) = f in subst IsText (sym e) (run-text c us g)
+
   -- Two texts are never written alike.
   pub encode-injective : (s u : List ℕ) → IsFree (unread c) s → IsFree (unread c) u → encodeOf c s ≡ encodeOf c u → s ≡ u
   encode-injective s u h k e = sym (read-encode s h) ∙ ap (readOf c) e ∙ read-encode u k
@@ -133,6 +160,22 @@ module _ (c : Context) where
   pub encode-length : (s : List ℕ) → length (encodeOf c s) ≤ 6 * length s
   encode-length = encode-six c
 
+  -- What decode gives is at most a fifth longer than the text.
+  pub decode-length : (s : List ℕ) → 5 * length (decodeOf c s) ≤ 6 * length s
+  decode-length = decode-fifth c
+
+  shorter : (us : List Move) → IsRun c us → length (result us) ≤ length (taken us)
+  shorter [] g = omega arith
+  shorter (keep a ∷ us) g = rw (length-append a (result us), length-append a (taken us)) (omega (arith, shorter us (g .1)))
+  shorter (swap v k ∷ us) g =
+      rw (length-append k (result us), length-append v (taken us))
+      (omega (arith, shorter us (g .1), leb→le (length k) (length v) (all-in noLonger (rows c) (every (λ (c : Context). all noLonger (rows c)) tt c) (k, v) (g .0))))
+  shorter (stop ∷ us) g = absurd (g .0)
+
+  -- What read gives is no longer than what it takes.
+  pub read-length : (s : List ℕ) → length (readOf c s) ≤ readTo c s
+  read-length s = shorter (through (readStep c) s) (moves-fair (IsUnit (rows c) (replacedChars c)) (readStep c) (units-reads .fair) 0 0 s .0)
+
   -- Where decode replaces nothing, its result is the text.
   pub decode-same : (s : List ℕ) → replaced (through (decodeStep c) s) ≡ 0 → decodeOf c s ≡ s
   decode-same s z = same-result (through (decodeStep c) s) z ∙ decode-whole c s
@@ -141,6 +184,10 @@ module _ (c : Context) where
 pub raw-same : (s : List ℕ) → (replaced (through rawStep s) ≡ 0) ↔ (rawOf s ≡ s)
 raw-same s = (λ z. same-result (through rawStep s) z ∙ raw-whole s, raw-none s)
 
+-- Its length is the text's plus the growth of each replaced place.
+pub raw-growth : (s : List ℕ) → length (rawOf s) ≡ length s + growth (through rawStep s)
+raw-growth = raw-sum
+
 -- It is at most six times as long (twice, in fact).
 pub raw-length : (s : List ℕ) → length (rawOf s) ≤ 6 * length s
 raw-length = raw-six
@@ -148,3 +195,29 @@ raw-length = raw-six
 -- Where browse replaces nothing, its result is the text.
 pub browse-same : (s : List ℕ) → replaced (through browseStep s) ≡ 0 → browseOf s ≡ s
 browse-same s z = same-result (through browseStep s) z ∙ browse-whole s
+
+-- What browse gives is at most a fifth longer than the text.
+pub browse-length : (s : List ℕ) → 5 * length (browseOf s) ≤ 6 * length s
+browse-length = browse-fifth
+
+-- ---- the exceptions are real, and the figures are reached
+
+-- Each character that decode does not give back is not given back, and each that read does not give back is not.
+abbrev pub fails : Context → Bool
+unfolding encodeStep decodeStep readStep referenceStep names
+fails c =
+    all (λ (a : List ℕ). not (sameBytes (decodeOf c (encodeOf c a)) a)) (undecoded c)
+    && all (λ (a : List ℕ). not (sameBytes (readOf c (encodeOf c a)) a)) (unread c)
+
+pub exceptions-fail : (c : Context) → T (fails c)
+unfolding encodeStep decodeStep readStep referenceStep names
+exceptions-fail = every fails tt
+
+-- `'` in a quoted attribute is written six times as long, and `&nGt;` stands for a text that is a fifth longer.
+pub six-reached : length (encodeOf (InHtml Quoted) (ascii "'")) ≡ 6 * length (ascii "'")
+unfolding encodeStep
+six-reached = refl
+
+pub fifth-reached : 5 * length (decodeOf (InHtml Text) (ascii "&nGt;")) ≡ 6 * length (ascii "&nGt;")
+unfolding decodeStep referenceStep names
+fifth-reached = refl

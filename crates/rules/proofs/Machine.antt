@@ -184,11 +184,11 @@ cut (keep a ∷ ms) = singly a ++ cut ms
 cut (swap a b ∷ ms) = swap a b ∷ cut ms
 cut (stop ∷ ms) = cut ms
 
-taken-singly : (a : List ℕ) (ms : List Move) → taken (singly a ++ ms) ≡ a ++ taken ms
+pub taken-singly : (a : List ℕ) (ms : List Move) → taken (singly a ++ ms) ≡ a ++ taken ms
 taken-singly [] ms = refl
 taken-singly (x ∷ a) ms = ap (λ (s : List ℕ). x ∷ s) (taken-singly a ms)
 
-result-singly : (a : List ℕ) (ms : List Move) → result (singly a ++ ms) ≡ a ++ result ms
+pub result-singly : (a : List ℕ) (ms : List Move) → result (singly a ++ ms) ≡ a ++ result ms
 result-singly [] ms = refl
 result-singly (x ∷ a) ms = ap (λ (s : List ℕ). x ∷ s) (result-singly a ms)
 
@@ -207,7 +207,7 @@ result-cut (stop ∷ ms) = result-cut ms
 -- A rule that keeps each byte of what is kept, and makes each swap, has these moves byte by byte.
 module _ (rule : Rule) (unit : Move → Type 0) (keeps : (a : List ℕ) → unit (keep a) → (r : List ℕ) → Follows rule (singly a) r)
     (swaps : (a b : List ℕ) → unit (swap a b) → (r : List ℕ) → Makes rule (swap a b) r) where
-  follows-cut : (ms : List Move) → All unit ms → (r : List ℕ) → Follows rule (cut ms) r
+  pub follows-cut : (ms : List Move) → All unit ms → (r : List ℕ) → Follows rule (cut ms) r
   follows-cut [] g r = tt
   follows-cut (keep a ∷ ms) g r = follows-append rule (singly a) (cut ms) r (keeps a (g .0) (taken (cut ms) ++ r)) (follows-cut ms (g .1) r)
   follows-cut (swap a b ∷ ms) g r = (swaps a b (g .0) (taken (cut ms) ++ r), follows-cut ms (g .1) r)

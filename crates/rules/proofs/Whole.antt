@@ -1,29 +1,106 @@
--- decode and browse take the whole text.
+-- decode and browse take the whole text, and what a reference or an escape stands for is at most a fifth longer than it.
 -- Assumes nothing.
-use mathlib.Core.Bool.{Bool, true, false, _&&_, cond}
+use mathlib.Core.Bool.{Bool, true, false, not, _&&_, _||_, cond}
 use mathlib.Core.Option.{Option, none, some, Option·none-ne-some, Option·some-injective}
 use mathlib.Core.Path.{_≡_, refl, sym, ap, _∙_, subst}
 use mathlib.Core.List.{List, [], _∷_, _++_, map, append-assoc}
-use Prim.Native.Nat.{ℕ, pred}
-use lib.Dec.{T, eqb, eqb→eq}
-use lib.ListN.{length}
-use Rattle.rules.specs.Bytes.{ascii, fits, stands, oneOf}
-use Rattle.rules.specs.Moves.{Move, keep, swap, taken, through}
-use Rattle.rules.specs.Tables.{Row, rowAt, value, rows, replacedChars}
+use Prim.Native.Nat.{ℕ, suc, pred, _+_, _*_, _/_, _%_, _≤_}
+use native.Mathlib.Omega.{arith}
+use lib.Dec.{T, leb, ltb, eqb, eqb→eq, leb→le}
+use lib.ListN.{length, length-append}
+use Rattle.rules.specs.Bytes.{ascii, All, all, first, fits, stands, sameBytes, oneOf}
+use Rattle.rules.specs.Moves.{Move, keep, swap, takes, gives, taken, result, through}
+use Rattle.rules.specs.Utf8.{utf8}
+use Rattle.rules.specs.Tables.{Row, rowAt, key, value, rows, replacedChars}
+use Rattle.rules.specs.Names.{names}
 use Rattle.rules.specs.declared.Context.{Context}
 use Rattle.rules.specs.declared.Context.the-variants.{InHtml, InScript, InStyle}
 use Rattle.rules.specs.Encoding.{keepByte, closes, anyCase, terminators}
 use Rattle.rules.specs.Reading.{undo}
-use Rattle.rules.specs.References.{bodyWith, bodyOf, meaning, onMeaning, onBody, referenceBy, decodeChar, browseChar, referenceStep, browseStep}
+use Rattle.rules.specs.References.{bodyWith, bodyOf, numberOf, scalar, decodeChar, browseChar, charOf, valueOf, lookup, meaning, onMeaning, onBody, referenceBy, referenceStep, browseStep}
 use Rattle.rules.specs.Escapes.{afterLess, escapeBy}
 use Rattle.rules.specs.Operations.{decodeStep}
-use Rattle.rules.proofs.Tests.{and-left, and-right, or-false, first-sound, stands-split}
-use Rattle.rules.proofs.Machine.{Fair, Goes, whole}
+use Rattle.rules.proofs.Tests.{and-left, and-right, or-false, all-in, first-sound, stands-split, same-bytes}
+use Rattle.rules.proofs.Machine.{Fair, Goes, moves-fair, whole}
 use Rattle.rules.proofs.Tables.{row-length}
-use Rattle.rules.proofs.Every.{values-code}
+use Rattle.rules.proofs.Every.{every, values-code}
 
-abbrev Any : Move → Type 0
-Any m = Unit {0}
+-- A move gives at most a fifth more than it takes.
+abbrev pub Fifth : Move → Type 0
+Fifth m = 5 * length (gives m) ≤ 6 * length (takes m)
+
+kept-fifth : (x : ℕ) → Fifth (keep (x ∷ []))
+kept-fifth x = leb→le 5 6 tt
+
+-- ---- what a body stands for
+
+abbrev chosen : Bool → Bool → Bool → List ℕ → List ℕ → List ℕ → List ℕ → List ℕ
+chosen a b c one two three four = cond a one (cond b two (cond c three four))
+
+four-most : (a b c : Bool) (x₁ x₂ x₃ x₄ y₁ y₂ y₃ z₁ z₂ w : ℕ)
+    → length (chosen a b c (w ∷ []) (z₁ ∷ z₂ ∷ []) (y₁ ∷ y₂ ∷ y₃ ∷ []) (x₁ ∷ x₂ ∷ x₃ ∷ x₄ ∷ [])) ≤ 4
+four-most true b c x₁ x₂ x₃ x₄ y₁ y₂ y₃ z₁ z₂ w = leb→le 1 4 tt
+four-most false true c x₁ x₂ x₃ x₄ y₁ y₂ y₃ z₁ z₂ w = leb→le 2 4 tt
+four-most false false true x₁ x₂ x₃ x₄ y₁ y₂ y₃ z₁ z₂ w = leb→le 3 4 tt
+four-most false false false x₁ x₂ x₃ x₄ y₁ y₂ y₃ z₁ z₂ w = leb→le 4 4 tt
+
+utf8-four : (n : ℕ) → length (utf8 n) ≤ 4
+utf8-four n =
+    four-most (ltb n 0x80) (ltb n 0x800) (ltb n 0x10000) (0xF0 + n / 262144) (0x80 + n / 4096 % 64) (0x80 + n / 64 % 64) (0x80 + n % 64)
+    (0xE0 + n / 4096) (0x80 + n / 64 % 64) (0x80 + n % 64) (0xC0 + n / 64) (0x80 + n % 64) n
+
+-- A reader of numbers whose characters have at most four bytes.
+abbrev pub Short : (ℕ → Option (List ℕ)) → Type 0
+Short char = (n : ℕ) (v : List ℕ) → char n ≡ some v → length v ≤ 4
+
+decode-short : Short decodeChar
+decode-short n v e = go (scalar n && (leb 32 n || oneOf (9 ∷ 10 ∷ 12 ∷ 13 ∷ []) n)) e
+  where
+    go : (b : Bool) → cond b (some (utf8 n)) none ≡ some v → length v ≤ 4
+    go true e = subst (λ (l : List ℕ). length l ≤ 4) (Option·some-injective (utf8 n) v e) (utf8-four n)
+    go false e = absurd (Option·none-ne-some v e)
+
+browse-short : Short browseChar
+browse-short n v e = subst (λ (l : List ℕ). length l ≤ 4) (Option·some-injective (cond (scalar n && not (eqb n 0)) (utf8 n) (utf8 0xFFFD)) v e) (go (scalar n && not (eqb n 0)))
+  where
+    go : (b : Bool) → length (cond b (utf8 n) (utf8 0xFFFD)) ≤ 4
+    go true = utf8-four n
+    go false = utf8-four 0xFFFD
+
+-- A name's value is at most a fifth longer than the reference.
+abbrev shortName : Row → Bool
+shortName e = leb (5 * length (value e)) (6 * (length (key e) + 2))
+
+names-short : T (all shortName names)
+unfolding names
+names-short = tt
+
+number-some : (s : List ℕ) (n : ℕ) → numberOf s ≡ some n → 1 ≤ length s
+number-some [] n e = absurd (Option·none-ne-some n e)
+number-some (x ∷ s) n e = omega arith
+
+meaning-short : (char : ℕ → Option (List ℕ)) → Short char → (body v : List ℕ) → meaning char body ≡ some v → 5 * length v ≤ 6 * (length body + 2)
+meaning-short char short [] v e = absurd (Option·none-ne-some v e)
+meaning-short char short (x ∷ s) v e = go (eqb x 35) e
+  where
+    four : (a b : ℕ) → a ≤ 4 → 1 ≤ b → 5 * a ≤ 6 * (suc b + 2)
+    four a b h k = omega arith
+
+    numbered : (o : Option ℕ) → numberOf s ≡ o → charOf char o ≡ some v → 5 * length v ≤ 6 * (length (x ∷ s) + 2)
+    numbered none f e = absurd (Option·none-ne-some v e)
+    numbered (some n) f e = four (length v) (length s) (short n v e) (number-some s n f)
+
+    named : (o : Option Row) → first (λ (row : Row). sameBytes (key row)) names (x ∷ s) ≡ o → valueOf o ≡ some v → 5 * length v ≤ 6 * (length (x ∷ s) + 2)
+    named none f e = absurd (Option·none-ne-some v e)
+    named (some row) f e =
+        let (i, t) = first-sound (λ (row : Row). sameBytes (key row)) names (x ∷ s) row f in
+        let h = leb→le (5 * length (value row)) (6 * (length (key row) + 2)) (all-in shortName names names-short row i) in
+        subst (λ (l : List ℕ). 5 * length l ≤ 6 * (length (x ∷ s) + 2)) (Option·some-injective (value row) v e)
+        (subst (λ (l : List ℕ). 5 * length (value row) ≤ 6 * (length l + 2)) (same-bytes (key row) (x ∷ s) t) h)
+
+    go : (b : Bool) → cond b (charOf char (numberOf s)) (lookup names (x ∷ s)) ≡ some v → 5 * length v ≤ 6 * (length (x ∷ s) + 2)
+    go true e = numbered (numberOf s) refl e
+    go false e = named (first (λ (row : Row). sameBytes (key row)) names (x ∷ s)) refl e
 
 body-split : (s body : List ℕ) → bodyOf s ≡ some body → (r : List ℕ) × (s ≡ body ++ 59 ∷ r)
 body-split [] body e = absurd (Option·none-ne-some body e)
@@ -39,18 +116,27 @@ body-split (x ∷ xs) body e = go (eqb x 59) refl (eqb x 38) (bodyOf xs) refl (b
         let (r, w) = ih b f in
         (r, ap (λ (l : List ℕ). x ∷ l) w ∙ ap (λ (l : List ℕ). l ++ 59 ∷ r) (Option·some-injective (x ∷ b) body e))
 
-reference-fair : (char : ℕ → Option (List ℕ)) (p : ℕ) (s : List ℕ) → Fair Any (referenceBy char p s) s
-reference-fair char p [] = tt
-reference-fair char p (x ∷ xs) = go (eqb x 38) (bodyOf xs) refl
+reference-fair : (char : ℕ → Option (List ℕ)) → Short char → (p : ℕ) (s : List ℕ) → Fair Fifth (referenceBy char p s) s
+reference-fair char short p [] = tt
+reference-fair char short p (x ∷ xs) = go (eqb x 38) (bodyOf xs) refl
   where
-    found : (body r : List ℕ) → xs ≡ body ++ 59 ∷ r → (v : Option (List ℕ)) → Fair Any (onMeaning v x body) (x ∷ xs)
-    found body r w none = (tt, xs, refl, 0, refl)
-    found body r w (some v) = (tt, r, ap (λ (l : List ℕ). x ∷ l) (w ∙ sym (append-assoc body (59 ∷ []) r)), length (body ++ ascii ";"), refl)
+    long : (body : List ℕ) → length body + 2 ≡ length (x ∷ body ++ ascii ";")
+    long body = rw (length-append body (ascii ";")) (omega arith)
 
-    go : (b : Bool) (o : Option (List ℕ)) → bodyOf xs ≡ o → Fair Any (onBody char b o x) (x ∷ xs)
-    go false o f = (tt, xs, refl, 0, refl)
-    go true none f = (tt, xs, refl, 0, refl)
-    go true (some body) f = let (r, w) = body-split xs body f in found body r w (meaning char body)
+    found : (body r : List ℕ) → xs ≡ body ++ 59 ∷ r → (v : Option (List ℕ)) → meaning char body ≡ v → Fair Fifth (onMeaning v x body) (x ∷ xs)
+    found body r w none e = (kept-fifth x, xs, refl, 0, refl)
+    found body r w (some v) e = (
+      subst (λ (n : ℕ). 5 * length v ≤ 6 * n) (long body) (meaning-short char short body v e),
+      r,
+      ap (λ (l : List ℕ). x ∷ l) (w ∙ sym (append-assoc body (59 ∷ []) r)),
+      length (body ++ ascii ";"),
+      refl,
+    )
+
+    go : (b : Bool) (o : Option (List ℕ)) → bodyOf xs ≡ o → Fair Fifth (onBody char b o x) (x ∷ xs)
+    go false o f = (kept-fifth x, xs, refl, 0, refl)
+    go true none f = (kept-fifth x, xs, refl, 0, refl)
+    go true (some body) f = let (r, w) = body-split xs body f in found body r w (meaning char body) refl
 
 reference-goes : (char : ℕ → Option (List ℕ)) (p x : ℕ) (xs : List ℕ) → Goes (referenceBy char p (x ∷ xs))
 reference-goes char p x xs = go (eqb x 38) (bodyOf xs)
@@ -72,21 +158,21 @@ closes-split name (x ∷ y ∷ s) t =
     let u = and-right (oneOf (92 ∷ []) x) (oneOf (47 ∷ []) y && rest) t in
     (s, λ i. eqb→eq x 92 (or-false (eqb x 92) (and-left (oneOf (92 ∷ []) x) (oneOf (47 ∷ []) y && rest) t)) i ∷ eqb→eq y 47 (or-false (eqb y 47) (and-left (oneOf (47 ∷ []) y) rest u)) i ∷ s)
 
-byte-fair : (s : List ℕ) → Fair Any (keepByte s) s
+byte-fair : (s : List ℕ) → Fair Fifth (keepByte s) s
 byte-fair [] = tt
-byte-fair (x ∷ s) = (tt, s, refl, 0, refl)
+byte-fair (x ∷ s) = (kept-fifth x, s, refl, 0, refl)
 
-less-fair : (name : List ℕ) (p : ℕ) (s : List ℕ) → Fair Any (afterLess name p s) s
+less-fair : (name : List ℕ) (p : ℕ) (s : List ℕ) → Fair Fifth (afterLess name p s) s
 less-fair name p s = go (eqb p 60 && stands (ascii "\\!--") s) refl (eqb p 60 && closes (ascii "\\/" ++ name) s) refl
   where
     go : (a : Bool) → eqb p 60 && stands (ascii "\\!--") s ≡ a → (b : Bool) → eqb p 60 && closes (ascii "\\/" ++ name) s ≡ b
-        → Fair Any (cond a (swap (ascii "\\!") (ascii "!")) (cond b (swap (ascii "\\/") (ascii "/")) (keepByte s))) s
+        → Fair Fifth (cond a (swap (ascii "\\!") (ascii "!")) (cond b (swap (ascii "\\/") (ascii "/")) (keepByte s))) s
     go true f b g =
         let (r, w) = stands-split (ascii "\\!--") s (and-right (eqb p 60) (stands (ascii "\\!--") s) (subst T (sym f) tt)) in
-        (tt, ascii "--" ++ r, w, 1, refl)
+        (leb→le 5 12 tt, ascii "--" ++ r, w, 1, refl)
     go false f true g =
         let (r, w) = closes-split name s (and-right (eqb p 60) (closes (ascii "\\/" ++ name) s) (subst T (sym g) tt)) in
-        (tt, r, w, 1, refl)
+        (leb→le 5 12 tt, r, w, 1, refl)
     go false f false g = byte-fair s
 
 less-goes : (name : List ℕ) (p x : ℕ) (xs : List ℕ) → Goes (afterLess name p (x ∷ xs))
@@ -97,15 +183,24 @@ less-goes name p x xs = go (eqb p 60 && stands (ascii "\\!--") (x ∷ xs)) (eqb 
     go false true = tt
     go false false = tt
 
-escape-fair : (c : Context) (name : List ℕ) (p : ℕ) (s : List ℕ) → Fair Any (escapeBy name (rows c) p s) s
+-- An escape's character is at most a fifth longer than it; it is shorter, in fact.
+abbrev shortRow : Row → Bool
+shortRow e = leb (5 * length (key e)) (6 * length (value e))
+
+escape-fair : (c : Context) (name : List ℕ) (p : ℕ) (s : List ℕ) → Fair Fifth (escapeBy name (rows c) p s) s
 escape-fair c name p s = go (rowAt value (rows c) s) refl
   where
-    go : (o : Option Row) → rowAt value (rows c) s ≡ o → Fair Any (undo o (afterLess name p s)) s
+    go : (o : Option Row) → rowAt value (rows c) s ≡ o → Fair Fifth (undo o (afterLess name p s)) s
     go none f = less-fair name p s
     go (some row) f =
         let (i, t) = first-sound (λ (row : Row). stands (value row)) (rows c) s row f in
-        let (r, w) = stands-split (value row) s t in
-        (tt, r, w, pred (length (value row)), row-length value (rows c) (replacedChars c) (values-code c) row i)
+        let (r, w) = stands-split (value row) s t in (
+          leb→le (5 * length (key row)) (6 * length (value row)) (all-in shortRow (rows c) (every (λ (c : Context). all shortRow (rows c)) tt c) row i),
+          r,
+          w,
+          pred (length (value row)),
+          row-length value (rows c) (replacedChars c) (values-code c) row i,
+        )
 
 escape-goes : (rs : List Row) (name : List ℕ) (p x : ℕ) (xs : List ℕ) → Goes (escapeBy name rs p (x ∷ xs))
 escape-goes rs name p x xs = go (rowAt value rs (x ∷ xs))
@@ -114,9 +209,9 @@ escape-goes rs name p x xs = go (rowAt value rs (x ∷ xs))
     go none = less-goes name p x xs
     go (some row) = tt
 
-decode-fair : (c : Context) (p : ℕ) (s : List ℕ) → Fair Any (decodeStep c p s) s
+decode-fair : (c : Context) (p : ℕ) (s : List ℕ) → Fair Fifth (decodeStep c p s) s
 unfolding decodeStep referenceStep
-decode-fair (InHtml h) = reference-fair decodeChar
+decode-fair (InHtml h) = reference-fair decodeChar decode-short
 decode-fair (InScript q) = escape-fair (InScript q) (ascii "script")
 decode-fair (InStyle q) = escape-fair (InStyle q) (ascii "style")
 
@@ -127,8 +222,33 @@ decode-goes (InScript q) = escape-goes (rows (InScript q)) (ascii "script")
 decode-goes (InStyle q) = escape-goes (rows (InStyle q)) (ascii "style")
 
 pub decode-whole : (c : Context) (s : List ℕ) → taken (through (decodeStep c) s) ≡ s
-decode-whole c = whole Any (decodeStep c) (decode-fair c) (decode-goes c)
+decode-whole c = whole Fifth (decodeStep c) (decode-fair c) (decode-goes c)
+
+browse-fair : (p : ℕ) (s : List ℕ) → Fair Fifth (browseStep p s) s
+unfolding browseStep
+browse-fair = reference-fair browseChar browse-short
 
 pub browse-whole : (s : List ℕ) → taken (through browseStep s) ≡ s
 unfolding browseStep
-browse-whole = whole Any browseStep (reference-fair browseChar) (reference-goes browseChar)
+browse-whole = whole Fifth browseStep browse-fair (reference-goes browseChar)
+
+-- ---- how long the result can be
+
+add-up : (v k a b : ℕ) → 5 * v ≤ 6 * k → 5 * a ≤ 6 * b → 5 * (v + a) ≤ 6 * (k + b)
+add-up v k a b h i = omega arith
+
+at-most : (ms : List Move) → All Fifth ms → 5 * length (result ms) ≤ 6 * length (taken ms)
+at-most [] g = omega arith
+at-most (m ∷ ms) g =
+    rw (length-append (gives m) (result ms), length-append (takes m) (taken ms))
+    (add-up (length (gives m)) (length (takes m)) (length (result ms)) (length (taken ms)) (g .0) (at-most ms (g .1)))
+
+pub decode-fifth : (c : Context) (s : List ℕ) → 5 * length (result (through (decodeStep c) s)) ≤ 6 * length s
+decode-fifth c s =
+    subst (λ (l : List ℕ). 5 * length (result (through (decodeStep c) s)) ≤ 6 * length l) (decode-whole c s)
+    (at-most (through (decodeStep c) s) (moves-fair Fifth (decodeStep c) (decode-fair c) 0 0 s .0))
+
+pub browse-fifth : (s : List ℕ) → 5 * length (result (through browseStep s)) ≤ 6 * length s
+browse-fifth s =
+    subst (λ (l : List ℕ). 5 * length (result (through browseStep s)) ≤ 6 * length l) (browse-whole s)
+    (at-most (through browseStep s) (moves-fair Fifth browseStep browse-fair 0 0 s .0))

@@ -14,3 +14,5 @@ pub mod Operations
 pub mod Refusals
 pub mod Answers
 pub mod Program
+pub mod Examples
+pub mod Edges

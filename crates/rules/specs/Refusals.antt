@@ -88,23 +88,23 @@ Given k row = Says k row × All (λ (other : Case). Says k other → ⊥) (earli
 
 -- ---- the table as a computation
 
--- The tests of the table, in its order, of a text that the moves ms go through.
-abbrev pub judge : Call → List Move → Case
-judge k ms =
-    cond (ltb (k .limit) (size (k .text))) too-long
-    (cond (ltb (validTo (k .text)) (size (k .text))) not-utf8
-    (cond (ltb (placeOf ms) (size (k .text))) not-a-form
-    (cond (k .borrows && eqb (replaced ms) 0) lent
-    (cond (ltb (k .room) (size (result ms))) no-room written))))
+-- The tests of the table, in its order, of a text t that the moves ms go through, in a call that borrows or not, with a limit and an output of room bytes.
+abbrev pub judge : Bool → ℕ → List ℕ → List Move → ℕ → Case
+judge borrows limit t ms room =
+    cond (ltb limit (size t)) too-long
+    (cond (ltb (validTo t) (size t)) not-utf8
+    (cond (ltb (placeOf ms) (size t)) not-a-form
+    (cond (borrows && eqb (replaced ms) 0) lent
+    (cond (ltb room (size (result ms))) no-room written))))
 
 -- The same where there is a rule; where there is none, BAD_CONTEXT.
-abbrev pub caseBy : Option Rule → Call → Case
-caseBy none k = bad-context
-caseBy (some rule) k = judge k (through rule (k .text))
+unfoldable pub caseBy : Option Rule → Bool → ℕ → List ℕ → ℕ → Case
+caseBy none borrows limit t room = bad-context
+caseBy (some rule) borrows limit t room = judge borrows limit t (through rule t) room
 
 -- The case of a call.
-unfoldable pub caseOf : Call → Case
-caseOf k = caseBy (ruleOf (k .operation) (k .context)) k
+abbrev pub caseOf : Call → Case
+caseOf k = caseBy (ruleOf (k .operation) (k .context)) (k .borrows) (k .limit) (k .text) (k .room)
 
 -- 1 exactly if nothing is replaced.
 abbrev pub sameOf : List Move → ℕ
@@ -136,17 +136,25 @@ outAt written ms out = over (result ms) out
 abbrev pub textLimit : ℕ
 textLimit = 65536
 
--- The public call of an operation in a context, on a text and a lent output.
+-- The public call of an operation in a context, on a text and a lent output, as the table's words take it.
 abbrev pub call : Operation → Named → Bool → List ℕ → List ℕ → Call
 call op n borrows t out = record { operation = op; context = n; borrows = borrows; limit = textLimit; text = t; room = size out }
 
--- What it answers.
+-- What a call by a rule, if there is one, answers.
+abbrev pub answerBy : Option Rule → Bool → List ℕ → List ℕ → Answer
+answerBy rule borrows t out = answerAt (caseBy rule borrows textLimit t (size out)) t (movesOf rule t)
+
+-- What it leaves in the output.
+abbrev pub outBy : Option Rule → Bool → List ℕ → List ℕ → List ℕ
+outBy rule borrows t out = outAt (caseBy rule borrows textLimit t (size out)) (movesOf rule t) out
+
+-- What the public call of an operation in a context answers.
 abbrev pub answerOf : Operation → Named → Bool → List ℕ → List ℕ → Answer
-answerOf op n borrows t out = answerAt (caseOf (call op n borrows t out)) t (movesIn (call op n borrows t out))
+answerOf op n = answerBy (ruleOf op n)
 
 -- What it leaves in the output.
 abbrev pub outOf : Operation → Named → Bool → List ℕ → List ℕ → List ℕ
-outOf op n borrows t out = outAt (caseOf (call op n borrows t out)) (movesIn (call op n borrows t out)) out
+outOf op n = outBy (ruleOf op n)
 
 -- view: the whole text where same is 1, otherwise the first bytes of the output, or an empty part where the output is shorter.
 abbrev pub viewOf : List ℕ → List ℕ → ℕ → ℕ → List ℕ

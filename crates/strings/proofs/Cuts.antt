@@ -10,7 +10,7 @@ use native.Mathlib.Omega.{arith}
 use borrow.Author.Tests.{eqb-true, eqb-false, ltb-true, ltb-false}
 use lib.Dec.{T, eqb, ltb}
 use lib.ListN.{length, take, drop, getD, length-append, drop-of-length-le}
-use lib.Seq.{getD-drop, getD-take}
+use lib.Seq.{getD-drop}
 use Rattle.rules.specs.Moves.{Move, keep, takes}
 use Rattle.rules.specs.Encoding.{encodeStep}
 use Rattle.rules.specs.Operations.{encodeOf}
@@ -19,7 +19,7 @@ use Rattle.rules.specs.declared.Context.{Context}
 use Rattle.rules.specs.declared.Context.the-variants.{InScript, InStyle}
 use Rattle.rules.proofs.Tests.{is-false}
 use Rattle.rules.proofs.Blind.{Local, Parted, parted-result}
-use Rattle.parts.proofs.Part.{part-length, part-split}
+use Rattle.parts.proofs.Part.{part-length, part-at, parted as part-split}
 use Rattle.parts.proofs.Filled.{Next}
 use Rattle.strings.specs.declared.Strings.{Strings}
 use Rattle.strings.specs.Strings.{contextIn, endsOf, ended, Apart}
@@ -115,14 +115,14 @@ module _ (strings : Strings) where
     clear-part (inr (inl q)) = inr (inl (getD-drop e t 0 0 ∙ rw add-zero q))
     clear-part (inr (inr f)) =
         let w = part-length t i e h l in
-        inr (inr (λ k u v r. f (i + k) (omega arith) (omega arith) (sym (getD-take (e - i) (drop i t) k 0 (omega arith) ∙ getD-drop i t k 0) ∙ r)))
+        inr (inr (λ k u v r. f (i + k) (omega arith) (omega arith) (sym (part-at t i e k (omega arith)) ∙ r)))
 
     -- What is written for it comes first, and then what is written for the rest after it.
     pub next-part : Apart t e → Next (encodeOf (contextIn strings) (drop i t)) (encodeOf (contextIn strings) (take (e - i) (drop i t))) (encodeOf (contextIn strings) (drop e t))
     next-part p =
         record {
           next =
-              ap (encodeOf (contextIn strings)) (part-split t i e h)
+              ap (encodeOf (contextIn strings)) (sym (part-split t i e h))
               ∙ parted-result (encodeStep (contextIn strings)) (encode-blind (contextIn strings)) (take (e - i) (drop i t)) (drop e t)
               (parted (take (e - i) (drop i t)) (drop e t) (clear-part p));
         }

@@ -1,0 +1,4 @@
+-- The laws of the frame.
+pub mod Found
+pub mod Rows
+pub mod Seen

@@ -1,0 +1,95 @@
+-- What a survey has shown settles the rows of the refusal table: Rows, said of the numbers that the code holds.
+-- Assumes nothing.
+use mathlib.Core.Bool.{Bool, true, false, not, _&&_, cond}
+use mathlib.Core.Option.{Option, none, some}
+use mathlib.Core.Path.{_≡_, refl, sym, ap, _∙_, subst}
+use mathlib.Core.List.{List}
+use Prim.Native.Nat.{ℕ, _≤_, _<_}
+use native.Mathlib.Omega.{arith}
+use lib.Dec.{eqb}
+use lib.ListN.{length as size}
+use Rattle.rules.specs.Bytes.{over}
+use Rattle.rules.specs.Moves.{Move, Rule, result, replaced, place, through}
+use Rattle.rules.specs.Utf8.{validTo}
+use Rattle.rules.specs.Refusals.{answer, textLimit, sameOf}
+use Rattle.rules.specs.declared.Answer.{Answer}
+use Rattle.rules.proofs.Valid.{valid-within}
+use Rattle.frame.specs.Jobs.{known, ruleBy, ruleAt, Surveyed}
+use Rattle.frame.specs.declared.job.Job.{Job}
+use Rattle.frame.specs.declared.work.Findings.{Findings}
+use Rattle.frame.proofs.Rows.{Leaves, bad-row, long-row, utf8-row, form-row, lent-row, room-row, written-row}
+
+module _ (job : Job) (borrows : Bool) (t out : List ℕ) where
+  abbrev ms : List Move
+  ms = through (ruleBy job) t
+
+  -- A call of the job that leaves the answer a and the output o.
+  abbrev pub Left : Answer → List ℕ → Type 0
+  Left a o = Leaves (ruleAt job) borrows t out a o
+
+  flipped : (b : Bool) → not b ≡ false → b ≡ true
+  flipped true e = refl
+  flipped false e = sym e
+
+  cleared : (b : Bool) → not b ≡ true → b ≡ false
+  cleared true e = sym e
+  cleared false e = refl
+
+  -- Nothing to do.
+  pub seen-nothing : not (known job) ≡ true → Left (answer 5 0 0 0) out
+  seen-nothing e = bad-row (ruleAt job) borrows t out (ap (λ (b : Bool). cond b (some (ruleBy job)) none) (cleared (known job) e))
+
+  module _ (something : not (known job) ≡ false) where
+    rule-is : ruleAt job ≡ some (ruleBy job)
+    rule-is = ap (λ (b : Bool). cond b (some (ruleBy job)) none) (flipped (known job) something)
+
+    pub seen-long : textLimit < size t → Left (answer 1 0 0 0) out
+    seen-long h = long-row (ruleAt job) borrows t out (ruleBy job) rule-is h
+
+    module _ (short : size t ≤ textLimit) (found : Findings) (s : Surveyed found ms t) where
+      pub seen-utf8 : found .valid < size t → Left (answer 2 0 0 (found .valid)) out
+      seen-utf8 h =
+          subst (λ (n : ℕ). Left (answer 2 0 0 n) out) (sym (s .valid))
+          (utf8-row (ruleAt job) borrows t out (ruleBy job) rule-is short (subst (λ (n : ℕ). n < size t) (s .valid) h))
+
+      module _ (v : size t ≤ found .valid) where
+        up-to : size t ≤ validTo t
+        up-to = subst (λ (n : ℕ). size t ≤ n) (s .valid) v
+
+        pub all-valid : validTo t ≡ size t
+        all-valid = meet (validTo t) (size t) (valid-within t) up-to
+          where
+            meet : (a b : ℕ) → a ≤ b → b ≤ a → a ≡ b
+            meet a b h k = omega arith
+
+        pub seen-form : found .place < size t → Left (answer 4 0 0 (found .place)) out
+        seen-form h =
+            let e = s .reach all-valid in
+            subst (λ (n : ℕ). Left (answer 4 0 0 n) out) (sym e)
+            (form-row (ruleAt job) borrows t out (ruleBy job) rule-is short up-to (subst (λ (n : ℕ). n < size t) e h))
+
+        module _ (w : size t ≤ found .place) where
+          to-end : size t ≤ place ms
+          to-end = subst (λ (n : ℕ). size t ≤ n) (s .reach all-valid) w
+
+          pub seen-lent : borrows && found .same ≡ true → Left (answer 0 (found .length) 1 0) out
+          seen-lent h =
+              subst (λ (n : ℕ). Left (answer 0 n 1 0) out) (sym (s .long all-valid))
+              (lent-row (ruleAt job) borrows t out (ruleBy job) rule-is short up-to to-end (subst (λ (b : Bool). borrows && b ≡ true) (s .kept all-valid) h))
+
+          module _ (k : borrows && found .same ≡ false) where
+            kept : borrows && eqb (replaced ms) 0 ≡ false
+            kept = subst (λ (b : Bool). borrows && b ≡ false) (s .kept all-valid) k
+
+            pub seen-room : size out < found .length → Left (answer 3 (found .length) 0 0) out
+            seen-room h =
+                let e = s .long all-valid in
+                subst (λ (n : ℕ). Left (answer 3 n 0 0) out) (sym e)
+                (room-row (ruleAt job) borrows t out (ruleBy job) rule-is short up-to to-end kept (subst (λ (n : ℕ). size out < n) e h))
+
+            pub seen-written : found .length ≤ size out → Left (answer 0 (found .length) (cond (found .same) 1 0) 0) (over (result ms) out)
+            seen-written h =
+                let e = s .long all-valid in
+                subst (λ (b : Bool). Left (answer 0 (found .length) (cond b 1 0) 0) (over (result ms) out)) (sym (s .kept all-valid))
+                (subst (λ (n : ℕ). Left (answer 0 n (sameOf ms) 0) (over (result ms) out)) (sym e)
+                (written-row (ruleAt job) borrows t out (ruleBy job) rule-is short up-to to-end kept (subst (λ (n : ℕ). n ≤ size out) e h)))

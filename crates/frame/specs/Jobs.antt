@@ -1,0 +1,38 @@
+-- A job's rule, and what a survey of a text shows.
+-- Assumes nothing.
+use mathlib.Core.Bool.{Bool, true, false, cond}
+use mathlib.Core.Option.{Option, none, some}
+use mathlib.Core.Path.{_≡_}
+use mathlib.Core.List.{List}
+use Prim.Native.Nat.{ℕ}
+use lib.Dec.{eqb}
+use lib.ListN.{length as size}
+use Rattle.rules.specs.Moves.{Move, stop, Rule, result, replaced, place as placeOf}
+use Rattle.rules.specs.Utf8.{validTo}
+use Rattle.rules.specs.Encoding.{encodeStep, rawStep}
+use Rattle.frame.specs.declared.job.Job.{Job}
+use Rattle.frame.specs.declared.job.Job.the-variants.{Encode, EncodeRaw, Nothing}
+use Rattle.frame.specs.declared.work.Findings.{Findings}
+
+-- There is something to do.
+abbrev pub known : Job → Bool
+known (Encode c) = true
+known EncodeRaw = true
+known Nothing = false
+
+-- The rule of a job; without anything to do it stops at once.
+unfoldable pub ruleBy : Job → Rule
+ruleBy (Encode c) = encodeStep c
+ruleBy EncodeRaw = rawStep
+ruleBy Nothing = λ prev s. stop
+
+-- The rule of a job, if there is something to do.
+abbrev pub ruleAt : Job → Option Rule
+ruleAt job = cond (known job) (some (ruleBy job)) none
+
+-- What a survey shows of a text that the moves ms go through.
+pub record Surveyed (found : Findings) (ms : List Move) (t : List ℕ) : Type 0 where
+  pub valid : found .valid ≡ validTo t
+  pub reach : validTo t ≡ size t → found .place ≡ placeOf ms
+  pub long : validTo t ≡ size t → found .length ≡ size (result ms)
+  pub kept : validTo t ≡ size t → found .same ≡ eqb (replaced ms) 0

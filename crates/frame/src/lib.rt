@@ -1,0 +1,75 @@
+// The frame of every call: limit, validity, form, room and writing, in the refusal table's order, written once for all operations.
+// What an operation does in a context is a job; the rooms below measure and write it.
+pub mod job;
+pub mod work;
+
+ghost use mathlib.Core.Path.{_≡_};
+ghost use mathlib.Core.Bool.{_&&_, cond};
+ghost use Rattle.rules.specs.Refusals.{answer, answerBy, outBy};
+ghost use Rattle.frame.specs.Jobs.{ruleAt};
+use crate::job::Job;
+use rules::Answer;
+
+// A refusal by its three numbers; `same` is 0.
+fn refusal(status: usize, length: usize, place: usize) -> Answer
+    ensures { λ r. ⌜ r ≡ answer status length 0 place ⌝ }
+{
+    Answer {
+        status,
+        length,
+        same: 0,
+        place,
+    }
+}
+
+// Whether a call answers with the text itself.
+fn lends(borrows: bool, same: bool) -> bool
+    ensures { λ r. ⌜ r ≡ (borrows && same) ⌝ }
+{
+    if borrows { same } else { false }
+}
+
+// 1 where nothing is replaced, else 0.
+fn same_bit(same: bool) -> usize
+    ensures { λ r. ⌜ r ≡ cond same 1 0 ⌝ }
+{
+    if same { 1 } else { 0 }
+}
+
+// Every call of a job: the refusals in their order, and then the result. The output is written only where nothing is left to refuse;
+// a borrowing call leaves it alone where nothing is replaced.
+pub fn convert(job: Job, borrows: bool, text: &[u8], output: &mut [u8]) -> Answer
+    ensures { λ r. ⌜ (r ≡ answerBy (ruleAt job) borrows (now (text .entry)) (now (output .entry))) × (now (output .exit) ≡ outBy (ruleAt job) borrows (now (text .entry)) (now (output .entry))) ⌝ }
+{
+    if job::is_nothing(job) {
+        return refusal(5, 0, 0);
+    }
+    if 65536 < text.len() {
+        return refusal(1, 0, 0);
+    }
+    let found = work::survey(job, text);
+    if found.valid < text.len() {
+        return refusal(2, 0, found.valid);
+    }
+    if found.place < text.len() {
+        return refusal(4, 0, found.place);
+    }
+    if lends(borrows, found.same) {
+        return Answer {
+            status: 0,
+            length: found.length,
+            same: 1,
+            place: 0,
+        };
+    }
+    if output.len() < found.length {
+        return refusal(3, found.length, 0);
+    }
+    work::fill(job, found.length, text, output);
+    Answer {
+        status: 0,
+        length: found.length,
+        same: same_bit(found.same),
+        place: 0,
+    }
+}

@@ -1,0 +1,5 @@
+pub mod Seven
+pub mod Text
+pub mod Growth
+pub mod Choices
+pub mod Spilt

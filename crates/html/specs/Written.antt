@@ -1,0 +1,33 @@
+-- What is written for one byte. The encoding of a text is that of its bytes, one after the other.
+-- Assumes nothing.
+use mathlib.Core.Bool.{Bool, true, false}
+use mathlib.Core.List.{List, [], _∷_}
+use Prim.Native.Nat.{ℕ}
+use Rattle.rules.specs.Operations.{encodeOf}
+use Rattle.rules.specs.declared.Html.{Html}
+use Rattle.rules.specs.declared.Html.the-variants.{TextMinimal, Text, DoubleQuoted, SingleQuoted, Quoted, Safe, Unquoted}
+use Rattle.rules.specs.declared.Context.the-variants.{InHtml}
+
+-- The encoding of the text that is this one byte.
+unfoldable pub written : Html → ℕ → List ℕ
+written h b = encodeOf (InHtml h) (b ∷ [])
+
+-- The context replaces nothing but `&`, `<` and `>`.
+abbrev pub few : Html → Bool
+few TextMinimal = true
+few Text = true
+few DoubleQuoted = false
+few SingleQuoted = false
+few Quoted = false
+few Safe = false
+few Unquoted = false
+
+-- It replaces every ASCII byte that is no letter or digit.
+abbrev pub unquoted : Html → Bool
+unquoted TextMinimal = false
+unquoted Text = false
+unquoted DoubleQuoted = false
+unquoted SingleQuoted = false
+unquoted Quoted = false
+unquoted Safe = false
+unquoted Unquoted = true

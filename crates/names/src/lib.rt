@@ -1,0 +1,129 @@
+// What a named reference stands for, and the texts of the table of names, each packed into one number.
+ghost use mathlib.Core.Bool.{cond};
+ghost use mathlib.Core.Option.{some};
+ghost use mathlib.Core.Path.{_≡_};
+ghost use Prim.Native.Nat.{_≤_, _<_};
+ghost use lib.Dec.{leb};
+ghost use lib.ListN.{length, getD};
+ghost use Rattle.rules.specs.Bytes.{over};
+ghost use Rattle.rules.specs.Names.{names};
+ghost use Rattle.rules.specs.References.{lookup};
+ghost use Rattle.rules.specs.Answers.{valueBytes, meaningBytes};
+ghost use Rattle.rules.specs.declared.DecodedEntityValue.the-variants.{Named};
+use rules::DecodedEntityValue;
+use rules::Meaning;
+
+// The value of one of the six names that are met most, packed; 0 for any other name.
+fn common(name: &[u8]) -> u64
+    ensures { λ r. ⌜ (0 < r → lookup names (now (name .entry)) ≡ some (valueBytes (Named r))) ⌝ }
+{
+    if search::same(b"amp", name) {
+        return 0x26;
+    }
+    if search::same(b"lt", name) {
+        return 0x3C;
+    }
+    if search::same(b"gt", name) {
+        return 0x3E;
+    }
+    if search::same(b"quot", name) {
+        return 0x22;
+    }
+    if search::same(b"apos", name) {
+        return 0x27;
+    }
+    if search::same(b"nbsp", name) {
+        return 0xA0C2;
+    }
+    0
+}
+
+// The first byte of `name`; 0 if it has none.
+fn first_byte(name: &[u8]) -> u8
+    ensures { λ r. ⌜ (r ≡ getD (now (name .entry)) 0 0) × (r ≤ 255) ⌝ }
+{
+    if name.len() == 0 {
+        return 0;
+    }
+    name[0]
+}
+
+// What `name` stands for, found in the group that its first byte leads to; no name begins with a byte that is no letter.
+fn find(name: &[u8]) -> Meaning
+    ensures { λ r. ⌜ meaningBytes r ≡ lookup names (now (name .entry)) ⌝ }
+{
+    match first_byte(name) {
+        0..=b'@' => Meaning::Nothing,
+        b'A'..=b'F' => upper::in_a_to_f(name),
+        b'G'..=b'M' => upper::in_g_to_m(name),
+        b'N'..=b'R' => upper::in_n_to_r(name),
+        b'S'..=b'Z' => upper::in_s_to_z(name),
+        b'['..=b'`' => Meaning::Nothing,
+        b'a' => lower::in_a(name),
+        b'b' => lower::in_b(name),
+        b'c'..=b'd' => lower::in_c_to_d(name),
+        b'e'..=b'g' => lower::in_e_to_g(name),
+        b'h'..=b'k' => lower::in_h_to_k(name),
+        b'l' => lower::in_l(name),
+        b'm' => lower::in_m(name),
+        b'n' => lower::in_n(name),
+        b'o'..=b'q' => lower::in_o_to_q(name),
+        b'r' => lower::in_r(name),
+        b's' => lower::in_s(name),
+        b't'..=b'w' => lower::in_t_to_w(name),
+        b'x'..=b'z' => lower::in_x_to_z(name),
+        b'{'..=255 => Meaning::Nothing,
+    }
+}
+
+// What `name` stands for: the common names are tested first, as most names are of them.
+pub fn decode_named_entity(name: &[u8]) -> Meaning
+    ensures { λ r. ⌜ meaningBytes r ≡ lookup names (now (name .entry)) ⌝ }
+{
+    let value = common(name);
+    if 0 < value {
+        return Meaning::Value(DecodedEntityValue::Named(value));
+    }
+    find(name)
+}
+
+// 1 if `value` is at least `least`, 0 if not.
+fn reaches(value: u64, least: u64) -> usize
+    ensures { λ r. ⌜ (r ≡ cond (leb least value) 1 0) × (r ≤ 1) ⌝ }
+{
+    if least <= value {
+        return 1;
+    }
+    0
+}
+
+// How many bytes are packed into `value`: its number has a byte for each power of 256 that it reaches, and at most six are read.
+pub fn value_length(value: u64) -> usize
+    ensures { λ r. ⌜ (r ≡ length (valueBytes (Named value))) × (r ≤ 6) ⌝ }
+{
+    let a = reaches(value, 0x1);
+    let b = reaches(value, 0x100);
+    let c = reaches(value, 0x10000);
+    let d = reaches(value, 0x1000000);
+    let e = reaches(value, 0x100000000);
+    let f = reaches(value, 0x10000000000);
+    a + b + c + d + e + f
+}
+
+// Writes the bytes that are packed into `value` to the start of `output` and returns how many they are; what lies past them keeps its values.
+pub fn put_value(value: u64, output: &mut [u8]) -> usize
+    requires { ⌜ length (valueBytes (Named value)) ≤ length (now output) ⌝ }
+    ensures { λ r. ⌜ (r ≡ length (valueBytes (Named value))) × (r ≤ 6) × (now (output .exit) ≡ over (valueBytes (Named value)) (now (output .entry))) ⌝ }
+{
+    let mut rest = value;
+    let mut n: usize = 0;
+    while n < 6 {
+        if rest == 0 {
+            return n;
+        }
+        output[n] = (rest % 256) as u8;
+        rest /= 256;
+        n += 1;
+    }
+    n
+}

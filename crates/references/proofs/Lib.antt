@@ -1,0 +1,5 @@
+pub mod Ceiling
+pub mod Bodies
+pub mod Readings
+pub mod Known
+pub mod Turns

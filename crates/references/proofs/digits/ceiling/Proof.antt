@@ -1,0 +1,14 @@
+-- `references::digits::ceiling` meets its contract: its test is the definition's.
+-- Assumes nothing.
+use borrow.Author.Tests.{le-leb, lt-leb}
+use Rattle.references.proofs.digits.ceiling.Statement.{statement}
+use Rattle.references.proofs.digits.ceiling.Tie as tie
+
+returns : tie.Need-returns
+returns c = rw (le-leb _ _ (c .if1 .taken))
+
+returns-2 : tie.Need-returns-2
+returns-2 c = rw (lt-leb _ _ (c .if1 .left))
+
+pub ceiling-spec : {M : Type 1} → statement M
+ceiling-spec = tie.close (tie.spec returns returns-2)

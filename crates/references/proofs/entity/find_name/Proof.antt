@@ -1,0 +1,59 @@
+-- `references::entity::find_name` meets its contract: the body is looked up whole.
+-- Assumes nothing.
+use borrow.Author.Needs.{needs}
+use Rattle.references.proofs.Readings.{name-nobody, name-reads}
+use Rattle.references.proofs.entity.find_name.Statement.{statement}
+use Rattle.references.proofs.entity.find_name.Tie as tie
+
+add-first : tie.Need-add-first
+add-first c = search needs
+
+body-end-requires : tie.Need-body-end-requires
+body-end-requires c κs = search needs
+
+returns : tie.Need-returns
+returns c = let a = c .before .before .before .args in name-nobody (a .numbers) (a .text .now) (a .start) (c .before .body-end .result) (search needs) (c .before .before .before .pre .1) (c .before .body-end .ensures) (c .if1 .taken)
+
+sub-decode-named-entity : tie.Need-sub-decode-named-entity
+sub-decode-named-entity c = search needs
+
+part-decode-named-entity-start : tie.Need-part-decode-named-entity-start
+part-decode-named-entity-start c = search needs
+
+part-decode-named-entity-end : tie.Need-part-decode-named-entity-end
+part-decode-named-entity-end c = search needs
+
+decode-named-entity-requires : tie.Need-decode-named-entity-requires
+decode-named-entity-requires c κs = search needs
+
+enum-known-value : tie.Need-enum-known-value
+enum-known-value c = search needs
+
+enum-told : tie.Need-enum-told
+enum-told c = search needs
+
+returns-2 : tie.Need-returns-2
+returns-2 c = let a = c .before .before .before .before .before .before .before .args in rw (c .enum-told .given .1) at (name-reads (a .numbers) (a .text .now) (a .start) (c .before .before .before .before .before .body-end .result) (search needs) (c .before .before .before .before .before .before .before .pre .1) (c .before .before .before .before .before .body-end .ensures) (c .before .before .before .before .before .before .before .pre .2) (search needs) (c .before .before .decode-named-entity .result) (c .before .before .decode-named-entity .ensures))
+
+add-t7 : tie.Need-add-t7
+add-t7 c = search needs
+
+returns-3 : tie.Need-returns-3
+returns-3 c = let a = c .before .before .before .before .before .before .before .before .args in rw (c .before .value .given .1) at (name-reads (a .numbers) (a .text .now) (a .start) (c .before .before .before .before .before .before .body-end .result) (search needs) (c .before .before .before .before .before .before .before .before .pre .1) (c .before .before .before .before .before .before .body-end .ensures) (c .before .before .before .before .before .before .before .before .pre .2) (search needs) (c .before .before .before .decode-named-entity .result) (c .before .before .before .decode-named-entity .ensures))
+
+pub find-name-spec : {M : Type 1} → statement M
+find-name-spec =
+    tie.close
+    (tie.spec
+    add-first
+    body-end-requires
+    returns
+    sub-decode-named-entity
+    part-decode-named-entity-start
+    part-decode-named-entity-end
+    decode-named-entity-requires
+    enum-known-value
+    enum-told
+    returns-2
+    add-t7
+    returns-3)

@@ -1,0 +1,4 @@
+-- What the contracts of this crate say over the definitions of `rules`.
+pub mod Taking
+pub mod Digits
+pub mod Bodies

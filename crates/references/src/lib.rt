@@ -1,0 +1,85 @@
+// Decode and browse in the HTML seven: references are read, and give way to what they stand for.
+ghost use mathlib.Core.Bool.{Bool};
+ghost use mathlib.Core.Path.{_≡_};
+ghost use Prim.Native.Nat.{ℕ, _+_, _-_, _*_, _≤_, _<_};
+ghost use lib.Dec.{eqb};
+ghost use lib.ListN.{length};
+ghost use Rattle.rules.specs.Bytes.{over};
+ghost use Rattle.rules.specs.Moves.{through, result, replaced};
+ghost use Rattle.references.specs.Taking.{stepBy};
+
+mod characters;
+mod digits;
+mod entity;
+
+use rules::Reference;
+
+// How a number is taken: as decode takes it, or as a browser does.
+pub enum Numbers {
+    Decoded,
+    Browsed,
+}
+
+// The length of a result, and whether nothing is replaced in it.
+pub struct Measured {
+    pub length: usize,
+    pub same: bool,
+}
+
+// Measures the result: what has no `&` counts as it stands, and each reference as what it stands for.
+pub fn measure(numbers: Numbers, text: &[u8]) -> Measured
+    requires { ⌜ length (now text) ≤ 65536 ⌝ }
+    ensures { λ r. ⌜ (r .length ≡ length (result (through (stepBy numbers) (now (text .entry))))) × (r .same ≡ eqb (replaced (through (stepBy numbers) (now (text .entry)))) 0) ⌝ }
+{
+    let mut total: usize = 0;
+    let mut same = true;
+    let mut i: usize = 0;
+    while i < text.len() {
+        let p = seek::find_byte(text, i, b'&');
+        total += p - i;
+        if p == text.len() {
+            return Measured {
+                length: total,
+                same: same,
+            };
+        }
+        let Reference::Found(found) = entity::find_decoded_entity(numbers, text, p) else {
+            total += 1;
+            i = p + 1;
+            continue;
+        };
+        let value = found.value;
+        total += characters::value_length(value);
+        same = false;
+        i = found.end;
+    }
+    Measured {
+        length: total,
+        same: same,
+    }
+}
+
+// Writes the result to the start of `output` and returns its length; what lies past it keeps its values.
+pub fn write(numbers: Numbers, text: &[u8], output: &mut [u8]) -> usize
+    requires { ⌜ length (result (through (stepBy numbers) (now text))) ≤ length (now output) ⌝ }
+    ensures { λ r. ⌜ (r ≡ length (result (through (stepBy numbers) (now (text .entry))))) × (now (output .exit) ≡ over (result (through (stepBy numbers) (now (text .entry)))) (now (output .entry))) ⌝ }
+{
+    let mut at: usize = 0;
+    let mut i: usize = 0;
+    while i < text.len() {
+        let p = seek::find_byte(text, i, b'&');
+        at += parts::put(&text[i..p], &mut output[at..]);
+        if p == text.len() {
+            return at;
+        }
+        let Reference::Found(found) = entity::find_decoded_entity(numbers, text, p) else {
+            at += parts::put(b"&", &mut output[at..]);
+            i = p + 1;
+            continue;
+        };
+        let value = found.value;
+        at += characters::put_value(value, &mut output[at..]);
+        i = found.end;
+    }
+    at
+}

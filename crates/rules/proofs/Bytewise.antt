@@ -1,0 +1,86 @@
+-- Where every key of a context is one byte the encoder goes byte by byte: what it writes for a text is what it writes for each byte alone, one
+-- after the other. The HTML seven and the style strings are such; a script string is not.
+-- Assumes nothing.
+use mathlib.Core.Bool.{Bool, true, false, _&&_}
+use mathlib.Core.Option.{Option, none, some}
+use mathlib.Core.Path.{_≡_, refl, sym, ap, _∙_}
+use mathlib.Core.List.{List, [], _∷_, _++_, append-assoc, append-nil}
+use Prim.Native.Nat.{ℕ}
+use native.Mathlib.Omega.{arith}
+use lib.Dec.{T, eqb}
+use lib.ListN.{length}
+use Rattle.rules.specs.Bytes.{all, stands}
+use Rattle.rules.specs.Moves.{Move, keep, takes, gives, moves, result}
+use Rattle.rules.specs.Tables.{Row, rowAt, key, table}
+use Rattle.rules.specs.Encoding.{write, encodeStep}
+use Rattle.rules.specs.Operations.{encodeOf}
+use Rattle.rules.specs.declared.Context.{Context}
+use Rattle.rules.proofs.Tests.{all-in, first-sound}
+use Rattle.rules.proofs.Loops.{from-next}
+
+-- One byte.
+abbrev one : List ℕ → Bool
+one [] = false
+one (x ∷ []) = true
+one (x ∷ y ∷ xs) = false
+
+-- The row's key is one byte.
+abbrev pub ofByte : Row → Bool
+ofByte row = one (key row)
+
+-- Which row is written for a byte does not depend on what follows.
+row-alone : (rows : List Row) → T (all ofByte rows) → (b : ℕ) (t : List ℕ) → rowAt key rows (b ∷ t) ≡ rowAt key rows (b ∷ [])
+row-alone [] h b t = refl
+row-alone (([], v) ∷ rows) h b t = absurd h
+row-alone ((x ∷ [], v) ∷ rows) h b t = ap (λ (o : Option Row). elim (eqb x b && true) [ true ↦ some (x ∷ [], v) | false ↦ o ]) (row-alone rows h b t)
+row-alone ((x ∷ y ∷ k, v) ∷ rows) h b t = absurd h
+
+one-long : (k : List ℕ) → T (one k) → length k ≡ 1
+one-long [] h = absurd h
+one-long (x ∷ []) h = refl
+one-long (x ∷ y ∷ k) h = absurd h
+
+module _ (c : Context) (bytewise : T (all ofByte (table c))) where
+  -- The move at a byte.
+  step-alone : (b : ℕ) (t : List ℕ) → encodeStep c 0 (b ∷ t) ≡ encodeStep c 0 (b ∷ [])
+  unfolding encodeStep
+  step-alone b t = ap (λ (o : Option Row). write o (keep (b ∷ []))) (row-alone (table c) bytewise b t)
+
+  -- It takes the byte.
+  step-takes : (b : ℕ) → length (takes (encodeStep c 0 (b ∷ []))) ≡ 1
+  unfolding encodeStep
+  step-takes b = go (rowAt key (table c) (b ∷ [])) refl
+    where
+      go : (o : Option Row) → rowAt key (table c) (b ∷ []) ≡ o → length (takes (write o (keep (b ∷ [])))) ≡ 1
+      go none e = refl
+      go (some row) e =
+          let (i, s) = first-sound (λ (row : Row). stands (key row)) (table c) (b ∷ []) row e in
+          one-long (key row) (all-in ofByte (table c) bytewise row i)
+
+  -- The byte before does not count.
+  no-before : (p : ℕ) (t : List ℕ) → moves (encodeStep c) p 0 t ≡ moves (encodeStep c) 0 0 t
+  unfolding encodeStep
+  no-before p [] = refl
+  no-before p (x ∷ t) = refl
+
+  -- One byte, and then the rest.
+  cons-given : (b : ℕ) (t : List ℕ) → encodeOf c (b ∷ t) ≡ gives (encodeStep c 0 (b ∷ [])) ++ encodeOf c t
+  cons-given b t =
+      let m = encodeStep c 0 (b ∷ []) in
+      ap result (from-next (encodeStep c) (b ∷ t) 0 0 m (omega arith) (step-alone b t) (step-takes b))
+      ∙ ap (λ (ms : List Move). gives m ++ result ms) (no-before b t)
+
+  -- What is written for a text that begins with a byte.
+  pub encode-cons : (b : ℕ) (t : List ℕ) → encodeOf c (b ∷ t) ≡ encodeOf c (b ∷ []) ++ encodeOf c t
+  encode-cons b t =
+      let alone = cons-given b [] ∙ append-nil (gives (encodeStep c 0 (b ∷ []))) in
+      cons-given b t ∙ ap (λ (w : List ℕ). w ++ encodeOf c t) (sym alone)
+
+  -- What is written for two texts, one after the other.
+  pub encode-append : (s t : List ℕ) → encodeOf c (s ++ t) ≡ encodeOf c s ++ encodeOf c t
+  encode-append [] t = refl
+  encode-append (b ∷ s) t =
+      encode-cons b (s ++ t)
+      ∙ ap (λ (w : List ℕ). encodeOf c (b ∷ []) ++ w) (encode-append s t)
+      ∙ sym (append-assoc (encodeOf c (b ∷ [])) (encodeOf c s) (encodeOf c t))
+      ∙ ap (λ (w : List ℕ). w ++ encodeOf c t) (sym (encode-cons b s))

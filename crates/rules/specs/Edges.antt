@@ -1,0 +1,503 @@
+-- 17. Not in document 01: its rules at their edges, so that a slip in the data above is refused. What encode and decode give here is what
+-- the Rust gives; the rest is read off the document by hand.
+-- Assumes nothing.
+use mathlib.Core.Bool.{Bool, true, false, not, _&&_, _||_, cond}
+use mathlib.Core.List.{List, [], _∷_, _++_, map}
+use Prim.Native.Nat.{ℕ, zero, suc, _+_, _-_, _*_, _%_}
+use lib.Dec.{leb, eqb}
+use lib.ListN.{length as size}
+use Rattle.rules.specs.Bytes.{ascii, count, join, only, all, Range, inside, oneOf, sameBytes}
+use Rattle.rules.specs.Moves.{Move, keep, swap, stop}
+use Rattle.rules.specs.Utf8.{validTo}
+use Rattle.rules.specs.Contexts.{Label, label, contextOf}
+use Rattle.rules.specs.Tables.{Row, key, value}
+use Rattle.rules.specs.Encoding.{closes}
+use Rattle.rules.specs.Refusals.{answer}
+use Rattle.rules.specs.Answers.{referenceMove, escapeMove, replacementMove}
+use Rattle.rules.specs.Program.{printed, entityOf}
+use Rattle.rules.specs.Examples.{Example, passesIn, example, stays, refusedIn, refused, holdsIn, holds}
+use Rattle.rules.specs.declared.Html.the-variants.{TextMinimal, Text, DoubleQuoted, SingleQuoted, Quoted, Safe, Unquoted}
+use Rattle.rules.specs.declared.Quotes.the-variants.{Single, Double, Both}
+use Rattle.rules.specs.declared.Context.the-variants.{InHtml, InScript, InStyle}
+use Rattle.rules.specs.declared.Named.{Named}
+use Rattle.rules.specs.declared.Named.the-variants.{Units, ScriptRaw, Unknown}
+use Rattle.rules.specs.declared.Operation.{Operation}
+use Rattle.rules.specs.declared.Operation.the-variants.{Encode, Decode, Read, Browse}
+use Rattle.rules.specs.declared.DecodedEntityValue.the-variants.{Named as NamedText, Character}
+use Rattle.rules.specs.declared.Reference.the-variants.{Found, Nothing as NoReference}
+use Rattle.rules.specs.declared.Escape.the-variants.{Taken, Nothing as NoEscape}
+use Rattle.rules.specs.declared.Replacement.the-variants.{Slashed, Hex, Separator, Substitute, Nothing as NoReplacement}
+
+-- ---- characters
+
+-- Every range of RFC 3629 at both ends, just outside them, and cut short, each with the length of its longest valid prefix.
+abbrev pub characters : List (List ℕ × ℕ)
+characters =
+    (0x00 ∷ [], 1)
+    ∷ (0x7F ∷ [], 1)
+    ∷ (0x80 ∷ [], 0)
+    ∷ (0xC2 ∷ 0x80 ∷ [], 2)
+    ∷ (0xDF ∷ 0xBF ∷ [], 2)
+    ∷ (0xC1 ∷ 0x80 ∷ [], 0)
+    ∷ (0xE0 ∷ 0xBF ∷ [], 0)
+    ∷ (0xC2 ∷ 0x7F ∷ [], 0)
+    ∷ (0xDF ∷ 0xC0 ∷ [], 0)
+    ∷ (ascii "a" ++ 0xC2 ∷ [], 1)
+    ∷ (0xDF ∷ [], 0)
+    ∷ (0xE0 ∷ 0xA0 ∷ 0x80 ∷ [], 3)
+    ∷ (0xE0 ∷ 0xBF ∷ 0xBF ∷ [], 3)
+    ∷ (0xDF ∷ 0xA0 ∷ 0x80 ∷ [], 2)
+    ∷ (0xE1 ∷ 0xBF ∷ 0xBF ∷ [], 3)
+    ∷ (0xE0 ∷ 0x9F ∷ 0x80 ∷ [], 0)
+    ∷ (0xE0 ∷ 0xC0 ∷ 0xBF ∷ [], 0)
+    ∷ (0xE0 ∷ 0xA0 ∷ 0x7F ∷ [], 0)
+    ∷ (0xE0 ∷ 0xBF ∷ 0xC0 ∷ [], 0)
+    ∷ (ascii "a" ++ 0xE0 ∷ 0xA0 ∷ [], 1)
+    ∷ (0xE1 ∷ 0x80 ∷ 0x80 ∷ [], 3)
+    ∷ (0xEC ∷ 0xBF ∷ 0xBF ∷ [], 3)
+    ∷ (0xE0 ∷ 0x80 ∷ 0x80 ∷ [], 0)
+    ∷ (0xED ∷ 0xBF ∷ 0xBF ∷ [], 0)
+    ∷ (0xE1 ∷ 0x7F ∷ 0x80 ∷ [], 0)
+    ∷ (0xEC ∷ 0xC0 ∷ 0xBF ∷ [], 0)
+    ∷ (0xE1 ∷ 0x80 ∷ 0x7F ∷ [], 0)
+    ∷ (0xEC ∷ 0xBF ∷ 0xC0 ∷ [], 0)
+    ∷ (ascii "a" ++ 0xE1 ∷ 0x80 ∷ [], 1)
+    ∷ (0xEC ∷ 0xBF ∷ [], 0)
+    ∷ (0xED ∷ 0x80 ∷ 0x80 ∷ [], 3)
+    ∷ (0xED ∷ 0x9F ∷ 0xBF ∷ [], 3)
+    ∷ (0xEC ∷ 0x80 ∷ 0x80 ∷ [], 3)
+    ∷ (0xEE ∷ 0x9F ∷ 0xBF ∷ [], 3)
+    ∷ (0xED ∷ 0x7F ∷ 0x80 ∷ [], 0)
+    ∷ (0xED ∷ 0xA0 ∷ 0xBF ∷ [], 0)
+    ∷ (0xED ∷ 0x80 ∷ 0x7F ∷ [], 0)
+    ∷ (0xED ∷ 0x9F ∷ 0xC0 ∷ [], 0)
+    ∷ (ascii "a" ++ 0xED ∷ 0x80 ∷ [], 1)
+    ∷ (0xED ∷ 0x9F ∷ [], 0)
+    ∷ (0xEE ∷ 0x80 ∷ 0x80 ∷ [], 3)
+    ∷ (0xEF ∷ 0xBF ∷ 0xBF ∷ [], 3)
+    ∷ (0xF0 ∷ 0xBF ∷ 0xBF ∷ [], 0)
+    ∷ (0xEE ∷ 0x7F ∷ 0x80 ∷ [], 0)
+    ∷ (0xEF ∷ 0xC0 ∷ 0xBF ∷ [], 0)
+    ∷ (0xEE ∷ 0x80 ∷ 0x7F ∷ [], 0)
+    ∷ (0xEF ∷ 0xBF ∷ 0xC0 ∷ [], 0)
+    ∷ (ascii "a" ++ 0xEE ∷ 0x80 ∷ [], 1)
+    ∷ (0xEF ∷ 0xBF ∷ [], 0)
+    ∷ (0xF0 ∷ 0x90 ∷ 0x80 ∷ 0x80 ∷ [], 4)
+    ∷ (0xF0 ∷ 0xBF ∷ 0xBF ∷ 0xBF ∷ [], 4)
+    ∷ (0xEF ∷ 0x90 ∷ 0x80 ∷ 0x80 ∷ [], 3)
+    ∷ (0xF1 ∷ 0xBF ∷ 0xBF ∷ 0xBF ∷ [], 4)
+    ∷ (0xF0 ∷ 0x8F ∷ 0x80 ∷ 0x80 ∷ [], 0)
+    ∷ (0xF0 ∷ 0xC0 ∷ 0xBF ∷ 0xBF ∷ [], 0)
+    ∷ (0xF0 ∷ 0x90 ∷ 0x7F ∷ 0x80 ∷ [], 0)
+    ∷ (0xF0 ∷ 0xBF ∷ 0xC0 ∷ 0xBF ∷ [], 0)
+    ∷ (0xF0 ∷ 0x90 ∷ 0x80 ∷ 0x7F ∷ [], 0)
+    ∷ (0xF0 ∷ 0xBF ∷ 0xBF ∷ 0xC0 ∷ [], 0)
+    ∷ (ascii "a" ++ 0xF0 ∷ 0x90 ∷ 0x80 ∷ [], 1)
+    ∷ (0xF1 ∷ 0x80 ∷ 0x80 ∷ 0x80 ∷ [], 4)
+    ∷ (0xF3 ∷ 0xBF ∷ 0xBF ∷ 0xBF ∷ [], 4)
+    ∷ (0xF0 ∷ 0x80 ∷ 0x80 ∷ 0x80 ∷ [], 0)
+    ∷ (0xF4 ∷ 0xBF ∷ 0xBF ∷ 0xBF ∷ [], 0)
+    ∷ (0xF1 ∷ 0x7F ∷ 0x80 ∷ 0x80 ∷ [], 0)
+    ∷ (0xF3 ∷ 0xC0 ∷ 0xBF ∷ 0xBF ∷ [], 0)
+    ∷ (0xF1 ∷ 0x80 ∷ 0x7F ∷ 0x80 ∷ [], 0)
+    ∷ (0xF3 ∷ 0xBF ∷ 0xC0 ∷ 0xBF ∷ [], 0)
+    ∷ (0xF1 ∷ 0x80 ∷ 0x80 ∷ 0x7F ∷ [], 0)
+    ∷ (0xF3 ∷ 0xBF ∷ 0xBF ∷ 0xC0 ∷ [], 0)
+    ∷ (ascii "a" ++ 0xF1 ∷ 0x80 ∷ 0x80 ∷ [], 1)
+    ∷ (0xF3 ∷ 0xBF ∷ 0xBF ∷ [], 0)
+    ∷ (0xF4 ∷ 0x80 ∷ 0x80 ∷ 0x80 ∷ [], 4)
+    ∷ (0xF4 ∷ 0x8F ∷ 0xBF ∷ 0xBF ∷ [], 4)
+    ∷ (0xF3 ∷ 0x80 ∷ 0x80 ∷ 0x80 ∷ [], 4)
+    ∷ (0xF5 ∷ 0x8F ∷ 0xBF ∷ 0xBF ∷ [], 0)
+    ∷ (0xF4 ∷ 0x7F ∷ 0x80 ∷ 0x80 ∷ [], 0)
+    ∷ (0xF4 ∷ 0x90 ∷ 0xBF ∷ 0xBF ∷ [], 0)
+    ∷ (0xF4 ∷ 0x80 ∷ 0x7F ∷ 0x80 ∷ [], 0)
+    ∷ (0xF4 ∷ 0x8F ∷ 0xC0 ∷ 0xBF ∷ [], 0)
+    ∷ (0xF4 ∷ 0x80 ∷ 0x80 ∷ 0x7F ∷ [], 0)
+    ∷ (0xF4 ∷ 0x8F ∷ 0xBF ∷ 0xC0 ∷ [], 0)
+    ∷ (ascii "a" ++ 0xF4 ∷ 0x80 ∷ 0x80 ∷ [], 1)
+    ∷ (0xF4 ∷ 0x8F ∷ 0xBF ∷ [], 0)
+    ∷ (ascii "a" ++ 0xFF ∷ [], 1)
+    ∷ (0xFE ∷ [], 0)
+    ∷ (0xF5 ∷ 0x80 ∷ 0x80 ∷ 0x80 ∷ [], 0)
+    ∷ (ascii "ab" ++ 0xC3 ∷ 0xA9 ∷ 0xE2 ∷ 0x82 ∷ 0xAC ∷ 0xF0 ∷ 0x9F ∷ 0x98 ∷ 0x80 ∷ [], 11)
+    ∷ []
+
+-- The length is right.
+abbrev pub validUpTo : List ℕ × ℕ → Bool
+validUpTo e = eqb (validTo (e .0)) (e .1)
+
+-- How many one-bits a byte starts with, of its k highest.
+abbrev pub onesOf : ℕ → ℕ → ℕ
+onesOf zero b = 0
+onesOf (suc k) b = cond (leb 128 b) (suc (onesOf k (b * 2 % 256))) 0
+
+-- A sequence whose first range has the byte is as long as it starts with one-bits; one byte where it starts with none.
+abbrev pub longByOnes : ℕ → List Range → Bool
+longByOnes b [] = false
+longByOnes b (q ∷ qs) = not (inside q b) || eqb (size (q ∷ qs)) (cond (eqb (onesOf 8 b) 0) 1 (onesOf 8 b))
+
+-- ---- encoders
+
+-- Every ASCII byte, and U+2027 to U+202A.
+abbrev pub everyByte : List ℕ
+everyByte = count 0 128 ++ 0xE2 ∷ 0x80 ∷ 0xA7 ∷ 0xE2 ∷ 0x80 ∷ 0xA8 ∷ 0xE2 ∷ 0x80 ∷ 0xA9 ∷ 0xE2 ∷ 0x80 ∷ 0xAA ∷ []
+
+-- What each context writes of them, in the order of their numbers.
+abbrev pub encoders : List (Label (List ℕ))
+encoders =
+    label (ascii "text_minimal") (count 0x00 32 ++ ascii " !\"#$%&amp;'()*+,-./0123456789:;&lt;=>?@ABCDEFGHIJKLMNOPQRSTUVWXYZ[\\]^_`abcdefghijklmnopqrstuvwxyz{|}~" ++ 0x7F ∷ 0xE2 ∷ 0x80 ∷ 0xA7 ∷ 0xE2 ∷ 0x80 ∷ 0xA8 ∷ 0xE2 ∷ 0x80 ∷ 0xA9 ∷ 0xE2 ∷ 0x80 ∷ 0xAA ∷ [])
+    ∷ label (ascii "text") (count 0x00 32 ++ ascii " !\"#$%&amp;'()*+,-./0123456789:;&lt;=&gt;?@ABCDEFGHIJKLMNOPQRSTUVWXYZ[\\]^_`abcdefghijklmnopqrstuvwxyz{|}~" ++ 0x7F ∷ 0xE2 ∷ 0x80 ∷ 0xA7 ∷ 0xE2 ∷ 0x80 ∷ 0xA8 ∷ 0xE2 ∷ 0x80 ∷ 0xA9 ∷ 0xE2 ∷ 0x80 ∷ 0xAA ∷ [])
+    ∷ label (ascii "double_quoted") (count 0x00 32 ++ ascii " !&quot;#$%&amp;'()*+,-./0123456789:;&lt;=&gt;?@ABCDEFGHIJKLMNOPQRSTUVWXYZ[\\]^_`abcdefghijklmnopqrstuvwxyz{|}~" ++ 0x7F ∷ 0xE2 ∷ 0x80 ∷ 0xA7 ∷ 0xE2 ∷ 0x80 ∷ 0xA8 ∷ 0xE2 ∷ 0x80 ∷ 0xA9 ∷ 0xE2 ∷ 0x80 ∷ 0xAA ∷ [])
+    ∷ label (ascii "single_quoted") (count 0x00 32 ++ ascii " !\"#$%&amp;&#x27;()*+,-./0123456789:;&lt;=&gt;?@ABCDEFGHIJKLMNOPQRSTUVWXYZ[\\]^_`abcdefghijklmnopqrstuvwxyz{|}~" ++ 0x7F ∷ 0xE2 ∷ 0x80 ∷ 0xA7 ∷ 0xE2 ∷ 0x80 ∷ 0xA8 ∷ 0xE2 ∷ 0x80 ∷ 0xA9 ∷ 0xE2 ∷ 0x80 ∷ 0xAA ∷ [])
+    ∷ label (ascii "quoted") (count 0x00 32 ++ ascii " !&quot;#$%&amp;&#x27;()*+,-./0123456789:;&lt;=&gt;?@ABCDEFGHIJKLMNOPQRSTUVWXYZ[\\]^_`abcdefghijklmnopqrstuvwxyz{|}~" ++ 0x7F ∷ 0xE2 ∷ 0x80 ∷ 0xA7 ∷ 0xE2 ∷ 0x80 ∷ 0xA8 ∷ 0xE2 ∷ 0x80 ∷ 0xA9 ∷ 0xE2 ∷ 0x80 ∷ 0xAA ∷ [])
+    ∷ label (ascii "safe") (count 0x00 32 ++ ascii " !&quot;#$%&amp;&#x27;()*+,-.&#x2F;0123456789:;&lt;=&gt;?@ABCDEFGHIJKLMNOPQRSTUVWXYZ[\\]^_`abcdefghijklmnopqrstuvwxyz{|}~" ++ 0x7F ∷ 0xE2 ∷ 0x80 ∷ 0xA7 ∷ 0xE2 ∷ 0x80 ∷ 0xA8 ∷ 0xE2 ∷ 0x80 ∷ 0xA9 ∷ 0xE2 ∷ 0x80 ∷ 0xAA ∷ [])
+    ∷ label (ascii "unquoted") (ascii "&#x00;&#x01;&#x02;&#x03;&#x04;&#x05;&#x06;&#x07;&#x08;&#x09;&#x0A;&#x0B;&#x0C;&#x0D;&#x0E;&#x0F;&#x10;&#x11;&#x12;&#x13;&#x14;&#x15;&#x16;&#x17;&#x18;&#x19;&#x1A;&#x1B;&#x1C;&#x1D;&#x1E;&#x1F;&#x20;&#x21;&quot;&#x23;&#x24;&#x25;&amp;&#x27;&#x28;&#x29;&#x2A;&#x2B;&#x2C;&#x2D;&#x2E;&#x2F;0123456789&#x3A;&#x3B;&lt;&#x3D;&gt;&#x3F;&#x40;ABCDEFGHIJKLMNOPQRSTUVWXYZ&#x5B;&#x5C;&#x5D;&#x5E;&#x5F;&#x60;abcdefghijklmnopqrstuvwxyz&#x7B;&#x7C;&#x7D;&#x7E;&#x7F;" ++ 0xE2 ∷ 0x80 ∷ 0xA7 ∷ 0xE2 ∷ 0x80 ∷ 0xA8 ∷ 0xE2 ∷ 0x80 ∷ 0xA9 ∷ 0xE2 ∷ 0x80 ∷ 0xAA ∷ [])
+    ∷ label (ascii "script_single") (ascii "\\x00\\x01\\x02\\x03\\x04\\x05\\x06\\x07\\x08\\x09\\x0A\\x0B\\x0C\\x0D\\x0E\\x0F\\x10\\x11\\x12\\x13\\x14\\x15\\x16\\x17\\x18\\x19\\x1A\\x1B\\x1C\\x1D\\x1E\\x1F !\"#$%&\\'()*+,-./0123456789:;\\x3C=>?@ABCDEFGHIJKLMNOPQRSTUVWXYZ[\\\\]^_`abcdefghijklmnopqrstuvwxyz{|}~" ++ 0x7F ∷ 0xE2 ∷ 0x80 ∷ 0xA7 ∷ [] ++ ascii "\\u2028\\u2029" ++ 0xE2 ∷ 0x80 ∷ 0xAA ∷ [])
+    ∷ label (ascii "script_double") (ascii "\\x00\\x01\\x02\\x03\\x04\\x05\\x06\\x07\\x08\\x09\\x0A\\x0B\\x0C\\x0D\\x0E\\x0F\\x10\\x11\\x12\\x13\\x14\\x15\\x16\\x17\\x18\\x19\\x1A\\x1B\\x1C\\x1D\\x1E\\x1F !\\\"#$%&'()*+,-./0123456789:;\\x3C=>?@ABCDEFGHIJKLMNOPQRSTUVWXYZ[\\\\]^_`abcdefghijklmnopqrstuvwxyz{|}~" ++ 0x7F ∷ 0xE2 ∷ 0x80 ∷ 0xA7 ∷ [] ++ ascii "\\u2028\\u2029" ++ 0xE2 ∷ 0x80 ∷ 0xAA ∷ [])
+    ∷ label (ascii "script_quoted") (ascii "\\x00\\x01\\x02\\x03\\x04\\x05\\x06\\x07\\x08\\x09\\x0A\\x0B\\x0C\\x0D\\x0E\\x0F\\x10\\x11\\x12\\x13\\x14\\x15\\x16\\x17\\x18\\x19\\x1A\\x1B\\x1C\\x1D\\x1E\\x1F !\\\"#$%&\\'()*+,-./0123456789:;\\x3C=>?@ABCDEFGHIJKLMNOPQRSTUVWXYZ[\\\\]^_`abcdefghijklmnopqrstuvwxyz{|}~" ++ 0x7F ∷ 0xE2 ∷ 0x80 ∷ 0xA7 ∷ [] ++ ascii "\\u2028\\u2029" ++ 0xE2 ∷ 0x80 ∷ 0xAA ∷ [])
+    ∷ label (ascii "style_single") (0xEF ∷ 0xBF ∷ 0xBD ∷ [] ++ ascii "\\01 \\02 \\03 \\04 \\05 \\06 \\07 \\08 \\09 \\0A \\0B \\0C \\0D \\0E \\0F \\10 \\11 \\12 \\13 \\14 \\15 \\16 \\17 \\18 \\19 \\1A \\1B \\1C \\1D \\1E \\1F  !\"#$%&\\'()*+,-./0123456789:;\\3C =>?@ABCDEFGHIJKLMNOPQRSTUVWXYZ[\\\\]^_`abcdefghijklmnopqrstuvwxyz{|}~" ++ 0x7F ∷ 0xE2 ∷ 0x80 ∷ 0xA7 ∷ 0xE2 ∷ 0x80 ∷ 0xA8 ∷ 0xE2 ∷ 0x80 ∷ 0xA9 ∷ 0xE2 ∷ 0x80 ∷ 0xAA ∷ [])
+    ∷ label (ascii "style_double") (0xEF ∷ 0xBF ∷ 0xBD ∷ [] ++ ascii "\\01 \\02 \\03 \\04 \\05 \\06 \\07 \\08 \\09 \\0A \\0B \\0C \\0D \\0E \\0F \\10 \\11 \\12 \\13 \\14 \\15 \\16 \\17 \\18 \\19 \\1A \\1B \\1C \\1D \\1E \\1F  !\\\"#$%&'()*+,-./0123456789:;\\3C =>?@ABCDEFGHIJKLMNOPQRSTUVWXYZ[\\\\]^_`abcdefghijklmnopqrstuvwxyz{|}~" ++ 0x7F ∷ 0xE2 ∷ 0x80 ∷ 0xA7 ∷ 0xE2 ∷ 0x80 ∷ 0xA8 ∷ 0xE2 ∷ 0x80 ∷ 0xA9 ∷ 0xE2 ∷ 0x80 ∷ 0xAA ∷ [])
+    ∷ label (ascii "style_quoted") (0xEF ∷ 0xBF ∷ 0xBD ∷ [] ++ ascii "\\01 \\02 \\03 \\04 \\05 \\06 \\07 \\08 \\09 \\0A \\0B \\0C \\0D \\0E \\0F \\10 \\11 \\12 \\13 \\14 \\15 \\16 \\17 \\18 \\19 \\1A \\1B \\1C \\1D \\1E \\1F  !\\\"#$%&\\'()*+,-./0123456789:;\\3C =>?@ABCDEFGHIJKLMNOPQRSTUVWXYZ[\\\\]^_`abcdefghijklmnopqrstuvwxyz{|}~" ++ 0x7F ∷ 0xE2 ∷ 0x80 ∷ 0xA7 ∷ 0xE2 ∷ 0x80 ∷ 0xA8 ∷ 0xE2 ∷ 0x80 ∷ 0xA9 ∷ 0xE2 ∷ 0x80 ∷ 0xAA ∷ [])
+    ∷ label (ascii "script_raw") (count 0x00 32 ++ ascii " !\"#$%&'()*+,-./0123456789:;<=>?@ABCDEFGHIJKLMNOPQRSTUVWXYZ[\\]^_`abcdefghijklmnopqrstuvwxyz{|}~" ++ 0x7F ∷ 0xE2 ∷ 0x80 ∷ 0xA7 ∷ 0xE2 ∷ 0x80 ∷ 0xA8 ∷ 0xE2 ∷ 0x80 ∷ 0xA9 ∷ 0xE2 ∷ 0x80 ∷ 0xAA ∷ [])
+    ∷ []
+
+-- The lines of a request, and its text.
+abbrev pub request : List ℕ → List ℕ → List ℕ → List ℕ
+request op context text = ascii "op=" ++ op ++ ascii "\ncontext=" ++ context ++ ascii "\ntext=" ++ text
+
+-- The contexts from number n on write these bytes, asked for by their numbers and by their names.
+abbrev pub writeFrom : ℕ → List (Label (List ℕ)) → Bool
+writeFrom n [] = eqb n 14
+writeFrom n (e ∷ es) =
+    holds (example Encode (contextOf n) everyByte (e .names))
+    && sameBytes (entityOf (request (ascii "encode") (e .name) everyByte)) (printed (answer 0 (size (e .names)) (cond (sameBytes everyByte (e .names)) 1 0) 0) (e .names))
+    && writeFrom (suc n) es
+
+-- ---- closing tags
+
+-- The bytes that end the name of a closing tag.
+abbrev pub closers : List ℕ
+closers = 9 ∷ 10 ∷ 11 ∷ 12 ∷ 13 ∷ 28 ∷ 29 ∷ 30 ∷ 31 ∷ 32 ∷ 47 ∷ 62 ∷ []
+
+-- Of all bytes these and no others end a name.
+abbrev pub closesAt : ℕ → Bool
+closesAt b = sameBytes (only (λ (x : ℕ). closes (ascii "/script") (ascii "/SCRIPT" ++ x ∷ [])) (b ∷ [])) (only (oneOf closers) (b ∷ []))
+
+-- The bytes between such tags.
+abbrev pub ended : List ℕ → List ℕ
+ended tag = join (map (λ (b : ℕ). tag ++ b ∷ []) closers)
+
+-- Each of them in script_raw, and in the older pages that the string decoders take.
+abbrev pub closings : List Example
+closings =
+    example Encode ScriptRaw (ended (ascii "</script")) (ended (ascii "<\\/script"))
+    ∷ example Decode (Units (InScript Single)) (ended (ascii "<\\/script")) (ended (ascii "</script"))
+    ∷ example Decode (Units (InStyle Single)) (ended (ascii "<\\/style")) (ended (ascii "</style"))
+    ∷ []
+
+-- Comments, letter case, runs of `<`, the end of the text.
+abbrev pub tags : List Example
+tags =
+    example Encode ScriptRaw (ascii "<!--</ScRiPt>") (ascii "<\\!--<\\/ScRiPt>")
+    ∷ stays Encode ScriptRaw (ascii "<!-<!</scrip>")
+    ∷ example Encode ScriptRaw (ascii "</script") (ascii "<\\/script")
+    ∷ example Encode ScriptRaw (ascii "</SCRIPT") (ascii "<\\/SCRIPT")
+    ∷ example Encode ScriptRaw (ascii "<<!--") (ascii "<<\\!--")
+    ∷ example Encode ScriptRaw (ascii "<!<!--") (ascii "<!<\\!--")
+    ∷ example Encode ScriptRaw (ascii "</script/></scripT") (ascii "<\\/script/><\\/scripT")
+    ∷ stays Encode ScriptRaw (ascii "</sc" ++ 0xC5 ∷ 0xBF ∷ [] ++ ascii "ript>")
+    ∷ []
+
+-- ---- escapes
+
+-- The escapes of strings, each just inside and just outside its rule.
+abbrev pub escapes : List Example
+escapes =
+    example Decode (Units (InScript Single)) (ascii "\\\\\\'\\\"") (ascii "\\'\\\"")
+    ∷ example Decode (Units (InScript Double)) (ascii "\\\\\\'\\\"") (ascii "\\\\'\"")
+    ∷ example Decode (Units (InScript Both)) (ascii "\\\\\\'\\\"") (ascii "\\'\"")
+    ∷ example Decode (Units (InStyle Single)) (ascii "\\\\\\'\\\"") (ascii "\\'\\\"")
+    ∷ example Decode (Units (InStyle Double)) (ascii "\\\\\\'\\\"") (ascii "\\\\'\"")
+    ∷ example Decode (Units (InStyle Both)) (ascii "\\\\\\'\\\"") (ascii "\\'\"")
+    ∷ example Decode (Units (InScript Both)) (ascii "\\x00\\x1F\\x3C") (0x00 ∷ 0x1F ∷ [] ++ ascii "<")
+    ∷ stays Decode (Units (InScript Both)) (ascii "\\x20")
+    ∷ stays Decode (Units (InScript Both)) (ascii "\\x3B")
+    ∷ stays Decode (Units (InScript Both)) (ascii "\\x3D")
+    ∷ stays Decode (Units (InScript Both)) (ascii "\\x1f")
+    ∷ stays Decode (Units (InScript Both)) (ascii "\\x0")
+    ∷ stays Decode (Units (InScript Both)) (ascii "\\X0A")
+    ∷ example Decode (Units (InStyle Both)) (ascii "\\01 \\1F \\3C ") (0x01 ∷ 0x1F ∷ [] ++ ascii "<")
+    ∷ stays Decode (Units (InStyle Both)) (ascii "\\20 ")
+    ∷ stays Decode (Units (InStyle Both)) (ascii "\\3B ")
+    ∷ stays Decode (Units (InStyle Both)) (ascii "\\3D ")
+    ∷ stays Decode (Units (InStyle Both)) (ascii "\\1f ")
+    ∷ stays Decode (Units (InStyle Both)) (ascii "\\0A")
+    ∷ stays Decode (Units (InStyle Both)) (ascii "\\0A" ++ 0x09 ∷ [])
+    ∷ example Decode (Units (InScript Both)) (ascii "\\u2028\\u2029") (0xE2 ∷ 0x80 ∷ 0xA8 ∷ 0xE2 ∷ 0x80 ∷ 0xA9 ∷ [])
+    ∷ stays Decode (Units (InScript Both)) (ascii "\\u202A")
+    ∷ stays Decode (Units (InScript Both)) (ascii "\\u2027")
+    ∷ stays Decode (Units (InStyle Both)) (ascii "\\u2028")
+    ∷ example Decode (Units (InScript Both)) (ascii "<\\!--") (ascii "<!--")
+    ∷ example Decode (Units (InStyle Both)) (ascii "<\\!--") (ascii "<!--")
+    ∷ stays Decode (Units (InScript Both)) (ascii "\\!--")
+    ∷ stays Decode (Units (InScript Both)) (ascii "<\\!-")
+    ∷ stays Decode (Units (InScript Both)) (ascii ">\\!--")
+    ∷ example Decode (Units (InScript Both)) (ascii "\\x3C\\!--") (ascii "<\\!--")
+    ∷ example Decode (Units (InScript Both)) (ascii "\\\\\\!--") (ascii "\\\\!--")
+    ∷ example Decode (Units (InScript Both)) (ascii "<\\/ScRiPt>") (ascii "</ScRiPt>")
+    ∷ stays Decode (Units (InScript Both)) (ascii "\\/script>")
+    ∷ stays Decode (Units (InScript Both)) (ascii "<\\/style>")
+    ∷ stays Decode (Units (InScript Both)) (ascii "<\\/script")
+    ∷ stays Decode (Units (InScript Both)) (ascii "<\\/scripts")
+    ∷ example Decode (Units (InScript Both)) (ascii "\\x3C\\/script>") (ascii "<\\/script>")
+    ∷ example Decode (Units (InScript Both)) (ascii "<\\\\/script>") (ascii "<\\/script>")
+    ∷ example Decode (Units (InStyle Both)) (ascii "<\\/sTyLe>") (ascii "</sTyLe>")
+    ∷ stays Decode (Units (InStyle Both)) (ascii "<\\/script>")
+    ∷ stays Decode (Units (InStyle Both)) (ascii "<\\/style")
+    ∷ stays Decode (Units (InScript Both)) (ascii "\\")
+    ∷ stays Decode (Units (InStyle Both)) (ascii "\\")
+    ∷ stays Decode (Units (InScript Both)) (ascii "\\a")
+    ∷ []
+
+-- ---- references
+
+-- Numbers at every limit, digits of either base, names, and what is no reference, in decode.
+abbrev pub references : List Example
+references =
+    example Decode (Units (InHtml Text)) (ascii "&#X41;&#x41;&#65;") (ascii "AAA")
+    ∷ example Decode (Units (InHtml Text)) (ascii "&#000000000000000000000000000000000000000065;") (ascii "A")
+    ∷ example Decode (Units (InHtml Text)) (ascii "&#x0000000000000000000000000000000000000000aF;") (0xC2 ∷ 0xAF ∷ [])
+    ∷ stays Decode (Units (InHtml Text)) (ascii "&#;")
+    ∷ stays Decode (Units (InHtml Text)) (ascii "&#x;")
+    ∷ stays Decode (Units (InHtml Text)) (ascii "&#X;")
+    ∷ stays Decode (Units (InHtml Text)) (ascii "&#-65;")
+    ∷ stays Decode (Units (InHtml Text)) (ascii "&#x+41;")
+    ∷ stays Decode (Units (InHtml Text)) (ascii "&# 65;")
+    ∷ stays Decode (Units (InHtml Text)) (ascii "&#8;")
+    ∷ example Decode (Units (InHtml Text)) (ascii "&#10;") (0x0A ∷ [])
+    ∷ example Decode (Units (InHtml Text)) (ascii "&#12;") (0x0C ∷ [])
+    ∷ example Decode (Units (InHtml Text)) (ascii "&#13;") (0x0D ∷ [])
+    ∷ stays Decode (Units (InHtml Text)) (ascii "&#14;")
+    ∷ stays Decode (Units (InHtml Text)) (ascii "&#31;")
+    ∷ example Decode (Units (InHtml Text)) (ascii "&#32;") (ascii " ")
+    ∷ example Decode (Units (InHtml Text)) (ascii "&#127;") (0x7F ∷ [])
+    ∷ example Decode (Units (InHtml Text)) (ascii "&#128;") (0xC2 ∷ 0x80 ∷ [])
+    ∷ example Decode (Units (InHtml Text)) (ascii "&#x7FF;") (0xDF ∷ 0xBF ∷ [])
+    ∷ example Decode (Units (InHtml Text)) (ascii "&#x800;") (0xE0 ∷ 0xA0 ∷ 0x80 ∷ [])
+    ∷ example Decode (Units (InHtml Text)) (ascii "&#xFFFF;") (0xEF ∷ 0xBF ∷ 0xBF ∷ [])
+    ∷ example Decode (Units (InHtml Text)) (ascii "&#x10000;") (0xF0 ∷ 0x90 ∷ 0x80 ∷ 0x80 ∷ [])
+    ∷ example Decode (Units (InHtml Text)) (ascii "&#xD7FF;") (0xED ∷ 0x9F ∷ 0xBF ∷ [])
+    ∷ stays Decode (Units (InHtml Text)) (ascii "&#xDFFF;")
+    ∷ example Decode (Units (InHtml Text)) (ascii "&#xE000;") (0xEE ∷ 0x80 ∷ 0x80 ∷ [])
+    ∷ example Decode (Units (InHtml Text)) (ascii "&#x10FFFF;") (0xF4 ∷ 0x8F ∷ 0xBF ∷ 0xBF ∷ [])
+    ∷ stays Decode (Units (InHtml Text)) (ascii "&#x110000;")
+    ∷ stays Decode (Units (InHtml Text)) (ascii "&#4294967361;")
+    ∷ stays Decode (Units (InHtml Text)) (ascii "&#x100000041;")
+    ∷ stays Decode (Units (InHtml Text)) (ascii "&#18446744073709551681;")
+    ∷ stays Decode (Units (InHtml Text)) (ascii "&#6/;")
+    ∷ stays Decode (Units (InHtml Text)) (ascii "&#6:;")
+    ∷ stays Decode (Units (InHtml Text)) (ascii "&#x4@;")
+    ∷ stays Decode (Units (InHtml Text)) (ascii "&#x4G;")
+    ∷ stays Decode (Units (InHtml Text)) (ascii "&#x4`;")
+    ∷ stays Decode (Units (InHtml Text)) (ascii "&#x4g;")
+    ∷ stays Decode (Units (InHtml Text)) (ascii "&#x4/;")
+    ∷ stays Decode (Units (InHtml Text)) (ascii "&#x4:;")
+    ∷ example Decode (Units (InHtml Text)) (ascii "&#x09;") (0x09 ∷ [])
+    ∷ example Decode (Units (InHtml Text)) (ascii "&#xA;&#xa;&#xF9;&#xf9;") (0x0A ∷ 0x0A ∷ 0xC3 ∷ 0xB9 ∷ 0xC3 ∷ 0xB9 ∷ [])
+    ∷ stays Decode (Units (InHtml Text)) (ascii "&#6x5;")
+    ∷ example Decode (Units (InHtml Text)) (ascii "&#65&#66;") (ascii "&#65B")
+    ∷ stays Decode (Units (InHtml Text)) (ascii "&#65")
+    ∷ stays Decode (Units (InHtml Text)) (ascii "&#x41")
+    ∷ stays Decode (Units (InHtml Text)) (ascii "&;")
+    ∷ stays Decode (Units (InHtml Text)) (ascii "&amp")
+    ∷ example Decode (Units (InHtml Text)) (ascii "&AMP;&Amp;") (ascii "&&Amp;")
+    ∷ stays Decode (Units (InHtml Text)) (ascii "& amp;")
+    ∷ example Decode (Units (InHtml Text)) (ascii "&amp&lt;") (ascii "&amp<")
+    ∷ example Decode (Units (InHtml Text)) (ascii "&amp;amp;") (ascii "&amp;")
+    ∷ example Decode (Units (InHtml Text)) (ascii "a&b;c&lt;d") (ascii "a&b;c<d")
+    ∷ example Decode (Units (InHtml Text)) (ascii "&&&gt;;") (ascii "&&>;")
+    ∷ example Decode (Units (InHtml Text)) (ascii "&AElig;&zwnj;") (0xC3 ∷ 0x86 ∷ 0xE2 ∷ 0x80 ∷ 0x8C ∷ [])
+    ∷ example Decode (Units (InHtml Text)) (ascii "&nLt;&nGt;") (0xE2 ∷ 0x89 ∷ 0xAA ∷ 0xE2 ∷ 0x83 ∷ 0x92 ∷ 0xE2 ∷ 0x89 ∷ 0xAB ∷ 0xE2 ∷ 0x83 ∷ 0x92 ∷ [])
+    ∷ example Decode (Units (InHtml Text)) (ascii "&NewLine;&Tab;") (0x0A ∷ 0x09 ∷ [])
+    ∷ example Decode (Units (InHtml TextMinimal)) (ascii "&quot;") (ascii "\"")
+    ∷ example Decode (Units (InHtml Safe)) (ascii "&#x2F;") (ascii "/")
+    ∷ stays Decode (Units (InHtml Unquoted)) (ascii "&#x0B;")
+    ∷ []
+
+-- The same in browse, where it differs and where not.
+abbrev pub browsed : List Example
+browsed =
+    example Browse (Units (InHtml Text)) (ascii "&#0;&#x0;") (0xEF ∷ 0xBF ∷ 0xBD ∷ 0xEF ∷ 0xBF ∷ 0xBD ∷ [])
+    ∷ example Browse (Units (InHtml Text)) (ascii "&#1;&#8;&#11;&#14;&#31;") (0x01 ∷ 0x08 ∷ 0x0B ∷ 0x0E ∷ 0x1F ∷ [])
+    ∷ example Browse (Units (InHtml Text)) (ascii "&#127;&#128;&#159;") (0x7F ∷ 0xC2 ∷ 0x80 ∷ 0xC2 ∷ 0x9F ∷ [])
+    ∷ example Browse (Units (InHtml Text)) (ascii "&#xD7FF;&#xD800;&#xDFFF;&#xE000;") (0xED ∷ 0x9F ∷ 0xBF ∷ 0xEF ∷ 0xBF ∷ 0xBD ∷ 0xEF ∷ 0xBF ∷ 0xBD ∷ 0xEE ∷ 0x80 ∷ 0x80 ∷ [])
+    ∷ example Browse (Units (InHtml Text)) (ascii "&#x10FFFF;&#x110000;") (0xF4 ∷ 0x8F ∷ 0xBF ∷ 0xBF ∷ 0xEF ∷ 0xBF ∷ 0xBD ∷ [])
+    ∷ example Browse (Units (InHtml Text)) (ascii "&#4294967296;&#4294967361;&#18446744073709551681;") (0xEF ∷ 0xBF ∷ 0xBD ∷ 0xEF ∷ 0xBF ∷ 0xBD ∷ 0xEF ∷ 0xBF ∷ 0xBD ∷ [])
+    ∷ stays Browse (Units (InHtml Text)) (ascii "&#;&#x;&#+65;&bogus;&amp")
+    ∷ example Browse (Units (InHtml Text)) (ascii "&lt;&amp;lt;") (ascii "<&lt;")
+    ∷ []
+
+-- One more byte of a digest.
+abbrev pub digestOf : ℕ → List ℕ → ℕ
+digestOf h [] = h
+digestOf h (x ∷ s) = digestOf ((h * 257 + x + 1) % 2147483647) s
+
+-- The digest of a table: of each name and each value, with a NUL after each. tools/check_names makes the same of tables.rs and of an outside copy.
+abbrev pub digest : List Row → ℕ
+digest table = digestOf 0 (join (map (λ (row : Row). key row ++ 0 ∷ value row ++ 0 ∷ []) table))
+
+-- What it is.
+abbrev pub namesDigest : ℕ
+namesDigest = 361911062
+
+-- ---- answers that are enums
+
+-- Two moves are the same.
+abbrev pub sameMove : Move → Move → Bool
+sameMove (keep a) (keep b) = sameBytes a b
+sameMove (keep a) (swap b y) = false
+sameMove (keep a) stop = false
+sameMove (swap a x) (keep b) = false
+sameMove (swap a x) (swap b y) = sameBytes a b && sameBytes x y
+sameMove (swap a x) stop = false
+sameMove stop (keep b) = false
+sameMove stop (swap b y) = false
+sameMove stop stop = true
+
+-- A case of an enum, read on paper, and the move that it is.
+abbrev pub papers : List (Move × Move)
+papers =
+    (replacementMove false (ascii "'a") Slashed, swap (ascii "'") (ascii "\\'"))
+    ∷ (replacementMove false (0x1F ∷ []) Hex, swap (0x1F ∷ []) (ascii "\\x1F"))
+    ∷ (replacementMove true (0x1F ∷ []) Hex, swap (0x1F ∷ []) (ascii "\\1F "))
+    ∷ (replacementMove false (0xE2 ∷ 0x80 ∷ 0xA8 ∷ ascii "a") Separator, swap (0xE2 ∷ 0x80 ∷ 0xA8 ∷ []) (ascii "\\u2028"))
+    ∷ (replacementMove false (0xE2 ∷ 0x80 ∷ 0xA9 ∷ ascii "a") Separator, swap (0xE2 ∷ 0x80 ∷ 0xA9 ∷ []) (ascii "\\u2029"))
+    ∷ (replacementMove true (0x00 ∷ ascii "a") Substitute, swap (0x00 ∷ []) (0xEF ∷ 0xBF ∷ 0xBD ∷ []))
+    ∷ (replacementMove true (ascii "ab") NoReplacement, keep (ascii "a"))
+    ∷ (escapeMove (ascii "\\u2028a") (Taken 6 0x2028), swap (ascii "\\u2028") (0xE2 ∷ 0x80 ∷ 0xA8 ∷ []))
+    ∷ (escapeMove (ascii "\\a") NoEscape, keep (ascii "\\"))
+    ∷ (referenceMove (ascii "a&nGt;b") 1 (Found (record { start = 1; end = 6; value = NamedText 0x9283E2AB89E2 })), swap (ascii "&nGt;") (0xE2 ∷ 0x89 ∷ 0xAB ∷ 0xE2 ∷ 0x83 ∷ 0x92 ∷ []))
+    ∷ (referenceMove (ascii "a&#65;b") 1 (Found (record { start = 1; end = 6; value = Character 65 })), swap (ascii "&#65;") (ascii "A"))
+    ∷ (referenceMove (ascii "a&;b") 1 NoReference, keep (ascii "&"))
+    ∷ []
+
+-- It is.
+abbrev pub readsAs : Move × Move → Bool
+readsAs e = sameMove (e .0) (e .1)
+
+-- ---- forms
+
+-- Units of several contexts, and what only looks like one, with the length of the longest prefix that is a run of them.
+abbrev pub readings : List Example
+readings =
+    example Read (Units (InHtml Unquoted)) (ascii "&#x00;&#x0B;&#x1F;&#x7F;&#x27;&amp;&lt;&gt;&quot;") (0x00 ∷ 0x0B ∷ 0x1F ∷ 0x7F ∷ [] ++ ascii "'&<>\"")
+    ∷ refused Read (Units (InHtml Unquoted)) (ascii "a&#x26;") 4 1
+    ∷ refused Read (Units (InHtml Unquoted)) (ascii "&#x3C;") 4 0
+    ∷ refused Read (Units (InHtml Unquoted)) (ascii "&#x3E;") 4 0
+    ∷ refused Read (Units (InHtml Unquoted)) (ascii "&#x22;") 4 0
+    ∷ refused Read (Units (InHtml Unquoted)) (ascii "&#x41;") 4 0
+    ∷ refused Read (Units (InHtml Unquoted)) (ascii "&#x0b;") 4 0
+    ∷ refused Read (Units (InHtml Unquoted)) (ascii "a b") 4 1
+    ∷ refused Read (Units (InHtml Text)) (ascii "a&b") 4 1
+    ∷ refused Read (Units (InHtml Text)) (ascii "a<") 4 1
+    ∷ refused Read (Units (InHtml Text)) (ascii "&amp") 4 0
+    ∷ refused Read (Units (InHtml Text)) (ascii "&lt;&#60;") 4 4
+    ∷ example Read (Units (InHtml Text)) (ascii "\"'/&gt;") (ascii "\"'/>")
+    ∷ refused Read (Units (InHtml Quoted)) (ascii "a'b") 4 1
+    ∷ example Read (Units (InHtml Quoted)) (ascii "&#x27;") (ascii "'")
+    ∷ refused Read (Units (InHtml Quoted)) (ascii "&apos;") 4 0
+    ∷ example Read (Units (InScript Both)) (ascii "\\\\\\'\\\"\\x00\\x3C\\u2028\\u2029") (ascii "\\'\"" ++ 0x00 ∷ [] ++ ascii "<" ++ 0xE2 ∷ 0x80 ∷ 0xA8 ∷ 0xE2 ∷ 0x80 ∷ 0xA9 ∷ [])
+    ∷ refused Read (Units (InScript Both)) (0xE2 ∷ 0x80 ∷ 0xA8 ∷ []) 4 0
+    ∷ refused Read (Units (InScript Both)) (ascii "a\\x3c") 4 1
+    ∷ refused Read (Units (InScript Both)) (ascii "\\x20") 4 0
+    ∷ refused Read (Units (InScript Both)) (ascii "<") 4 0
+    ∷ refused Read (Units (InScript Both)) (ascii "<\\!--") 4 0
+    ∷ refused Read (Units (InScript Single)) (ascii "\\\"") 4 0
+    ∷ stays Read (Units (InScript Single)) (ascii "\"")
+    ∷ example Read (Units (InStyle Both)) (ascii "\\01 \\3C " ++ 0xEF ∷ 0xBF ∷ 0xBD ∷ 0xE2 ∷ 0x80 ∷ 0xA8 ∷ []) (0x01 ∷ [] ++ ascii "<" ++ 0xEF ∷ 0xBF ∷ 0xBD ∷ 0xE2 ∷ 0x80 ∷ 0xA8 ∷ [])
+    ∷ refused Read (Units (InStyle Both)) (ascii "\\00 ") 4 0
+    ∷ refused Read (Units (InStyle Both)) (ascii "a" ++ 0x00 ∷ []) 4 1
+    ∷ refused Read (Units (InStyle Both)) (ascii "\\20 ") 4 0
+    ∷ refused Read (Units (InStyle Both)) (ascii "\\0A") 4 0
+    ∷ []
+
+-- ---- refusals
+
+-- An operation has the contexts below a number, and no others.
+abbrev pub contextsBelow : Operation → ℕ → List Example
+contextsBelow o n = map (λ (k : ℕ). passesIn 0 o (contextOf k) [] []) (count 0 n) ++ map (λ (k : ℕ). refused o (contextOf k) [] 5 0) (count n (16 - n))
+
+-- Which contexts each operation has; and of any two rows of the table the earlier.
+abbrev pub refusals : List Example
+refusals =
+    contextsBelow Encode 14 ++ contextsBelow Decode 13 ++ contextsBelow Read 13 ++ contextsBelow Browse 7
+    ++ refused Decode ScriptRaw (map (λ (b : ℕ). 0x80) (count 0 65537)) 5 0
+    ∷ refused Read (Units (InHtml Text)) (0x26 ∷ 0x80 ∷ []) 2 1
+    ∷ refusedIn 0 Read (Units (InHtml Text)) (ascii "a&") 4 0 1
+    ∷ refusedIn 0 Read (Units (InHtml Text)) (ascii "&lt;&lt;") 3 2 0
+    ∷ passesIn 2 Read (Units (InHtml Text)) (ascii "&lt;&lt;") (ascii "<<")
+    ∷ refusedIn 1 Browse (Units (InHtml Text)) (ascii "&lt;a") 3 2 0
+    ∷ passesIn 2 Browse (Units (InHtml Text)) (ascii "&lt;a") (ascii "<a")
+    ∷ refusedIn 9 Encode ScriptRaw (ascii "</script>") 3 10 0
+    ∷ passesIn 10 Encode ScriptRaw (ascii "</script>") (ascii "<\\/script>")
+    ∷ []
+
+-- Where nothing is replaced a copying call needs room, and a borrowing one needs none.
+abbrev pub copying : List Example
+copying = refusedIn 2 Encode (Units (InHtml Text)) (ascii "abc") 3 3 0 ∷ passesIn 3 Encode (Units (InHtml Text)) (ascii "abc") (ascii "abc") ∷ []
+
+abbrev pub borrowing : List Example
+borrowing = passesIn 2 Encode (Units (InHtml Text)) (ascii "abc") (ascii "abc") ∷ passesIn 0 Decode (Units (InHtml Text)) (ascii "a&b;") (ascii "a&b;") ∷ []
+
+-- ---- all of these that are examples
+
+abbrev pub edges : List Example
+edges = closings ++ tags ++ escapes ++ references ++ browsed ++ readings ++ refusals
+
+-- ---- the program
+
+-- What the program prints of a refusal.
+abbrev pub prints : ℕ → ℕ → List ℕ
+prints s p = printed (answer s 0 0 p) []
+
+-- What it reads, and what it prints.
+abbrev pub sessions : List (List ℕ × List ℕ)
+sessions =
+    -- the listing
+    (
+      ascii "op=encode\ncontext=double_quoted\ntext=Tom's \"5\" & <up>",
+      ascii "status=0\nlength=36\nsame=0\nplace=0\ntext=Tom's &quot;5&quot; &amp; &lt;up&gt;",
+    )
+    -- each operation by its name
+    ∷ (request (ascii "decode") (ascii "text") (ascii "&#0;&lt;"), ascii "status=0\nlength=5\nsame=0\nplace=0\ntext=&#0;<")
+    ∷ (request (ascii "browse") (ascii "text") (ascii "&#0;&lt;"), ascii "status=0\nlength=4\nsame=0\nplace=0\ntext=" ++ 0xEF ∷ 0xBF ∷ 0xBD ∷ ascii "<")
+    ∷ (request (ascii "read") (ascii "text") (ascii "&lt;"), ascii "status=0\nlength=1\nsame=0\nplace=0\ntext=<")
+    ∷ (request (ascii "read") (ascii "text") [], ascii "status=0\nlength=0\nsame=1\nplace=0\ntext=")
+    -- numbers of one to three digits
+    ∷ (request (ascii "encode") (ascii "text") (map (λ (b : ℕ). 0x61) (count 0 10)), ascii "status=0\nlength=10\nsame=1\nplace=0\ntext=aaaaaaaaaa")
+    ∷ (request (ascii "read") (ascii "text") (map (λ (b : ℕ). 0x61) (count 0 109) ++ ascii "<"), ascii "status=4\nlength=0\nsame=0\nplace=109\ntext=")
+    -- refusals
+    ∷ (request (ascii "decode") (ascii "script_raw") (map (λ (b : ℕ). 0x80) (count 0 8193)), ascii "status=5\nlength=0\nsame=0\nplace=0\ntext=")
+    ∷ (request (ascii "browse") (ascii "script_single") [], prints 5 0)
+    ∷ (request (ascii "encode") (ascii "text") (0x80 ∷ map (λ (b : ℕ). 0x61) (count 0 8191)), prints 2 0)
+    ∷ (request (ascii "encode") (ascii "text") (0x80 ∷ map (λ (b : ℕ). 0x61) (count 0 8192)), prints 1 0)
+    -- lines that differ
+    ∷ ([], ascii "status=6\nlength=0\nsame=0\nplace=0\ntext=")
+    ∷ (ascii "op=encode\n", prints 6 0)
+    ∷ (ascii "op=encode\ncontext=text\n", prints 6 0)
+    ∷ (ascii "op=encode\ncontext=text\ntext", prints 6 0)
+    ∷ (ascii "op=encode\r\ncontext=text\ntext=", prints 6 0)
+    ∷ (ascii "op=encode context=text\ntext=", prints 6 0)
+    ∷ (ascii " op=encode\ncontext=text\ntext=", prints 6 0)
+    ∷ (ascii "OP=encode\ncontext=text\ntext=", prints 6 0)
+    ∷ (ascii "op=view\ncontext=text\ntext=", prints 6 0)
+    ∷ (ascii "op=encode\ncontext=json\ntext=", prints 6 0)
+    ∷ (ascii "op=encode\ncontext=texts\ntext=", prints 6 0)
+    ∷ (ascii "op=encode\ncontext=text\n\ntext=", prints 6 0)
+    ∷ (ascii "context=text\nop=encode\ntext=", prints 6 0)
+    ∷ []
+
+-- It does.
+abbrev pub answers : List ℕ × List ℕ → Bool
+answers e = sameBytes (entityOf (e .0)) (e .1)

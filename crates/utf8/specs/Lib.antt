@@ -1,0 +1,2 @@
+-- What the check of UTF-8 tests.
+pub mod Check
