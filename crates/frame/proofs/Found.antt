@@ -14,7 +14,14 @@ use Rattle.rules.specs.Moves.{Move, result, replaced, taken, place, through}
 use Rattle.rules.specs.Utf8.{validTo}
 use Rattle.rules.specs.Encoding.{encodeStep, rawStep}
 use Rattle.rules.specs.declared.Context.{Context}
+use Rattle.rules.specs.Operations.{decodeStep}
+use Rattle.rules.specs.declared.Html.the-variants.{Text}
+use Rattle.rules.specs.declared.Context.the-variants.{InHtml}
+use Rattle.rules.proofs.Whole.{decode-whole, browse-whole}
 use Rattle.rules.proofs.Growth.{encode-whole, raw-whole, encode-as-long, raw-as-long}
+use Rattle.references.specs.Taking.{stepBy}
+use Rattle.references.specs.declared.Numbers.{Numbers}
+use Rattle.references.specs.declared.Numbers.the-variants.{Decoded, Browsed}
 use Rattle.frame.specs.Jobs.{ruleBy, Surveyed}
 use Rattle.frame.specs.declared.job.Job.the-variants.{Nothing}
 use Rattle.frame.specs.declared.work.Findings.{Findings}
@@ -54,6 +61,17 @@ encode-found c found t = grown-found found (through (encodeStep c) t) t (encode-
 pub raw-found : (found : Findings) (t : List ℕ) → found .valid ≡ validTo t → found .place ≡ size t → found .length ≡ size (result (through rawStep t))
     → found .same ≡ eqb (found .length) (size t) → Surveyed found (through rawStep t) t
 raw-found found t = grown-found found (through rawStep t) t (raw-whole t) (raw-as-long t)
+
+-- What a decoder finds: it takes the whole text, and the room below has measured the rest.
+pub decoded-found : (found : Findings) (ms : List Move) (t : List ℕ) → taken ms ≡ t → found .valid ≡ validTo t → found .place ≡ size t → found .length ≡ size (result ms)
+    → found .same ≡ eqb (replaced ms) 0 → Surveyed found ms t
+decoded-found found ms t whole v p l s = record { valid = v; reach = λ e. p ∙ ap size (sym whole); long = λ e. l; kept = λ e. s }
+
+-- The two readers of references take the whole text.
+pub references-whole : (numbers : Numbers) (t : List ℕ) → taken (through (stepBy numbers) t) ≡ t
+unfolding decodeStep
+references-whole Decoded t = decode-whole (InHtml Text) t
+references-whole Browsed t = browse-whole t
 
 -- Where there is nothing to do nothing is taken.
 stopped : (t : List ℕ) → through (ruleBy Nothing) t ≡ []

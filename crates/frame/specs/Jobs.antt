@@ -10,20 +10,29 @@ use lib.ListN.{length as size}
 use Rattle.rules.specs.Moves.{Move, stop, Rule, result, replaced, place as placeOf}
 use Rattle.rules.specs.Utf8.{validTo}
 use Rattle.rules.specs.Encoding.{encodeStep, rawStep}
+use Rattle.rules.specs.Reading.{readStep}
+use Rattle.rules.specs.References.{browseStep}
+use Rattle.rules.specs.Operations.{decodeStep}
 use Rattle.frame.specs.declared.job.Job.{Job}
-use Rattle.frame.specs.declared.job.Job.the-variants.{Encode, EncodeRaw, Nothing}
+use Rattle.frame.specs.declared.job.Job.the-variants.{Encode, EncodeRaw, Decode, Read, Browse, Nothing}
 use Rattle.frame.specs.declared.work.Findings.{Findings}
 
 -- There is something to do.
 abbrev pub known : Job → Bool
 known (Encode c) = true
 known EncodeRaw = true
+known (Decode c) = true
+known (Read c) = true
+known Browse = true
 known Nothing = false
 
 -- The rule of a job; without anything to do it stops at once.
 unfoldable pub ruleBy : Job → Rule
 ruleBy (Encode c) = encodeStep c
 ruleBy EncodeRaw = rawStep
+ruleBy (Decode c) = decodeStep c
+ruleBy (Read c) = readStep c
+ruleBy Browse = browseStep
 ruleBy Nothing = λ prev s. stop
 
 -- The rule of a job, if there is something to do.

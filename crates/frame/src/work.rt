@@ -8,11 +8,15 @@ ghost use Rattle.rules.specs.Bytes.{over};
 ghost use Rattle.rules.specs.Moves.{through, result};
 ghost use Rattle.rules.specs.Utf8.{validTo};
 ghost use Rattle.rules.specs.Encoding.{encodeStep, rawStep};
-ghost use Rattle.rules.specs.Operations.{encodeOf};
+ghost use Rattle.rules.specs.Reading.{readStep};
+ghost use Rattle.rules.specs.Operations.{decodeStep, encodeOf, decodeOf};
+ghost use Rattle.references.specs.Taking.{stepBy};
+ghost use Rattle.escapes.specs.Strings.{stringOf};
 ghost use Rattle.rules.specs.declared.Context.the-variants.{InHtml, InScript, InStyle};
 ghost use Rattle.frame.specs.declared.job.Job.the-variants.{Nothing};
 ghost use Rattle.frame.specs.Jobs.{ruleBy, Surveyed};
 use crate::job::Job;
+use references::Numbers;
 use rules::Context;
 use rules::Html;
 use rules::Quotes;
@@ -109,6 +113,72 @@ fn survey_encode(context: Context, text: &[u8]) -> Findings
     }
 }
 
+// Surveys a text for decode or browse of references.
+fn survey_references(numbers: Numbers, text: &[u8]) -> Findings
+    requires { ⌜ length (now text) ≤ 65536 ⌝ }
+    ensures { λ r. ⌜ Surveyed r (through (stepBy numbers) (now (text .entry))) (now (text .entry)) ⌝ }
+{
+    let valid = utf8::valid_to(text);
+    if valid < text.len() {
+        return invalid(valid);
+    }
+    let found = references::measure(numbers, text);
+    Findings {
+        valid,
+        place: text.len(),
+        length: found.length,
+        same: found.same,
+    }
+}
+
+// Surveys a text for decode of the script or style strings.
+fn survey_escapes(style: bool, quotes: Quotes, text: &[u8]) -> Findings
+    requires { ⌜ length (now text) ≤ 65536 ⌝ }
+    ensures { λ r. ⌜ Surveyed r (through (decodeStep (stringOf style quotes)) (now (text .entry))) (now (text .entry)) ⌝ }
+{
+    let valid = utf8::valid_to(text);
+    if valid < text.len() {
+        return invalid(valid);
+    }
+    let found = escapes::measure(style, quotes, text);
+    Findings {
+        valid,
+        place: text.len(),
+        length: found.length,
+        same: found.same,
+    }
+}
+
+// Surveys a text for a decoder.
+fn survey_decode(context: Context, text: &[u8]) -> Findings
+    requires { ⌜ length (now text) ≤ 65536 ⌝ }
+    ensures { λ r. ⌜ Surveyed r (through (decodeStep context) (now (text .entry))) (now (text .entry)) ⌝ }
+{
+    match context {
+        Context::InHtml(_) => survey_references(Numbers::Decoded, text),
+        Context::InScript(quotes) => survey_escapes(false, quotes, text),
+        Context::InStyle(quotes) => survey_escapes(true, quotes, text),
+    }
+}
+
+// Surveys a text for the strict reader.
+fn survey_read(context: Context, text: &[u8]) -> Findings
+    requires { ⌜ length (now text) ≤ 65536 ⌝ }
+    ensures { λ r. ⌜ Surveyed r (through (readStep context) (now (text .entry))) (now (text .entry)) ⌝ }
+{
+    let valid = utf8::valid_to(text);
+    if valid < text.len() {
+        return invalid(valid);
+    }
+    let found = reader::measure(context, text);
+    Findings {
+        valid,
+        place: found.place,
+        length: found.length,
+        same: found.same,
+    }
+}
+
 // Surveys a text for a job.
 pub fn survey(job: Job, text: &[u8]) -> Findings
     requires { ⌜ length (now text) ≤ 65536 ⌝ }
@@ -117,6 +187,9 @@ pub fn survey(job: Job, text: &[u8]) -> Findings
     match job {
         Job::Encode(context) => survey_encode(context, text),
         Job::EncodeRaw => survey_raw(text),
+        Job::Decode(context) => survey_decode(context, text),
+        Job::Read(context) => survey_read(context, text),
+        Job::Browse => survey_references(Numbers::Browsed, text),
         Job::Nothing => survey_nothing(text),
     }
 }
@@ -153,14 +226,29 @@ fn fill_encode(context: Context, size: usize, text: &[u8], output: &mut [u8]) ->
     }
 }
 
-// Writes the result of a job, which is `size` bytes long, to the start of `output`; what lies past it keeps its values.
+// Writes what a decoder makes of a text.
+fn fill_decode(context: Context, text: &[u8], output: &mut [u8]) -> usize
+    requires { ⌜ length (decodeOf context (now text)) ≤ length (now output) ⌝ }
+    ensures { λ r. ⌜ (r ≡ length (decodeOf context (now (text .entry)))) × (now (output .exit) ≡ over (decodeOf context (now (text .entry))) (now (output .entry))) ⌝ }
+{
+    match context {
+        Context::InHtml(_) => references::write(Numbers::Decoded, text, output),
+        Context::InScript(quotes) => escapes::write(false, quotes, text, output),
+        Context::InStyle(quotes) => escapes::write(true, quotes, text, output),
+    }
+}
+
+// Writes the result of a job on a valid text, which is `size` bytes long, to the start of `output`; what lies past it keeps its values.
 pub fn fill(job: Job, size: usize, text: &[u8], output: &mut [u8]) -> usize
-    requires { ⌜ (size ≡ length (result (through (ruleBy job) (now text)))) × (size ≤ length (now output)) ⌝ }
+    requires { ⌜ (size ≡ length (result (through (ruleBy job) (now text)))) × (size ≤ length (now output)) × (validTo (now text) ≡ length (now text)) ⌝ }
     ensures { λ r. ⌜ (r ≡ size) × (now (output .exit) ≡ over (result (through (ruleBy job) (now (text .entry)))) (now (output .entry))) ⌝ }
 {
     match job {
         Job::Encode(context) => fill_encode(context, size, text, output),
         Job::EncodeRaw => raw::write(text, output),
+        Job::Decode(context) => fill_decode(context, text, output),
+        Job::Read(context) => reader::write(context, text, output),
+        Job::Browse => references::write(Numbers::Browsed, text, output),
         Job::Nothing => 0,
     }
 }

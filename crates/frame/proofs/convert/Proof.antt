@@ -49,7 +49,7 @@ returns-6 : tie.Need-returns-6
 returns-6 c = let a = c .before .before .before .before .before .before .before .before .before .before .before .before .before .before .before .args in let k = sym (c .before .before .before .before .before .before .before .before .before .before .before .before .is-nothing .ensures) ∙ c .before .before .before .before .before .before .before .before .before .before .before .if1 .left in let l = seen-room (a .job) (a .borrows) (a .text .now) (a .output .now) k (c .before .before .before .before .before .before .before .before .before .before .if2 .left) (c .before .before .before .before .before .before .before .before .before .survey .result) (c .before .before .before .before .before .before .before .before .before .survey .ensures) (c .before .before .before .before .before .before .before .if3 .left) (c .before .before .before .before .before .if4 .left) (sym (c .before .before .before .before .lends .ensures) ∙ c .before .before .before .if5 .left) (c .before .if6 .taken) in (c .refusal5 .ensures ∙ l .0, l .1)
 
 fill-requires : tie.Need-fill-requires
-fill-requires c κs = let a = c .before .before .before .before .before .before .before .before .before .before .before .before .before .before .before .args in let k = sym (c .before .before .before .before .before .before .before .before .before .before .before .before .is-nothing .ensures) ∙ c .before .before .before .before .before .before .before .before .before .before .before .if1 .left in let e = c .before .before .before .before .before .before .before .before .before .survey .ensures .long (all-valid (a .job) (a .borrows) (a .text .now) (a .output .now) k (c .before .before .before .before .before .before .before .before .before .before .if2 .left) (c .before .before .before .before .before .before .before .before .before .survey .result) (c .before .before .before .before .before .before .before .before .before .survey .ensures) (c .before .before .before .before .before .before .before .if3 .left)) in (e, c .before .if6 .left)
+fill-requires c κs = let a = c .before .before .before .before .before .before .before .before .before .before .before .before .before .before .before .args in let k = sym (c .before .before .before .before .before .before .before .before .before .before .before .before .is-nothing .ensures) ∙ c .before .before .before .before .before .before .before .before .before .before .before .if1 .left in let e = c .before .before .before .before .before .before .before .before .before .survey .ensures .long (all-valid (a .job) (a .borrows) (a .text .now) (a .output .now) k (c .before .before .before .before .before .before .before .before .before .before .if2 .left) (c .before .before .before .before .before .before .before .before .before .survey .result) (c .before .before .before .before .before .before .before .before .before .survey .ensures) (c .before .before .before .before .before .before .before .if3 .left)) in (e, c .before .if6 .left, all-valid (a .job) (a .borrows) (a .text .now) (a .output .now) k (c .before .before .before .before .before .before .before .before .before .before .if2 .left) (c .before .before .before .before .before .before .before .before .before .survey .result) (c .before .before .before .before .before .before .before .before .before .survey .ensures) (c .before .before .before .before .before .before .before .if3 .left))
 
 same-bit-requires : tie.Need-same-bit-requires
 same-bit-requires c κs = search needs

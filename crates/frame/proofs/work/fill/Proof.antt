@@ -14,7 +14,7 @@ enum-known-job c = search needs
 
 fill-encode-requires : tie.Need-fill-encode-requires
 unfolding ruleBy
-fill-encode-requires c κs = rw (c .before .before .job .given .1) at (c .before .before .before .before .before .before .pre)
+fill-encode-requires c κs = let a = c .before .before .before .before .before .before .args in let e = c .before .before .job .given .1 in let p = rw e at (c .before .before .before .before .before .before .pre) in (p .0, p .1)
 
 enum-told : tie.Need-enum-told
 enum-told c = search needs
@@ -23,8 +23,29 @@ write-requires : tie.Need-write-requires
 unfolding ruleBy
 write-requires c κs = let a = c .before .before .before .before .before .args in let e = c .before .enum-told .given .1 in let p = rw e at (c .before .before .before .before .before .pre) in subst (λ (n : ℕ). n ≤ length (a .output .now)) (p .0) (p .1)
 
+enum-known-job-2 : tie.Need-enum-known-job-2
+enum-known-job-2 c = search needs
+
+fill-decode-requires : tie.Need-fill-decode-requires
+unfolding ruleBy
+fill-decode-requires c κs = let a = c .before .before .before .before .before .before .args in let e = c .before .before .job2 .given .1 in let p = rw e at (c .before .before .before .before .before .before .pre) in subst (λ (n : ℕ). n ≤ length (a .output .now)) (p .0) (p .1)
+
+enum-known-job-3 : tie.Need-enum-known-job-3
+enum-known-job-3 c = search needs
+
+write-requires-2 : tie.Need-write-requires-2
+unfolding ruleBy
+write-requires-2 c κs = let a = c .before .before .before .before .before .before .args in let e = c .before .before .job3 .given .1 in let p = rw e at (c .before .before .before .before .before .before .pre) in (p .2, subst (λ (n : ℕ). n ≤ length (a .output .now)) (p .0) (p .1))
+
 enum-told-2 : tie.Need-enum-told-2
 enum-told-2 c = search needs
+
+write-requires-3 : tie.Need-write-requires-3
+unfolding ruleBy
+write-requires-3 c κs = let a = c .before .before .before .before .before .args in let e = c .before .enum-told2 .given .1 in let p = rw e at (c .before .before .before .before .before .pre) in subst (λ (n : ℕ). n ≤ length (a .output .now)) (p .0) (p .1)
+
+enum-told-3 : tie.Need-enum-told-3
+enum-told-3 c = search needs
 
 same-length : tie.Need-same-length
 same-length c = search needs
@@ -40,8 +61,29 @@ returns-2 : tie.Need-returns-2
 unfolding ruleBy
 returns-2 c = let a = c .before .before .before .before .before .before .before .before .args in let e = c .before .before .before .before .enum-told .given .1 in let p = rw e at (c .before .before .before .before .before .before .before .before .pre) in (c .before .before .write .ensures .0 ∙ sym (p .0), rw e (c .before .before .write .ensures .1))
 
+same-length-3 : tie.Need-same-length-3
+same-length-3 c = search needs
+
 returns-3 : tie.Need-returns-3
-returns-3 c = let a = c .before .before .before .before .args in let e = c .enum-told2 .given .1 in let p = rw e at (c .before .before .before .before .pre) in (sym (p .0 ∙ nothing-long (a .text .now)), rw e (nothing-written (a .text .now) (a .output .now)))
+unfolding ruleBy
+returns-3 c = let a = c .before .before .before .before .before .before .before .before .before .args in let e = c .before .before .before .before .before .job2 .given .1 in let p = rw e at (c .before .before .before .before .before .before .before .before .before .pre) in (c .before .before .fill-decode .ensures .0 ∙ sym (p .0), rw e (c .before .before .fill-decode .ensures .1))
+
+same-length-4 : tie.Need-same-length-4
+same-length-4 c = search needs
+
+returns-4 : tie.Need-returns-4
+unfolding ruleBy
+returns-4 c = let a = c .before .before .before .before .before .before .before .before .before .args in let e = c .before .before .before .before .before .job3 .given .1 in let p = rw e at (c .before .before .before .before .before .before .before .before .before .pre) in (c .before .before .write2 .ensures .0 ∙ sym (p .0), rw e (c .before .before .write2 .ensures .1))
+
+same-length-5 : tie.Need-same-length-5
+same-length-5 c = search needs
+
+returns-5 : tie.Need-returns-5
+unfolding ruleBy
+returns-5 c = let a = c .before .before .before .before .before .before .before .before .args in let e = c .before .before .before .before .enum-told2 .given .1 in let p = rw e at (c .before .before .before .before .before .before .before .before .pre) in (c .before .before .write3 .ensures .0 ∙ sym (p .0), rw e (c .before .before .write3 .ensures .1))
+
+returns-6 : tie.Need-returns-6
+returns-6 c = let a = c .before .before .before .before .args in let e = c .enum-told3 .given .1 in let p = rw e at (c .before .before .before .before .pre) in (sym (p .0 ∙ nothing-long (a .text .now)), rw e (nothing-written (a .text .now) (a .output .now)))
 
 pub fill-spec : {M : Type 1} → statement M
 fill-spec =
@@ -51,9 +93,21 @@ fill-spec =
     fill-encode-requires
     enum-told
     write-requires
+    enum-known-job-2
+    fill-decode-requires
+    enum-known-job-3
+    write-requires-2
     enum-told-2
+    write-requires-3
+    enum-told-3
     same-length
     returns
     same-length-2
     returns-2
-    returns-3)
+    same-length-3
+    returns-3
+    same-length-4
+    returns-4
+    same-length-5
+    returns-5
+    returns-6)
