@@ -1,9 +1,7 @@
 -- `seek::find_byte` meets its contract: what is passed does not have the byte, and what is found after it is first.
 -- Assumes nothing.
 use borrow.Author.Needs.{needs}
-use Prim.Native.Nat.{_≤_, _-_, _+_}
-use native.Mathlib.Omega.{arith}
-use lib.ListN.{length}
+use Prim.Native.Nat.{_+_}
 use Rattle.seek.proofs.Laws.{absent-join, near-absent, near-here, nearest-after}
 use Rattle.seek.proofs.find_byte.Statement.{statement}
 use Rattle.seek.proofs.find_byte.Tie as tie

@@ -2,7 +2,6 @@
 -- up to the ceiling.
 -- Assumes nothing.
 use borrow.Author.Needs.{needs}
-use mathlib.Core.Option.{some}
 use mathlib.Core.Path.{_≡_, refl, sym, ap, _∙_}
 use Prim.Native.Nat.{_+_, _-_, _*_, _≤_}
 use native.Mathlib.Omega.{arith}
