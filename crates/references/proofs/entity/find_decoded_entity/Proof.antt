@@ -13,21 +13,24 @@ add-first c = search needs
 
 returns : tie.Need-returns
 returns c =
-    let a = c .before .before .args in
-    reads-nobody (a .numbers) (a .text .now) (a .start) (c .before .before .pre .0) (c .before .before .pre .1) (rw (drop-of-length-le (a .text .now) {i = a .start + 1} (search needs)))
+    let o = c .before .before in
+    let a = o .args in
+    reads-nobody (a .numbers) (a .text .now) (a .start) (o .pre .0) (o .pre .1) (rw (drop-of-length-le (a .text .now) {i = a .start + 1} (search needs)))
 
 shared-slice-read-byte : tie.Need-shared-slice-read-byte
 shared-slice-read-byte c = search needs
 
 returns-2 : tie.Need-returns-2
 returns-2 c =
-    let a = c .before .before .before .before .args in
-    reads-amp (a .numbers) (a .text .now) (a .start) (c .before .before .before .before .pre .0) (c .before .before .before .before .pre .1) (search needs) (c .if2 .taken)
+    let o = c .before .before .before .before in
+    let a = o .args in
+    reads-amp (a .numbers) (a .text .now) (a .start) (o .pre .0) (o .pre .1) (search needs) (c .if2 .taken)
 
 returns-3 : tie.Need-returns-3
 returns-3 c =
-    let a = c .before .before .before .before .before .args in
-    reads-empty (a .numbers) (a .text .now) (a .start) (c .before .before .before .before .before .pre .0) (c .before .before .before .before .before .pre .1) (search needs) (c .if3 .taken)
+    let o = c .before .before .before .before .before in
+    let a = o .args in
+    reads-empty (a .numbers) (a .text .now) (a .start) (o .pre .0) (o .pre .1) (search needs) (c .if3 .taken)
 
 find-number-requires : tie.Need-find-number-requires
 find-number-requires c κs = search needs
@@ -52,8 +55,10 @@ known-value-requires c κs = search needs
 
 returns-6 : tie.Need-returns-6
 returns-6 c =
-    let a = c .before .before .before .before .before .before .before .before .before .args in
-    rw (c .known-value .ensures) (known-reads (a .numbers) (a .text .now) (a .start) (c .before .before .known-length .result) (c .before .before .before .before .before .before .before .before .before .pre .1) (c .before .before .known-length .ensures) (c .before .if5 .left))
+    let o = c .before .before .before .before .before .before .before .before .before in
+    let a = o .args in
+    let k = c .before .before .known-length in
+    rw (c .known-value .ensures) (known-reads (a .numbers) (a .text .now) (a .start) (k .result) (o .pre .1) (k .ensures) (c .before .if5 .left))
 
 pub find-decoded-entity-spec : {M : Type 1} → statement M
 find-decoded-entity-spec =
