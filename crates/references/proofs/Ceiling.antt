@@ -6,7 +6,7 @@ use mathlib.Core.Logic.{_⊎_, inl, inr}
 use mathlib.Core.Option.{Option, none, some}
 use mathlib.Core.Path.{_≡_, refl, sym, ap, _∙_}
 use mathlib.Core.List.{List, [], _∷_}
-use Prim.Native.Nat.{ℕ, suc, _+_, _*_, _≤_, _<_}
+use Prim.Native.Nat.{ℕ, _+_, _*_, _≤_, _<_}
 use native.Mathlib.Nat.{le-mul-of-pos-right}
 use native.Mathlib.Omega.{arith}
 use borrow.Author.Tests.{ltb-true, ltb-false, leb-true, leb-false, lt-ltb, le-ltb, le-leb, lt-leb}
@@ -14,12 +14,13 @@ use lib.Dec.{leb, ltb}
 use lib.ListN.{length, drop, getD, drop-of-length-le}
 use Rattle.rules.specs.Bytes.{inside}
 use Rattle.rules.specs.Utf8.{utf8}
-use Rattle.rules.specs.References.{digit, hexDigitAt, digits, number, scalar, charOf, decodeChar, browseChar}
+use Rattle.rules.specs.References.{digit, hexDigitAt, digits, number, scalar, charOf}
 use Rattle.rules.proofs.Loops.{drop-next}
 use Rattle.references.specs.declared.Numbers.{Numbers}
 use Rattle.references.specs.declared.Numbers.the-variants.{Decoded, Browsed}
+use Rattle.references.specs.declared.digits.Number.{Number}
 use Rattle.references.specs.Taking.{charBy}
-use Rattle.references.specs.Digits.{below, digitBy, ceilingOf, capped}
+use Rattle.references.specs.Digits.{below, digitBy, ceilingOf, capped, found}
 
 -- ---- tests
 
@@ -120,11 +121,15 @@ number-some d base (b ∷ s) h = refl
 pub scalar-most : (n : ℕ) → scalar n ≡ true → n ≤ 0x10FFFF
 scalar-most n e = leb-true n 0x10FFFF (both-left (leb n 0x10FFFF) (not (inside (0xD800, 0xDFFF) n)) e)
 
--- A character has one byte, and one more for each bound that its number reaches.
-pub utf8-length : (n : ℕ) → 1 + cond (leb 0x80 n) 1 0 + cond (leb 0x800 n) 1 0 + cond (leb 0x10000 n) 1 0 ≡ length (utf8 n)
+-- One byte, and one more for each bound that a number reaches.
+abbrev steps : ℕ → ℕ
+steps n = 1 + cond (leb 0x80 n) 1 0 + cond (leb 0x800 n) 1 0 + cond (leb 0x10000 n) 1 0
+
+-- So many bytes its character has.
+pub utf8-length : (n : ℕ) → steps n ≡ length (utf8 n)
 utf8-length n = one (ltb n 0x80) refl
   where
-    three : (x : Bool) → ltb n 0x10000 ≡ x → 0x800 ≤ n → 1 + cond (leb 0x80 n) 1 0 + cond (leb 0x800 n) 1 0 + cond (leb 0x10000 n) 1 0 ≡ length (utf8 n)
+    three : (x : Bool) → ltb n 0x10000 ≡ x → 0x800 ≤ n → steps n ≡ length (utf8 n)
     three true e h =
         let l = ltb-true n 0x10000 e in
         rw (le-leb 0x80 n (omega arith), le-leb 0x800 n h, lt-leb 0x10000 n l, le-ltb n 0x80 (omega arith), le-ltb n 0x800 h, e)
@@ -132,13 +137,13 @@ utf8-length n = one (ltb n 0x80) refl
         let l = ltb-false n 0x10000 e in
         rw (le-leb 0x80 n (omega arith), le-leb 0x800 n h, le-leb 0x10000 n l, le-ltb n 0x80 (omega arith), le-ltb n 0x800 h, e)
 
-    two : (x : Bool) → ltb n 0x800 ≡ x → 0x80 ≤ n → 1 + cond (leb 0x80 n) 1 0 + cond (leb 0x800 n) 1 0 + cond (leb 0x10000 n) 1 0 ≡ length (utf8 n)
+    two : (x : Bool) → ltb n 0x800 ≡ x → 0x80 ≤ n → steps n ≡ length (utf8 n)
     two true e h =
         let l = ltb-true n 0x800 e in
         rw (le-leb 0x80 n h, lt-leb 0x800 n l, lt-leb 0x10000 n (omega arith), le-ltb n 0x80 h, e)
     two false e h = three (ltb n 0x10000) refl (ltb-false n 0x800 e)
 
-    one : (x : Bool) → ltb n 0x80 ≡ x → 1 + cond (leb 0x80 n) 1 0 + cond (leb 0x800 n) 1 0 + cond (leb 0x10000 n) 1 0 ≡ length (utf8 n)
+    one : (x : Bool) → ltb n 0x80 ≡ x → steps n ≡ length (utf8 n)
     one true e =
         let l = ltb-true n 0x80 e in
         rw (lt-leb 0x80 n l, lt-leb 0x800 n (omega arith), lt-leb 0x10000 n (omega arith), e)
@@ -154,9 +159,6 @@ char-capped numbers (some n) = go numbers (leb n 0x10FFFF) refl
     go Decoded false e = rw e
     go Browsed false e = rw e
 
--- What the digits make under the ceiling stands for what they make.
-pub number-char : (numbers : Numbers) (n : ℕ) (o : Option ℕ) → some n ≡ capped o → charBy numbers n ≡ charOf (charBy numbers) o
-number-char numbers n o e = ap (charOf (charBy numbers)) e ∙ char-capped numbers o
-
-pub number-nothing : (numbers : Numbers) (o : Option ℕ) → none ≡ capped o → none ≡ charOf (charBy numbers) o
-number-nothing numbers o e = ap (charOf (charBy numbers)) e ∙ char-capped numbers o
+-- So what the digit reader finds stands for what the digits make.
+pub found-char : (numbers : Numbers) (r : Number) (o : Option ℕ) → found r ≡ capped o → charOf (charBy numbers) (found r) ≡ charOf (charBy numbers) o
+found-char numbers r o e = ap (charOf (charBy numbers)) e ∙ char-capped numbers o

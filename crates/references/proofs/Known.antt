@@ -3,16 +3,16 @@
 use mathlib.Core.Bool.{Bool, true, false, _&&_, _||_, cond}
 use mathlib.Core.Logic.{_⊎_, inl, inr}
 use mathlib.Core.Option.{Option}
-use mathlib.Core.Path.{_≡_, refl, sym, ap, _∙_, subst}
+use mathlib.Core.Path.{_≡_, refl, sym, _∙_, subst}
 use mathlib.Core.List.{List, _∷_, []}
-use Prim.Native.Nat.{ℕ, _+_, _-_, _≤_, _<_}
+use Prim.Native.Nat.{ℕ, _+_, _-_, _≤_}
 use native.Mathlib.Omega.{arith}
 use lib.Dec.{T, eqb, eqb→eq}
 use lib.ListN.{length, take, drop, getD}
 use Rattle.rules.specs.Bytes.{ascii}
 use Rattle.rules.specs.Moves.{swap}
 use Rattle.rules.specs.Names.{names}
-use Rattle.rules.specs.References.{referenceBy, decodeChar, browseChar, referenceStep, browseStep}
+use Rattle.rules.specs.References.{referenceBy, referenceStep, browseStep}
 use Rattle.rules.specs.Answers.{unpackTo}
 use Rattle.rules.specs.declared.DecodedEntityValue.the-variants.{Named}
 use Rattle.rules.specs.declared.Reference.the-variants.{Found}

@@ -1,25 +1,23 @@
 -- What the reference reader finds is the move there: at an `&`, by where the body ends and what it stands for.
 -- Assumes nothing.
-use mathlib.Core.Bool.{Bool, true, false, _&&_, _||_, cond}
-use mathlib.Core.Logic.{_⊎_, inl, inr}
-use mathlib.Core.Option.{Option, none, some}
-use mathlib.Core.Path.{_≡_, refl, sym, ap, _∙_, subst}
+use mathlib.Core.Bool.{Bool, true, false}
+use mathlib.Core.Option.{Option, none}
+use mathlib.Core.Path.{_≡_, refl, sym, ap, _∙_}
 use mathlib.Core.List.{List, [], _∷_, _++_}
 use Prim.Native.Nat.{ℕ, zero, suc, _+_, _-_, _/_, _≤_, _<_}
 use native.Mathlib.Nat.{div-add-mod'}
 use native.Mathlib.Omega.{arith}
 use borrow.Author.Tests.{leb-true, leb-false, le-ltb, ne-eqb}
 use lib.Dec.{T, eqb, leb, eqb→eq, leb→le}
-use lib.ListN.{length, take, drop, getD, length-drop, drop-of-length-le}
+use lib.ListN.{length, take, drop, getD, length-drop}
 use lib.Seq.{take-suc, getD-drop}
-use Rattle.rules.specs.Bytes.{ascii, all}
-use Rattle.rules.specs.Moves.{Move, keep, swap}
+use Rattle.rules.specs.Bytes.{all}
+use Rattle.rules.specs.Moves.{keep}
 use Rattle.rules.specs.Names.{names}
-use Rattle.rules.specs.References.{bodyOf, decodeChar, browseChar, numberOf, charOf, lookup, meaning, onMeaning, onBody, referenceBy, referenceStep, browseStep}
+use Rattle.rules.specs.References.{bodyOf, decodeChar, browseChar, numberOf, charOf, lookup, meaning, onMeaning, onBody, referenceStep, browseStep}
 use Rattle.rules.specs.Utf8.{utf8}
 use Rattle.rules.specs.Tables.{Row, value}
-use Rattle.rules.specs.Answers.{valueBytes, meaningBytes, referenceMove}
-use Rattle.rules.specs.declared.DecodedEntityValue.{DecodedEntityValue}
+use Rattle.rules.specs.Answers.{meaningBytes}
 use Rattle.rules.specs.declared.DecodedEntityValue.the-variants.{Named, Character}
 use Rattle.rules.specs.declared.Meaning.{Meaning}
 use Rattle.rules.specs.declared.Meaning.the-variants.{Value, Nothing as NoMeaning}
@@ -27,7 +25,7 @@ use Rattle.rules.specs.declared.Reference.{Reference}
 use Rattle.rules.specs.declared.Reference.the-variants.{Found, Nothing}
 use Rattle.rules.proofs.Loops.{drop-next}
 use Rattle.rules.proofs.Decoder.{reference-quiet}
-use Rattle.rules.proofs.Tests.{and-left, and-right, or-cases, all-in}
+use Rattle.rules.proofs.Tests.{all-in}
 use Rattle.rules.proofs.Names.{looked-up}
 use Rattle.parts.proofs.Part.{part-at}
 use Rattle.references.specs.declared.Numbers.{Numbers}
@@ -65,6 +63,13 @@ module _ (numbers : Numbers) (t : List ℕ) (i : ℕ) (inside : i < length t) (a
     move = λ p. rw starts (sym (step-at numbers p (drop (i + 1) t) ∙ ap (λ (o : Option (List ℕ)). onBody (charBy numbers) true o 38) e));
     lies = tt;
   }
+
+  -- Another `&` follows, or the `;` at once.
+  pub reads-amp : i + 1 < length t → getD t (i + 1) 0 ≡ 38 → Reads numbers t i Nothing
+  reads-amp l e = reads-nobody (rw (drop-next t (i + 1) l, e))
+
+  pub reads-empty : i + 1 < length t → getD t (i + 1) 0 ≡ 59 → Reads numbers t i Nothing
+  reads-empty l e = record { move = λ p. rw starts (sym (step-at numbers p (drop (i + 1) t) ∙ rw (drop-next t (i + 1) l, e))); lies = tt }
 
   module _ (r : ℕ) (end : Ends t (i + 1) r) (before : r < length t) where
     at-meaning : (p : ℕ) → stepBy numbers p (38 ∷ drop (i + 1) t) ≡ onMeaning (meaning (charBy numbers) (take (r - (i + 1)) (drop (i + 1) t))) 38 (take (r - (i + 1)) (drop (i + 1) t))

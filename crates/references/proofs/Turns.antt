@@ -10,7 +10,7 @@ use native.Mathlib.Omega.{arith}
 use borrow.Author.Tests.{ne-eqb}
 use lib.Dec.{eqb}
 use lib.ListN.{length, take, drop, getD, length-append}
-use Rattle.rules.specs.Moves.{Move, keep, swap, through, result, replaced, before, from}
+use Rattle.rules.specs.Moves.{keep, swap, through, result, replaced, before, from}
 use Rattle.rules.specs.Answers.{valueBytes}
 use Rattle.rules.specs.declared.DecodedEntity.{DecodedEntity}
 use Rattle.rules.specs.declared.Reference.the-variants.{Found, Nothing}

@@ -3,7 +3,6 @@ ghost use mathlib.Core.Bool.{_&&_, _||_};
 ghost use mathlib.Core.Logic.{_⊎_};
 ghost use mathlib.Core.Path.{_≡_};
 ghost use mathlib.Core.List.{[], _∷_};
-ghost use Prim.Native.Nat.{_≤_};
 ghost use lib.Dec.{leb};
 ghost use Rattle.rules.specs.Bytes.{oneOf};
 ghost use Rattle.rules.specs.References.{digit, hexDigitAt, number, numberOf, scalar, decodeChar, browseChar, charOf};
@@ -15,7 +14,7 @@ use rules::DecodedEntityValue;
 use rules::Meaning;
 
 // What digits make: a number, which stays at the ceiling once it is above every character's; or none.
-pub enum Number {
+enum Number {
     Is(u32),
     Nothing,
 }
@@ -45,6 +44,7 @@ fn digit_value(byte: u8) -> u8
     255
 }
 
+// A byte as a number of 32 bits.
 fn wide(byte: u8) -> u32
     ensures { λ r. ⌜ r ≡ byte ⌝ }
 {

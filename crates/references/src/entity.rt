@@ -1,9 +1,9 @@
 // The reference reader: what stands at an `&`.
-ghost use mathlib.Core.Bool.{Bool, cond, _&&_, _||_};
+ghost use mathlib.Core.Bool.{cond};
 ghost use mathlib.Core.Path.{_≡_};
-ghost use Prim.Native.Nat.{ℕ, _+_, _-_, _≤_, _<_};
-ghost use lib.Dec.{eqb};
-ghost use lib.ListN.{length, drop, getD};
+ghost use Prim.Native.Nat.{_+_, _≤_, _<_};
+ghost use lib.ListN.{length, getD};
+ghost use Rattle.references.specs.declared.Numbers.{Numbers};
 ghost use Rattle.references.specs.Taking.{Reads};
 ghost use Rattle.references.specs.Bodies.{Ends, Known, knownValue};
 use crate::Numbers;
@@ -92,10 +92,10 @@ fn known_value(letter: u8) -> u64
     0x26
 }
 
-// The reference of a name, from the `&` at `start` on, looked up in the table.
-fn find_name(numbers: Numbers, text: &[u8], start: usize) -> Reference
+// The reference of a name, from the `&` at `start` on, looked up in the table; it does not matter how numbers are taken.
+fn find_name(text: &[u8], start: usize) -> Reference
     requires { ⌜ (start + 1 < length (now text)) × (getD (now text) start 0 ≡ 38) × (getD (now text) (start + 1) 0 ≡ 35 → ⊥) ⌝ }
-    ensures { λ r. ⌜ Reads numbers (now (text .entry)) start r ⌝ }
+    ensures { λ r. ⌜ ((numbers : Numbers) → Reads numbers (now (text .entry)) start r) ⌝ }
 {
     let first = start + 1;
     let end = body_end(text, first);
@@ -121,17 +121,23 @@ pub fn find_decoded_entity(numbers: Numbers, text: &[u8], start: usize) -> Refer
     if first == text.len() {
         return Reference::Nothing;
     }
-    if text[first] == b'#' {
+    let byte = text[first];
+    if byte == b'&' {
+        return Reference::Nothing;
+    }
+    if byte == b';' {
+        return Reference::Nothing;
+    }
+    if byte == b'#' {
         return find_number(numbers, text, start);
     }
     let length = known_length(text, start);
     if length == 0 {
-        return find_name(numbers, text, start);
+        return find_name(text, start);
     }
-    let value = known_value(text[first]);
     Reference::Found(DecodedEntity {
         start: start,
         end: start + length,
-        value: DecodedEntityValue::Named(value),
+        value: DecodedEntityValue::Named(known_value(byte)),
     })
 }

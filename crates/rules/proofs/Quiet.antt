@@ -7,7 +7,7 @@ use Prim.Native.Nat.{ℕ, zero, suc, _+_, _-_, _≤_, _<_}
 use native.Mathlib.Omega.{arith}
 use lib.ListN.{length, take, drop, getD, length-append, length-drop}
 use lib.Seq.{length-take-le}
-use Rattle.rules.specs.Moves.{Move, keep, Rule, taken, result, replaced, place, before, from}
+use Rattle.rules.specs.Moves.{Move, keep, Rule, result, replaced, place, before, from}
 use Rattle.rules.proofs.Machine.{singly, taken-singly, result-singly}
 use Rattle.rules.proofs.Loops.{from-next, drop-next}
 

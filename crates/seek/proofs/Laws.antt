@@ -55,7 +55,7 @@ least-all s byte j m h p = record { after = omega arith; within = p .0; none = �
 
 module _ (t : List ℕ) (byte i e k : ℕ) (h : i ≤ e) (l : e ≤ length t) (p : Nearest (take (e - i) (drop i t)) 0 byte k) where
   -- The first place in the part is within it.
-  pub near-within : i + k ≤ e
+  near-within : i + k ≤ e
   near-within = omega (arith, p .within, part-length t i e h l)
 
   -- Before it the byte does not stand in the text.
@@ -66,8 +66,13 @@ module _ (t : List ℕ) (byte i e k : ℕ) (h : i ≤ e) (l : e ≤ length t) (p
       p .none (j - i) (omega arith) (omega arith) (part-at t i e (j - i) (omega arith) ∙ ap (λ (m : ℕ). getD t m 0) s ∙ q)
 
   -- And there it does.
-  pub near-here : i + k < e → getD t (i + k) 0 ≡ byte
-  near-here b = sym (part-at t i e k (omega arith)) ∙ p .here (rw (part-length t i e h l) (omega arith))
+  pub near-part : i + k < e → Nearest t i byte (i + k)
+  near-part b = record {
+    after = omega arith;
+    within = omega arith;
+    none = near-absent;
+    here = λ m. sym (part-at t i e k (omega arith)) ∙ p .here (rw (part-length t i e h l) (omega arith));
+  }
 
 -- What is first after a stretch that does not have the byte is first.
 pub nearest-after : (t : List ℕ) (a i byte r : ℕ) → a ≤ i → Absent t a i byte → Nearest t i byte r → Nearest t a byte r

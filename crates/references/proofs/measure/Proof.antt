@@ -81,10 +81,14 @@ loop-again-2 c =
     let s = counted-stretch (a .numbers) (a .text .now) (l .i) (p .result) (l .total) (l .same) (l .inv) (p .ensures) in
     let g = c .before .before .found .given in
     let reads = rw (g .1) at (c .before .before .before .before .find-decoded-entity .ensures) in
-    counted-found (a .numbers) (a .text .now) (p .result) (l .total + (p .result - l .i)) (c .value-length .result) (l .same) (g .0 .0) s (search needs) reads (c .value-length .ensures .0) (c .value-length .ensures .1)
+    let v = c .value-length in
+    counted-found (a .numbers) (a .text .now) (p .result) (l .total + (p .result - l .i)) (v .result) (l .same) (g .0 .0) s (search needs) reads (v .ensures .0) (v .ensures .1)
 
 returns-2 : tie.Need-returns-2 Inv-loop μ-loop
-returns-2 c = counted-end (c .before .before .before .args .numbers) (c .before .before .before .args .text .now) (c .before .loop .i) (c .before .loop .total) (c .before .loop .same) (c .before .loop .inv) (search needs)
+returns-2 c =
+    let a = c .before .before .before .args in
+    let l = c .before .loop in
+    counted-end (a .numbers) (a .text .now) (l .i) (l .total) (l .same) (l .inv) (search needs)
 
 pub measure-spec : {M : Type 1} → statement M
 measure-spec =

@@ -13,7 +13,9 @@ use Rattle.references.proofs.write.Statement.{statement}
 use Rattle.references.proofs.write.Tie as tie
 
 abbrev Inv-loop : tie.InvT-loop
-Inv-loop numbers text output₀ at₀ i₀ t9 output at i = (i ≤ length text) × Filled (result (through (stepBy numbers) text)) (result (from (stepBy numbers) text i)) output₀ output at
+Inv-loop numbers text output₀ at₀ i₀ t9 output at i =
+    (i ≤ length text)
+    × Filled (result (through (stepBy numbers) text)) (result (from (stepBy numbers) text i)) output₀ output at
 
 abbrev μ-loop : tie.MeasureT-loop
 μ-loop numbers text output₀ at₀ i₀ t9 output at i = length text - i

@@ -1,10 +1,8 @@
 -- `seek::find_byte` meets its contract: what is passed does not have the byte, and what is found after it is first.
 -- Assumes nothing.
 use borrow.Author.Needs.{needs}
-use Prim.Native.Nat.{_≤_, _-_, _+_}
-use native.Mathlib.Omega.{arith}
-use lib.ListN.{length}
-use Rattle.seek.proofs.Laws.{absent-join, near-absent, near-here, nearest-after}
+use Prim.Native.Nat.{_+_}
+use Rattle.seek.proofs.Laws.{near-absent, near-part, nearest-after}
 use Rattle.seek.proofs.find_byte.Statement.{statement}
 use Rattle.seek.proofs.find_byte.Tie as tie
 
@@ -57,15 +55,11 @@ returns-4 : tie.Need-returns-4
 returns-4 c =
     let a = c .before .before .before .before .before .before .before .before .before .before .args in
     let t = a .text .now in
-    let i = c .before .before .before .before .before .pass .result in
+    let i = c .before .before .before .before .before .pass in
     let e = c .before .before .before .clip .result in
     let k = c .before .least in
-    record {
-      after = search needs;
-      within = search needs;
-      none = absent-join t (a .from) i (i + k .result) (a .byte) (c .before .before .before .before .before .pass .ensures .2) (near-absent t (a .byte) i e (k .result) (search needs) (search needs) (k .ensures));
-      here = λ h. near-here t (a .byte) i e (k .result) (search needs) (search needs) (k .ensures) (c .if4 .taken);
-    }
+    let near = near-part t (a .byte) (i .result) e (k .result) (search needs) (search needs) (k .ensures) (c .if4 .taken) in
+    nearest-after t (a .from) (i .result) (a .byte) (i .result + k .result) (search needs) (i .ensures .2) near
 
 walk-requires-2 : tie.Need-walk-requires-2
 walk-requires-2 c κs = search needs
@@ -74,11 +68,13 @@ returns-5 : tie.Need-returns-5
 returns-5 c =
     let a = c .before .before .before .before .before .before .before .before .before .before .before .args in
     let t = a .text .now in
-    let i = c .before .before .before .before .before .before .pass .result in
+    let i = c .before .before .before .before .before .before .pass in
     let e = c .before .before .before .before .clip .result in
     let k = c .before .before .least in
-    let gap = absent-join t (a .from) i (i + k .result) (a .byte) (c .before .before .before .before .before .before .pass .ensures .2) (near-absent t (a .byte) i e (k .result) (search needs) (search needs) (k .ensures)) in
-    nearest-after t (a .from) (i + k .result) (a .byte) (c .walk2 .result) (search needs) gap (c .walk2 .ensures)
+    let w = c .walk2 in
+    let gap = near-absent t (a .byte) (i .result) e (k .result) (search needs) (search needs) (k .ensures) in
+    let rest = nearest-after t (i .result) (i .result + k .result) (a .byte) (w .result) (search needs) gap (w .ensures) in
+    nearest-after t (a .from) (i .result) (a .byte) (w .result) (search needs) (i .ensures .2) rest
 
 pub find-byte-spec : {M : Type 1} → statement M
 find-byte-spec =

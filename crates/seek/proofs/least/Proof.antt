@@ -42,10 +42,15 @@ loop-again : tie.Need-loop-again Inv-loop μ-loop
 loop-again c =
     let l = c .before .before .before .before .loop in
     let a = c .before .before .before .before .before .before .args in
-    (search needs, least-more (a .part .now) (a .byte) (l .j) (l .m) (search needs) (search needs) (l .inv .1) (c .before .mark .result) (c .lesser .result) (c .before .mark .ensures) (c .lesser .ensures))
+    let v = c .before .mark in
+    let r = c .lesser in
+    (search needs, least-more (a .part .now) (a .byte) (l .j) (l .m) (search needs) (search needs) (l .inv .1) (v .result) (r .result) (v .ensures) (r .ensures))
 
 returns : tie.Need-returns Inv-loop μ-loop
-returns c = let l = c .before .loop in least-all (c .before .before .before .args .part .now) (c .before .before .before .args .byte) (l .j) (l .m) (search needs) (l .inv .1)
+returns c =
+    let l = c .before .loop in
+    let a = c .before .before .before .args in
+    least-all (a .part .now) (a .byte) (l .j) (l .m) (search needs) (l .inv .1)
 
 pub least-spec : {M : Type 1} → statement M
 least-spec =

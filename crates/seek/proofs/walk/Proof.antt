@@ -31,7 +31,10 @@ loop-less : tie.Need-loop-less Inv-loop μ-loop
 loop-less c = search needs
 
 loop-again : tie.Need-loop-again Inv-loop μ-loop
-loop-again c = (search needs, search needs, absent-step (c .before .before .before .before .args .text .now) (c .before .before .before .before .args .from) (c .before .before .before .loop .i) (c .before .before .before .before .args .byte) (c .before .before .before .loop .inv .2) (c .if1 .left))
+loop-again c =
+    let a = c .before .before .before .before .args in
+    let l = c .before .before .before .loop in
+    (search needs, search needs, absent-step (a .text .now) (a .from) (l .i) (a .byte) (l .inv .2) (c .if1 .left))
 
 returns-2 : tie.Need-returns-2 Inv-loop μ-loop
 returns-2 c = record { after = search needs; within = search needs; none = c .before .loop .inv .2; here = λ h. absurd (omega arith) }

@@ -1,11 +1,10 @@
--- `references::digits::decode_decimal_entity` meets its contract: what its digits make under the ceiling stands for what they make.
+-- `references::digits::decode_decimal_entity` meets its contract: what the digit reader finds stands for what the digits make.
 -- Assumes nothing.
 use borrow.Author.Needs.{needs}
 use mathlib.Core.Logic.{inl}
-use mathlib.Core.Path.{refl, sym, ap, _∙_}
+use mathlib.Core.Path.{refl, _∙_}
 use Rattle.rules.specs.References.{digit, number}
-use Rattle.references.specs.Digits.{found}
-use Rattle.references.proofs.Ceiling.{number-char, number-nothing}
+use Rattle.references.proofs.Ceiling.{found-char}
 use Rattle.references.proofs.digits.decode_decimal_entity.Statement.{statement}
 use Rattle.references.proofs.digits.decode_decimal_entity.Tie as tie
 
@@ -21,7 +20,8 @@ enum-told c = search needs
 returns : tie.Need-returns
 returns c =
     let a = c .before .before .before .before .args in
-    (number-nothing (a .numbers) (number digit 10 (a .digits .now)) (sym (ap found (c .enum-told .given .1)) ∙ c .before .before .read-digits .ensures), tt)
+    let r = c .before .before .read-digits in
+    (rw (c .enum-told .given .1) at (found-char (a .numbers) (r .result) (number digit 10 (a .digits .now)) (r .ensures)), tt)
 
 decode-character-requires : tie.Need-decode-character-requires
 decode-character-requires c κs = search needs
@@ -29,8 +29,8 @@ decode-character-requires c κs = search needs
 returns-2 : tie.Need-returns-2
 returns-2 c =
     let a = c .before .before .before .before .before .before .args in
-    let n = c .before .before .n .given in
-    let e = number-char (a .numbers) (n .0 .0) (number digit 10 (a .digits .now)) (sym (ap found (n .1)) ∙ c .before .before .before .before .read-digits .ensures) in
+    let r = c .before .before .before .before .read-digits in
+    let e = rw (c .before .before .n .given .1) at (found-char (a .numbers) (r .result) (number digit 10 (a .digits .now)) (r .ensures)) in
     (c .decode-character .ensures .0 ∙ e, c .decode-character .ensures .1)
 
 pub decode-decimal-entity-spec : {M : Type 1} → statement M

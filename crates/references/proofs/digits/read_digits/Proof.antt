@@ -2,7 +2,6 @@
 -- up to the ceiling.
 -- Assumes nothing.
 use borrow.Author.Needs.{needs}
-use mathlib.Core.Option.{some}
 use mathlib.Core.Path.{_≡_, refl, sym, ap, _∙_}
 use Prim.Native.Nat.{_+_, _-_, _*_, _≤_}
 use native.Mathlib.Omega.{arith}
@@ -14,7 +13,10 @@ use Rattle.references.proofs.digits.read_digits.Statement.{statement}
 use Rattle.references.proofs.digits.read_digits.Tie as tie
 
 abbrev Inv-loop : tie.InvT-loop
-Inv-loop base digits number₀ i₀ number i = (i ≤ length digits) × (number ≤ 0x110000) × (capped (digitsOf (digitBy base) base number (drop i digits)) ≡ capped (digitsOf (digitBy base) base 0 digits))
+Inv-loop base digits number₀ i₀ number i =
+    (i ≤ length digits)
+    × (number ≤ 0x110000)
+    × (capped (digitsOf (digitBy base) base number (drop i digits)) ≡ capped (digitsOf (digitBy base) base 0 digits))
 
 abbrev μ-loop : tie.MeasureT-loop
 μ-loop base digits number₀ i₀ number i = length digits - i
@@ -36,19 +38,29 @@ wide-requires c κs = search needs
 
 returns-2 : tie.Need-returns-2 Inv-loop μ-loop
 returns-2 c =
-    let a = c .before .before .before .before .before .before .before .before .args in
+    let o = c .before .before .before .before .before .before .before .before in
+    let a = o .args in
     let l = c .before .before .before .before .before .loop in
     let s = a .digits .now in
     let v = c .before .wide .result in
     let d = c .before .before .digit-value in
-    let e : below (a .base) v ≡ digitBy (a .base) (getD s (l .i) 0) = rw (c .before .wide .ensures) (digit-by (a .base) (getD s (l .i) 0) (d .result) (c .before .before .before .before .before .before .before .before .pre) (d .ensures .0) (d .ensures .1)) in
-    sym (digits-none (a .base) (l .number) (l .i) v s (search needs) e (c .if2 .taken)) ∙ l .inv .2 ∙ ap capped (sym (number-some (digitBy (a .base)) (a .base) s (c .before .before .before .before .before .before .if1 .left)))
+    let same = digit-by (a .base) (getD s (l .i) 0) (d .result) (o .pre) (d .ensures .0) (d .ensures .1) in
+    let e : below (a .base) v ≡ digitBy (a .base) (getD s (l .i) 0) = rw (c .before .wide .ensures) same in
+    sym (digits-none (a .base) (l .number) (l .i) v s (search needs) e (omega arith))
+    ∙ l .inv .2
+    ∙ ap capped (sym (number-some (digitBy (a .base)) (a .base) s (c .before .before .before .before .before .before .if1 .left)))
 
 mul-ceiling : tie.Need-mul-ceiling Inv-loop μ-loop
-mul-ceiling c = omega (arith, base-most (c .before .before .before .before .before .before .before .before .args .base) (c .before .before .before .before .before .loop .number) (c .before .before .before .before .before .before .before .before .pre) (c .before .before .before .before .before .loop .inv .1))
+mul-ceiling c =
+    let o = c .before .before .before .before .before .before .before .before in
+    let l = c .before .before .before .before .before .loop in
+    omega (arith, base-most (o .args .base) (l .number) (o .pre) (l .inv .1))
 
 add-ceiling : tie.Need-add-ceiling Inv-loop μ-loop
-add-ceiling c = omega (arith, base-most (c .before .before .before .before .before .before .before .before .args .base) (c .before .before .before .before .before .loop .number) (c .before .before .before .before .before .before .before .before .pre) (c .before .before .before .before .before .loop .inv .1), c .before .wide .ensures, c .if2 .left)
+add-ceiling c =
+    let o = c .before .before .before .before .before .before .before .before in
+    let l = c .before .before .before .before .before .loop in
+    omega (arith, base-most (o .args .base) (l .number) (o .pre) (l .inv .1), c .before .wide .ensures, c .if2 .left)
 
 ceiling-requires : tie.Need-ceiling-requires Inv-loop μ-loop
 ceiling-requires c κs = search needs
@@ -61,15 +73,17 @@ loop-less c = search needs
 
 loop-again : tie.Need-loop-again Inv-loop μ-loop
 loop-again c =
-    let a = c .before .before .before .before .before .before .before .before .before .args in
+    let o = c .before .before .before .before .before .before .before .before .before in
+    let a = o .args in
     let l = c .before .before .before .before .before .before .loop in
     let s = a .digits .now in
     let v = c .before .before .wide .result in
     let d = c .before .before .before .digit-value in
-    let e : below (a .base) v ≡ digitBy (a .base) (getD s (l .i) 0) = rw (c .before .before .wide .ensures) (digit-by (a .base) (getD s (l .i) 0) (d .result) (c .before .before .before .before .before .before .before .before .before .pre) (d .ensures .0) (d .ensures .1)) in (
+    let same = digit-by (a .base) (getD s (l .i) 0) (d .result) (o .pre) (d .ensures .0) (d .ensures .1) in
+    let e : below (a .base) v ≡ digitBy (a .base) (getD s (l .i) 0) = rw (c .before .before .wide .ensures) same in (
       search needs,
       rw (c .ceiling .ensures) (ceiling-most (l .number * a .base + v)),
-      rw (c .ceiling .ensures) (digits-more (a .base) (l .number) (l .i) v s (base-some (a .base) (c .before .before .before .before .before .before .before .before .before .pre)) (search needs) e (c .before .if2 .left) ∙ l .inv .2),
+      rw (c .ceiling .ensures) (digits-more (a .base) (l .number) (l .i) v s (base-some (a .base) (o .pre)) (search needs) e (omega arith) ∙ l .inv .2),
     )
 
 returns-3 : tie.Need-returns-3 Inv-loop μ-loop
@@ -77,7 +91,9 @@ returns-3 c =
     let a = c .before .before .before .before .args in
     let l = c .before .loop in
     let s = a .digits .now in
-    sym (digits-end (a .base) (l .number) (l .i) s (search needs) (l .inv .1)) ∙ l .inv .2 ∙ ap capped (sym (number-some (digitBy (a .base)) (a .base) s (c .before .before .if1 .left)))
+    sym (digits-end (a .base) (l .number) (l .i) s (search needs) (l .inv .1))
+    ∙ l .inv .2
+    ∙ ap capped (sym (number-some (digitBy (a .base)) (a .base) s (c .before .before .if1 .left)))
 
 pub read-digits-spec : {M : Type 1} → statement M
 read-digits-spec =

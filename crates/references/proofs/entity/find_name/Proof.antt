@@ -12,7 +12,11 @@ body-end-requires : tie.Need-body-end-requires
 body-end-requires c κs = search needs
 
 returns : tie.Need-returns
-returns c = let a = c .before .before .before .args in name-nobody (a .numbers) (a .text .now) (a .start) (c .before .body-end .result) (search needs) (c .before .before .before .pre .1) (c .before .body-end .ensures) (c .if1 .taken)
+returns c =
+    let o = c .before .before .before in
+    let a = o .args in
+    let e = c .before .body-end in
+    λ numbers. name-nobody numbers (a .text .now) (a .start) (e .result) (search needs) (o .pre .1) (e .ensures) (c .if1 .taken)
 
 sub-decode-named-entity : tie.Need-sub-decode-named-entity
 sub-decode-named-entity c = search needs
@@ -33,13 +37,27 @@ enum-told : tie.Need-enum-told
 enum-told c = search needs
 
 returns-2 : tie.Need-returns-2
-returns-2 c = let a = c .before .before .before .before .before .before .before .args in rw (c .enum-told .given .1) at (name-reads (a .numbers) (a .text .now) (a .start) (c .before .before .before .before .before .body-end .result) (search needs) (c .before .before .before .before .before .before .before .pre .1) (c .before .before .before .before .before .body-end .ensures) (c .before .before .before .before .before .before .before .pre .2) (search needs) (c .before .before .decode-named-entity .result) (c .before .before .decode-named-entity .ensures))
+returns-2 c =
+    let o = c .before .before .before .before .before .before .before in
+    let a = o .args in
+    let e = c .before .before .before .before .before .body-end in
+    let m = c .before .before .decode-named-entity in
+    λ numbers.
+    let r = name-reads numbers (a .text .now) (a .start) (e .result) (search needs) (o .pre .1) (e .ensures) (o .pre .2) in
+    rw (c .enum-told .given .1) at (r (search needs) (m .result) (m .ensures))
 
-add-t7 : tie.Need-add-t7
-add-t7 c = search needs
+add-t6 : tie.Need-add-t6
+add-t6 c = search needs
 
 returns-3 : tie.Need-returns-3
-returns-3 c = let a = c .before .before .before .before .before .before .before .before .args in rw (c .before .value .given .1) at (name-reads (a .numbers) (a .text .now) (a .start) (c .before .before .before .before .before .before .body-end .result) (search needs) (c .before .before .before .before .before .before .before .before .pre .1) (c .before .before .before .before .before .before .body-end .ensures) (c .before .before .before .before .before .before .before .before .pre .2) (search needs) (c .before .before .before .decode-named-entity .result) (c .before .before .before .decode-named-entity .ensures))
+returns-3 c =
+    let o = c .before .before .before .before .before .before .before .before in
+    let a = o .args in
+    let e = c .before .before .before .before .before .before .body-end in
+    let m = c .before .before .before .decode-named-entity in
+    λ numbers.
+    let r = name-reads numbers (a .text .now) (a .start) (e .result) (search needs) (o .pre .1) (e .ensures) (o .pre .2) in
+    rw (c .before .value .given .1) at (r (search needs) (m .result) (m .ensures))
 
 pub find-name-spec : {M : Type 1} → statement M
 find-name-spec =
@@ -55,5 +73,5 @@ find-name-spec =
     enum-known-value
     enum-told
     returns-2
-    add-t7
+    add-t6
     returns-3)

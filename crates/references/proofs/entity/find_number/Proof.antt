@@ -12,7 +12,11 @@ body-end-requires : tie.Need-body-end-requires
 body-end-requires c κs = search needs
 
 returns : tie.Need-returns
-returns c = let a = c .before .before .before .args in number-nobody (a .numbers) (a .text .now) (a .start) (c .before .body-end .result) (c .before .before .before .pre .0) (c .before .before .before .pre .1) (c .before .before .before .pre .2) (c .before .body-end .ensures) (c .if1 .taken)
+returns c =
+    let o = c .before .before .before in
+    let a = o .args in
+    let e = c .before .body-end in
+    number-nobody (a .numbers) (a .text .now) (a .start) (e .result) (o .pre .0) (o .pre .1) (o .pre .2) (e .ensures) (c .if1 .taken)
 
 sub-decode-number : tie.Need-sub-decode-number
 sub-decode-number c = search needs
@@ -33,13 +37,25 @@ enum-told : tie.Need-enum-told
 enum-told c = search needs
 
 returns-2 : tie.Need-returns-2
-returns-2 c = let a = c .before .before .before .before .before .before .before .args in rw (c .enum-told .given .1) at (number-reads (a .numbers) (a .text .now) (a .start) (c .before .before .before .before .before .body-end .result) (c .before .before .before .before .before .before .before .pre .0) (c .before .before .before .before .before .before .before .pre .1) (c .before .before .before .before .before .before .before .pre .2) (c .before .before .before .before .before .body-end .ensures) (search needs) (c .before .before .decode-number .result) (c .before .before .decode-number .ensures .0) (c .before .before .decode-number .ensures .1))
+returns-2 c =
+    let o = c .before .before .before .before .before .before .before in
+    let a = o .args in
+    let e = c .before .before .before .before .before .body-end in
+    let m = c .before .before .decode-number in
+    let r = number-reads (a .numbers) (a .text .now) (a .start) (e .result) (o .pre .0) (o .pre .1) (o .pre .2) (e .ensures) in
+    rw (c .enum-told .given .1) at (r (search needs) (m .result) (m .ensures .0) (m .ensures .1))
 
 add-t7 : tie.Need-add-t7
 add-t7 c = search needs
 
 returns-3 : tie.Need-returns-3
-returns-3 c = let a = c .before .before .before .before .before .before .before .before .args in rw (c .before .value .given .1) at (number-reads (a .numbers) (a .text .now) (a .start) (c .before .before .before .before .before .before .body-end .result) (c .before .before .before .before .before .before .before .before .pre .0) (c .before .before .before .before .before .before .before .before .pre .1) (c .before .before .before .before .before .before .before .before .pre .2) (c .before .before .before .before .before .before .body-end .ensures) (search needs) (c .before .before .before .decode-number .result) (c .before .before .before .decode-number .ensures .0) (c .before .before .before .decode-number .ensures .1))
+returns-3 c =
+    let o = c .before .before .before .before .before .before .before .before in
+    let a = o .args in
+    let e = c .before .before .before .before .before .before .body-end in
+    let m = c .before .before .before .decode-number in
+    let r = number-reads (a .numbers) (a .text .now) (a .start) (e .result) (o .pre .0) (o .pre .1) (o .pre .2) (e .ensures) in
+    rw (c .before .value .given .1) at (r (search needs) (m .result) (m .ensures .0) (m .ensures .1))
 
 pub find-number-spec : {M : Type 1} → statement M
 find-number-spec =
