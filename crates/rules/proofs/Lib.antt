@@ -5,6 +5,7 @@ pub mod Chars
 pub mod Tables
 pub mod Valid
 pub mod Every
+pub mod EveryByte
 pub mod Encoder
 pub mod Decoder
 pub mod Growth

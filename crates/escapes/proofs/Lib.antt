@@ -1,0 +1,4 @@
+pub mod Finding
+pub mod Hex
+pub mod Standing
+pub mod Strings

@@ -1,0 +1,33 @@
+use Rattle.escapes.proofs.Strings.{slash-short, slash-long}
+use borrow.Author.Tests.{ne-eqb}
+use native.Mathlib.Omega.{arith}
+use mathlib.Core.Path.{sym, _∙_}
+use borrow.Author.Needs.{needs}
+use Rattle.escapes.proofs.rows.after_slash.Statement.{statement}
+use Rattle.escapes.proofs.rows.after_slash.Tie as tie
+use Rattle.escapes.proofs.rows.after_slash.Reads as reads
+use Rattle.escapes.proofs.rows.after_slash.Lts as lts
+
+-- src/rows.rt:31:9
+returns : tie.Need-returns
+returns c = sym (slash-short (c .before .args .rest .now) (c .if1 .taken))
+
+-- src/rows.rt:33:8
+shared-slice-read-if2 : tie.Need-shared-slice-read-if2
+shared-slice-read-if2 c = search needs
+
+-- src/rows.rt:34:16
+shared-slice-read-result : tie.Need-shared-slice-read-result
+shared-slice-read-result c = search needs
+
+-- src/rows.rt:34:9
+returns-2 : tie.Need-returns-2
+returns-2 c = sym (slash-long (c .before .before .before .before .args .rest .now) (λ h. omega arith) ∙ rw (c .before .if2 .taken))
+
+-- src/rows.rt:27:1
+returns-3 : tie.Need-returns-3
+returns-3 c = sym (slash-long (c .before .before .before .args .rest .now) (λ h. omega arith) ∙ rw (ne-eqb _ 92 (c .if2 .left)))
+
+pub after-slash-spec : {M : Type 1} → statement M
+after-slash-spec =
+    tie.close (tie.spec returns shared-slice-read-if2 shared-slice-read-result returns-2 returns-3)
