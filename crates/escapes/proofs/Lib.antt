@@ -2,3 +2,4 @@ pub mod Finding
 pub mod Hex
 pub mod Standing
 pub mod Strings
+pub mod Counted

@@ -4,10 +4,10 @@ use mathlib.Core.Bool.{Bool, true, false, not, _&&_, _||_, cond}
 use mathlib.Core.Logic.{_⊎_, inl, inr, ⊎-elim}
 use mathlib.Core.Path.{_≡_, refl, sym, ap, _∙_, subst}
 use mathlib.Core.List.{List, [], _∷_, _++_, map}
-use Prim.Native.Nat.{ℕ, _<_}
+use Prim.Native.Nat.{ℕ, zero, suc, _+_, _-_, _≤_, _<_}
 use native.Mathlib.Omega.{arith}
 use lib.Dec.{T, eqb, eqb→eq, eqb-refl, ltb, ltb→lt, T-not}
-use lib.ListN.{length, getD}
+use lib.ListN.{length, take, drop, getD, length-drop}
 use borrow.Author.Tests.{eqb-true, ltb-true}
 use Rattle.rules.specs.Bytes.{ascii, In, all, any, count, stands, oneOf}
 use Rattle.rules.specs.Answers.{escapeMove}
@@ -15,13 +15,22 @@ use Rattle.rules.specs.Escapes.{afterLess}
 use Rattle.rules.specs.Operations.{decodeStep}
 use Rattle.rules.specs.Reading.{undo}
 use Rattle.rules.specs.Tables.{Row, rowAt, value, slashed, scriptHex, styleHex, rows}
+use Rattle.rules.specs.Moves.{keep, before}
+use Rattle.rules.specs.Utf8.{utf8}
+use Rattle.rules.specs.declared.Context.{Context}
+use Rattle.rules.specs.declared.Context.the-variants.{InScript, InStyle}
 use Rattle.rules.specs.declared.Quotes.{Quotes}
 use Rattle.rules.specs.declared.Quotes.the-variants.{Single, Double, Both}
 use Rattle.rules.specs.declared.Escape.{Escape}
 use Rattle.rules.specs.declared.Escape.the-variants.{Taken, Nothing}
 use Rattle.rules.proofs.Tests.{and-both, or-cases, all-in, any-in, any-intro}
 use Rattle.rules.proofs.EveryByte.{every-byte}
-use Rattle.escapes.specs.Finds.{Finds}
+use Rattle.rules.proofs.Decoder.{at-mark}
+use Rattle.rules.proofs.Loops.{drop-next}
+use Rattle.rules.proofs.Quiet.{Keeps}
+use Rattle.parts.proofs.Filled.{lent-rest}
+use Rattle.seek.specs.Places.{Nearest}
+use Rattle.escapes.specs.Finds.{Within, Finds}
 use Rattle.escapes.specs.Hex.{hexBetween}
 use Rattle.escapes.specs.Strings.{stringOf, nameOf, slashedBytes, afterSlash, hexEscape, isHexed, separators}
 use Rattle.escapes.proofs.Finding.{Coded, finds-byte, finds-no-byte, finds-first, finds-second}
@@ -191,3 +200,27 @@ decode-found style q p s n c f = sym (decode-string style q p s ∙ f .undoes (a
 pub decode-after : (style : Bool) (q : Quotes) (p : ℕ) (s : List ℕ) → Finds (rows (stringOf style q)) s Nothing
     → afterLess (nameOf style) p s ≡ decodeStep (stringOf style q) p s
 decode-after style q p s f = sym (decode-string style q p s ∙ f .undoes (afterLess (nameOf style) p s))
+
+-- Between two backslashes each byte is kept.
+pub string-quiet : (style : Bool) (q : Quotes) (t : List ℕ) (i e : ℕ) → Nearest t i 92 e → Keeps (decodeStep (stringOf style q)) t i e
+string-quiet style q t i e near k h l =
+    ap (decodeStep (stringOf style q) (before t k)) (drop-next t k (omega (arith, near .within)))
+    ∙ go style (before t k) (getD t k 0) (drop (k + 1) t) (λ x. near .none k h l (eqb→eq (getD t k 0) 92 x))
+  where
+    go : (style : Bool) (p x : ℕ) (s : List ℕ) → (T (eqb x 92) → ⊥) → decodeStep (stringOf style q) p (x ∷ s) ≡ keep (x ∷ [])
+    go true = at-mark (InStyle q)
+    go false = at-mark (InScript q)
+
+-- What the reader of escapes answers at place e, lent the rest of the text, is the move there.
+pub escape-here : (c : Context) (t : List ℕ) (e p : ℕ) (r : Escape) → p ≡ before t e
+    → escapeMove (take (length t - e) (drop e t)) r ≡ decodeStep c p (take (length t - e) (drop e t)) → decodeStep c (before t e) (drop e t) ≡ escapeMove (drop e t) r
+escape-here c t e p r h f = rw (← h, ← lent-rest e t) (sym f)
+
+-- And it stays within the text.
+pub within-rest : (t : List ℕ) (e n c : ℕ) → Within (Taken n c) (take (length t - e) (drop e t)) → (1 ≤ n) × (e + n ≤ length t) × (length (utf8 c) ≤ n) × (c < 0x10000)
+within-rest t e n c w = (w .0, omega (arith, w .0, rw (lent-rest, length-drop) at (w .1)), w .2, w .3)
+
+-- The byte before a place that is not the start.
+pub before-at : (t : List ℕ) (i : ℕ) → (i ≡ 0 → ⊥) → getD t (i - 1) 0 ≡ before t i
+before-at t zero h = absurd (h refl)
+before-at t (suc i) h = let e : suc i - 1 ≡ i = omega arith in rw e

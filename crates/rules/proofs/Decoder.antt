@@ -138,7 +138,8 @@ abbrev pub IsDecoded : Context → Move → Type 0
 IsDecoded c u = IsUnit (rows c) (replacedChars c) u × (In (gives u) (undecoded c) → ⊥)
 
 module _ (c : Context) where
-  at-mark : (p x : ℕ) (s : List ℕ) → (T (eqb x (mark c)) → ⊥) → decodeStep c p (x ∷ s) ≡ keep (x ∷ [])
+  -- At any other byte than its mark a decoder keeps the byte.
+  pub at-mark : (p x : ℕ) (s : List ℕ) → (T (eqb x (mark c)) → ⊥) → decodeStep c p (x ∷ s) ≡ keep (x ∷ [])
   at-mark = decode-quiet c (every marked tt c)
 
   decode-keeps : (a : List ℕ) → IsDecoded c (keep a) → (r : List ℕ) → Follows (decodeStep c) (singly a) r
