@@ -6,18 +6,18 @@ use mathlib.Core.Path.{_≡_, refl, sym, ap, _∙_, subst}
 use mathlib.Core.List.{List, [], _∷_, _++_, map}
 use Prim.Native.Nat.{ℕ, suc, _+_, _≤_, _<_}
 use native.Mathlib.Omega.{arith}
-use lib.Dec.{T, leb, ltb, leb→le, ltb→lt}
+use lib.Dec.{T, leb, ltb, eqb, leb→le, ltb→lt, eqb→eq}
 use lib.ListN.{length, take, length-append}
 use lib.Seq.{take-append-seam, take-at}
 use borrow.Author.Tests.{lt-ltb}
-use Rattle.rules.specs.Bytes.{In, all, first, stands}
+use Rattle.rules.specs.Bytes.{In, all, stands, oneOf}
 use Rattle.rules.specs.Moves.{Move, swap}
 use Rattle.rules.specs.Utf8.{utf8}
 use Rattle.rules.specs.Tables.{Row, rowAt, key, value}
 use Rattle.rules.specs.Reading.{undo}
 use Rattle.rules.specs.declared.Escape.{Escape}
 use Rattle.rules.specs.declared.Escape.the-variants.{Taken, Nothing}
-use Rattle.rules.proofs.Tests.{and-left, and-right, all-in, first-sound, none-fits, in-map, map-in, stands-split}
+use Rattle.rules.proofs.Tests.{and-left, and-right, all-in, any-in, first-sound, none-fits, in-map, map-in, stands-split}
 use Rattle.escapes.specs.Finds.{undone, Within, Finds}
 
 -- ---- part by part
@@ -78,7 +78,12 @@ finds-end = record { undoes = λ other. refl; within = tt }
 
 -- ---- rows that stand each for a byte
 
-utf8-ascii : (b : ℕ) → b < 128 → utf8 b ≡ b ∷ []
+-- A byte that is one of a set, by the test, is in it.
+pub one-of-in : (bs : List ℕ) (x : ℕ) → T (oneOf bs x) → In x bs
+one-of-in bs x t = let (b, i, e) = any-in (eqb x) bs t in subst (λ (b : ℕ). In b bs) (sym (eqb→eq x b e)) i
+
+-- An ASCII byte is its own character.
+pub utf8-ascii : (b : ℕ) → b < 128 → utf8 b ≡ b ∷ []
 utf8-ascii b h = rw (lt-ltb b 128 h)
 
 -- The rows f b of the bytes bs are read by g: where one stands, g is its byte; and where g is one of the bytes, its row stands.

@@ -2,4 +2,3 @@ pub mod Finding
 pub mod Hex
 pub mod Standing
 pub mod Strings
-pub mod Counted

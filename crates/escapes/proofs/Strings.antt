@@ -33,7 +33,7 @@ use Rattle.seek.specs.Places.{Nearest}
 use Rattle.escapes.specs.Finds.{Within, Finds}
 use Rattle.escapes.specs.Hex.{hexBetween}
 use Rattle.escapes.specs.Strings.{stringOf, nameOf, slashedBytes, afterSlash, hexEscape, isHexed, separators}
-use Rattle.escapes.proofs.Finding.{Coded, finds-byte, finds-no-byte, finds-first, finds-second}
+use Rattle.escapes.proofs.Finding.{one-of-in, Coded, finds-byte, finds-no-byte, finds-first, finds-second}
 use Rattle.escapes.proofs.Hex.{pair-digits, stands-between}
 
 -- ---- what the code that looks behind a backslash meets
@@ -51,9 +51,6 @@ pub slash-long : (s : List ℕ) → (length s < 2 → ⊥) → afterSlash s ≡ 
 slash-long [] h = absurd (h (omega arith))
 slash-long (x ∷ []) h = absurd (h (omega arith))
 slash-long (x ∷ y ∷ s) h = refl
-
-one-of-in : (bs : List ℕ) (x : ℕ) → T (oneOf bs x) → In x bs
-one-of-in bs x t = let (b, i, e) = any-in (eqb x) bs t in subst (λ (b : ℕ). In b bs) (sym (eqb→eq x b e)) i
 
 -- ---- a byte after a backslash
 

@@ -13,7 +13,6 @@ ghost use Rattle.escapes.specs.Strings.{stringOf, nameOf};
 use rules::Escape;
 use rules::Quotes;
 
-pub mod chars;
 pub mod heads;
 pub mod rows;
 
@@ -84,7 +83,7 @@ pub fn measure(style: bool, quotes: Quotes, text: &[u8]) -> Measured
             i = e + 1;
             continue;
         };
-        length += chars::width(c);
+        length += chars::char_length(c);
         escapes += 1;
         i = e + n;
     }

@@ -207,7 +207,7 @@ result-cut (stop ∷ ms) = result-cut ms
 -- A rule that keeps each byte of what is kept, and makes each swap, has these moves byte by byte.
 module _ (rule : Rule) (unit : Move → Type 0) (keeps : (a : List ℕ) → unit (keep a) → (r : List ℕ) → Follows rule (singly a) r)
     (swaps : (a b : List ℕ) → unit (swap a b) → (r : List ℕ) → Makes rule (swap a b) r) where
-  follows-cut : (ms : List Move) → All unit ms → (r : List ℕ) → Follows rule (cut ms) r
+  pub follows-cut : (ms : List Move) → All unit ms → (r : List ℕ) → Follows rule (cut ms) r
   follows-cut [] g r = tt
   follows-cut (keep a ∷ ms) g r = follows-append rule (singly a) (cut ms) r (keeps a (g .0) (taken (cut ms) ++ r)) (follows-cut ms (g .1) r)
   follows-cut (swap a b ∷ ms) g r = (swaps a b (g .0) (taken (cut ms) ++ r), follows-cut ms (g .1) r)

@@ -26,7 +26,7 @@ singles rule t (suc n) i h q =
     let one = from-next rule t i 0 (keep (getD t i 0 ∷ [])) l (q i (omega arith) (omega arith)) refl in
     one ∙ rw (z, d, singles rule t n (i + 1) (omega arith) (λ k a b. q k (omega arith) (omega arith)))
 
-replaced-singly : (a : List ℕ) (ms : List Move) → replaced (singly a ++ ms) ≡ replaced ms
+pub replaced-singly : (a : List ℕ) (ms : List Move) → replaced (singly a ++ ms) ≡ replaced ms
 replaced-singly [] ms = refl
 replaced-singly (x ∷ a) ms = replaced-singly a ms
 

@@ -1,5 +1,5 @@
 use Rattle.escapes.proofs.Strings.{string-quiet, escape-here, within-rest}
-use Rattle.escapes.proofs.Counted.{Counted, counted-start, counted-quiet, counted-keep, counted-swap, counted-end}
+use Rattle.parts.proofs.Counted.{Counted, counted-start, counted-quiet, counted-keep, counted-swap, counted-end}
 use Rattle.escapes.specs.Strings.{stringOf}
 use Rattle.rules.proofs.Loops.{from-end}
 use Rattle.rules.specs.declared.Escape.the-variants.{Taken, Nothing}
@@ -16,7 +16,7 @@ use Rattle.escapes.proofs.measure.Tie as tie
 use Rattle.escapes.proofs.measure.Reads as reads
 use Rattle.escapes.proofs.measure.Lts as lts
 use Rattle.escapes.proofs.byte_before.Reads as byte-before-reads
-use Rattle.escapes.proofs.chars.width.Reads as width-reads
+use Rattle.chars.proofs.char_length.Reads as char-length-reads
 use Rattle.escapes.proofs.decode_escape.Reads as decode-escape-reads
 use Rattle.seek.proofs.find_byte.Reads as find-byte-reads
 
@@ -91,12 +91,12 @@ loop-again : tie.Need-loop-again Inv-loop μ-loop
 loop-again c = counted-keep (counted-quiet (c .before .before .before .before .before .before .before .before .loop .inv) (c .before .before .before .before .before .before .find-byte .result) (c .before .before .before .before .before .before .find-byte .ensures .after) (c .before .before .before .before .before .before .find-byte .ensures .within) (string-quiet (c .before .before .before .before .before .before .before .before .before .before .args .style) (c .before .before .before .before .before .before .before .before .before .before .args .quotes) (c .before .before .before .before .before .before .before .before .before .before .args .text .now) (c .before .before .before .before .before .before .before .before .loop .i) (c .before .before .before .before .before .before .find-byte .result) (c .before .before .before .before .before .before .find-byte .ensures))) (omega arith) (escape-here (stringOf (c .before .before .before .before .before .before .before .before .before .before .args .style) (c .before .before .before .before .before .before .before .before .before .before .args .quotes)) (c .before .before .before .before .before .before .before .before .before .before .args .text .now) (c .before .before .before .before .before .before .find-byte .result) (c .before .before .before .before .byte-before .result) Nothing (c .before .before .before .before .byte-before .ensures) (rw (c .enum-told .given .1) at (c .before .before .decode-escape .ensures .0)))
 
 -- src/lib.rt:83:19
-width-requires : tie.Need-width-requires Inv-loop μ-loop
-width-requires c κs = search needs
+char-length-requires : tie.Need-char-length-requires Inv-loop μ-loop
+char-length-requires c κs = search needs
 
 -- src/lib.rt:83:9
 add-length-3 : tie.Need-add-length-3 Inv-loop μ-loop
-add-length-3 c = let w = within-rest (c .before .before .before .before .before .before .before .before .before .before .before .before .args .text .now) (c .before .before .before .before .before .before .before .before .find-byte .result) (c .before .before .n .given .0 .0) (c .before .before .n .given .0 .1 .0) (rw (c .before .before .n .given .1) at (c .before .before .before .before .decode-escape .ensures .1)) in omega (arith, w .1, w .2, c .width .ensures)
+add-length-3 c = let w = within-rest (c .before .before .before .before .before .before .before .before .before .before .before .before .args .text .now) (c .before .before .before .before .before .before .before .before .find-byte .result) (c .before .before .n .given .0 .0) (c .before .before .n .given .0 .1 .0) (rw (c .before .before .n .given .1) at (c .before .before .before .before .decode-escape .ensures .1)) in omega (arith, w .1, w .2, c .char-length .ensures .0)
 
 -- src/lib.rt:84:9
 add-escapes : tie.Need-add-escapes Inv-loop μ-loop
@@ -112,7 +112,7 @@ loop-less-2 c = let w = within-rest (c .before .before .before .before .before .
 
 -- src/lib.rt:72:5
 loop-again-2 : tie.Need-loop-again-2 Inv-loop μ-loop
-loop-again-2 c = let w = within-rest (c .before .before .before .before .before .before .before .before .before .before .before .before .args .text .now) (c .before .before .before .before .before .before .before .before .find-byte .result) (c .before .before .n .given .0 .0) (c .before .before .n .given .0 .1 .0) (rw (c .before .before .n .given .1) at (c .before .before .before .before .decode-escape .ensures .1)) in rw (c .width .ensures) (counted-swap (counted-quiet (c .before .before .before .before .before .before .before .before .before .before .loop .inv) (c .before .before .before .before .before .before .before .before .find-byte .result) (c .before .before .before .before .before .before .before .before .find-byte .ensures .after) (c .before .before .before .before .before .before .before .before .find-byte .ensures .within) (string-quiet (c .before .before .before .before .before .before .before .before .before .before .before .before .args .style) (c .before .before .before .before .before .before .before .before .before .before .before .before .args .quotes) (c .before .before .before .before .before .before .before .before .before .before .before .before .args .text .now) (c .before .before .before .before .before .before .before .before .before .before .loop .i) (c .before .before .before .before .before .before .before .before .find-byte .result) (c .before .before .before .before .before .before .before .before .find-byte .ensures))) (c .before .before .n .given .0 .0) (utf8 (c .before .before .n .given .0 .1 .0)) (w .0) (w .1) (w .2) (escape-here (stringOf (c .before .before .before .before .before .before .before .before .before .before .before .before .args .style) (c .before .before .before .before .before .before .before .before .before .before .before .before .args .quotes)) (c .before .before .before .before .before .before .before .before .before .before .before .before .args .text .now) (c .before .before .before .before .before .before .before .before .find-byte .result) (c .before .before .before .before .before .before .byte-before .result) (Taken (c .before .before .n .given .0 .0) (c .before .before .n .given .0 .1 .0)) (c .before .before .before .before .before .before .byte-before .ensures) (rw (c .before .before .n .given .1) at (c .before .before .before .before .decode-escape .ensures .0))))
+loop-again-2 c = let w = within-rest (c .before .before .before .before .before .before .before .before .before .before .before .before .args .text .now) (c .before .before .before .before .before .before .before .before .find-byte .result) (c .before .before .n .given .0 .0) (c .before .before .n .given .0 .1 .0) (rw (c .before .before .n .given .1) at (c .before .before .before .before .decode-escape .ensures .1)) in rw (c .char-length .ensures .0) (counted-swap (counted-quiet (c .before .before .before .before .before .before .before .before .before .before .loop .inv) (c .before .before .before .before .before .before .before .before .find-byte .result) (c .before .before .before .before .before .before .before .before .find-byte .ensures .after) (c .before .before .before .before .before .before .before .before .find-byte .ensures .within) (string-quiet (c .before .before .before .before .before .before .before .before .before .before .before .before .args .style) (c .before .before .before .before .before .before .before .before .before .before .before .before .args .quotes) (c .before .before .before .before .before .before .before .before .before .before .before .before .args .text .now) (c .before .before .before .before .before .before .before .before .before .before .loop .i) (c .before .before .before .before .before .before .before .before .find-byte .result) (c .before .before .before .before .before .before .before .before .find-byte .ensures))) (c .before .before .n .given .0 .0) (utf8 (c .before .before .n .given .0 .1 .0)) (w .0) (w .1) (w .2) (escape-here (stringOf (c .before .before .before .before .before .before .before .before .before .before .before .before .args .style) (c .before .before .before .before .before .before .before .before .before .before .before .before .args .quotes)) (c .before .before .before .before .before .before .before .before .before .before .before .before .args .text .now) (c .before .before .before .before .before .before .before .before .find-byte .result) (c .before .before .before .before .before .before .byte-before .result) (Taken (c .before .before .n .given .0 .0) (c .before .before .n .given .0 .1 .0)) (c .before .before .before .before .before .before .byte-before .ensures) (rw (c .before .before .n .given .1) at (c .before .before .before .before .decode-escape .ensures .0))))
 
 -- src/lib.rt:65:1
 returns-2 : tie.Need-returns-2 Inv-loop μ-loop
@@ -140,7 +140,7 @@ measure-spec =
     add-i
     loop-less
     loop-again
-    width-requires
+    char-length-requires
     add-length-3
     add-escapes
     add-i-2

@@ -1,6 +1,6 @@
 use mathlib.Core.Path.{ap}
 use Rattle.escapes.proofs.Strings.{string-quiet, escape-here, within-rest}
-use Rattle.escapes.proofs.Counted.{next-quiet, next-keep, next-swap, filled-all, filled-within, less-left}
+use Rattle.parts.proofs.Counted.{next-quiet, next-keep, next-swap, filled-all, filled-within, less-left}
 use Rattle.escapes.specs.Strings.{stringOf}
 use Rattle.parts.proofs.Filled.{Filled, filled-start, filled-room, filled-next, filled-put}
 use Rattle.rules.proofs.Loops.{from-end}
@@ -17,7 +17,7 @@ use Rattle.escapes.proofs.write.Tie as tie
 use Rattle.escapes.proofs.write.Reads as reads
 use Rattle.escapes.proofs.write.Lts as lts
 use Rattle.escapes.proofs.byte_before.Reads as byte-before-reads
-use Rattle.escapes.proofs.chars.put_char.Reads as put-char-reads
+use Rattle.chars.proofs.put_char.Reads as put-char-reads
 use Rattle.escapes.proofs.decode_escape.Reads as decode-escape-reads
 use Rattle.parts.proofs.put.Reads as put-reads
 use Rattle.seek.proofs.find_byte.Reads as find-byte-reads

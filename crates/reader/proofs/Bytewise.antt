@@ -1,0 +1,138 @@
+-- On a valid text the reader that keeps one byte at a time makes the moves of the reader that keeps one character at a time, with all that is
+-- kept cut into bytes. So the two have the same result, stop at the same place, and replace as many places.
+-- Assumes nothing.
+use mathlib.Core.Bool.{Bool, true, false, not}
+use mathlib.Core.Option.{Option, none, some, Option·none-ne-some}
+use mathlib.Core.Path.{_≡_, refl, sym, ap, _∙_, subst}
+use mathlib.Core.List.{List, [], _∷_, _++_, append-assoc, append-nil}
+use Prim.Native.Nat.{ℕ, suc, pred}
+use native.Mathlib.Omega.{arith}
+use native.Mathlib.Nat.{suc-ne-zero}
+use lib.Dec.{T, eqb, eqb→eq, T-not}
+use lib.ListN.{length, drop}
+use lib.Seq.{drop-append-seam}
+use Rattle.rules.specs.Bytes.{All, all, join, stands, Range}
+use Rattle.rules.specs.Moves.{Move, keep, swap, stop, takes, andThen, moves, taken, result, replaced, place, through, from}
+use Rattle.rules.specs.Utf8.{IsChar, IsText, sequenceAt, keepChar, validTo}
+use Rattle.rules.specs.Tables.{Row, rowAt, value, rows, replacedChars}
+use Rattle.rules.specs.Units.{IsUnit}
+use Rattle.rules.specs.Encoding.{keepByte}
+use Rattle.rules.specs.Reading.{undo, unless, readStep}
+use Rattle.rules.specs.Operations.{readOf, readTo}
+use Rattle.rules.specs.declared.Context.{Context}
+use Rattle.rules.proofs.Tests.{and-left, is-false, all-in, any-in}
+use Rattle.rules.proofs.Machine.{Makes, Follows, Ends, singly, cut, follows-cut, retrace, moves-fair, taken-cut, result-cut}
+use Rattle.rules.proofs.Quiet.{replaced-singly}
+use Rattle.rules.proofs.Codes.{Reads}
+use Rattle.rules.proofs.Chars.{isTail, char-unique, char-singly, sequence-of-char, sequence-pos, pred-of}
+use Rattle.rules.proofs.Tables.{barred, bar-stops, row-length, row-first, table-reads}
+use Rattle.rules.proofs.Valid.{valid-iff}
+use Rattle.rules.proofs.Every.{every, values-code}
+use Rattle.rules.proofs.Encoder.{run-text}
+use Rattle.parts.proofs.Counted.{Counted, counted-end}
+use Rattle.reader.specs.Units.{byteStep}
+use Rattle.reader.proofs.Barred.{keeps-plain}
+
+-- ---- what is left of a text after some of its characters is a text
+
+char-long : (a : List ℕ) → IsChar a → length a ≡ 0 → ⊥
+char-long a c e = suc-ne-zero (pred (length (c .0))) (sym (sym e ∙ c .3 ∙ pred-of (length (c .0)) (sequence-pos (c .0) (c .1))))
+
+empty-head : (a b : List ℕ) → a ++ b ≡ [] → length a ≡ 0
+empty-head [] b e = refl
+empty-head (x ∷ a) b e = absurd (suc-ne-zero (length (a ++ b)) (ap length e))
+
+text-rest : (cs ds : List (List ℕ)) (r : List ℕ) → All IsChar cs → All IsChar ds → join cs ++ r ≡ join ds → IsText r
+text-rest [] ds r f g e = (ds, g, e)
+text-rest (a ∷ cs) [] r f g e = absurd (char-long a (f .0) (empty-head a (join cs ++ r) (sym (append-assoc a (join cs) r) ∙ e)))
+text-rest (a ∷ cs) (d ∷ ds) r f g e =
+    let e′ : a ++ (join cs ++ r) ≡ d ++ join ds = sym (append-assoc a (join cs) r) ∙ e in
+    let h : a ≡ d = char-unique a d (join cs ++ r) (join ds) (f .0) (g .0) e′ in
+    text-rest cs ds r (f .1) (g .1)
+    (sym (drop-append-seam a (join cs ++ r)) ∙ ap (drop (length a)) (e′ ∙ ap (λ (b : List ℕ). b ++ join ds) (sym h)) ∙ drop-append-seam a (join ds))
+
+-- A text that is not empty begins with a character.
+text-begins : (x : ℕ) (s : List ℕ) → IsText (x ∷ s) → sequenceAt (x ∷ s) ≡ none → ⊥
+text-begins x s ([], f, q) e = suc-ne-zero (length s) (ap length q)
+text-begins x s (a ∷ cs, f, q) e = Option·none-ne-some (f .0 .0) (sym e ∙ ap sequenceAt q ∙ sequence-of-char a (join cs) (f .0))
+
+-- ---- the moves
+
+replaced-cut : (ms : List Move) → replaced (cut ms) ≡ replaced ms
+replaced-cut [] = refl
+replaced-cut (keep a ∷ ms) = replaced-singly a (cut ms) ∙ replaced-cut ms
+replaced-cut (swap a b ∷ ms) = ap suc (replaced-cut ms)
+replaced-cut (stop ∷ ms) = replaced-cut ms
+
+-- No replaced character begins with a byte 80 to BF.
+abbrev leads : List ℕ → Bool
+leads [] = false
+leads (x ∷ k) = not (isTail x)
+
+tail-plain : (c : Context) (y : ℕ) (s : List ℕ) → T (isTail y) → barred (replacedChars c) (y ∷ s) ≡ false
+tail-plain c y s t = is-false (barred (replacedChars c) (y ∷ s)) (λ b. let (k, i, h) = any-in (λ (k : List ℕ). stands k (y ∷ s)) (replacedChars c) b in go k (all-in leads (replacedChars c) (every (λ (c : Context). all leads (replacedChars c)) tt c) k i) h)
+  where
+    go : (k : List ℕ) → T (leads k) → T (stands k (y ∷ s)) → ⊥
+    go [] l h = l
+    go (x ∷ k) l h = T-not (isTail x) l (subst (λ (z : ℕ). T (isTail z)) (sym (eqb→eq x y (and-left (eqb x y) (stands k s) h))) t)
+
+module _ (c : Context) where
+  units-read : Reads (IsUnit (rows c) (replacedChars c)) (readStep c)
+  unfolding readStep
+  units-read = table-reads (rows c) (replacedChars c) (values-code c)
+
+  byte-keeps : (a : List ℕ) → IsUnit (rows c) (replacedChars c) (keep a) → (r : List ℕ) → Follows (byteStep c) (singly a) r
+  byte-keeps [] u r = tt
+  byte-keeps (x ∷ a) u r =
+      char-singly (byteStep c) (λ p y s t. keeps-plain c p y s (tail-plain c y s t)) x a r (u .0)
+      (λ p. keeps-plain c p x (a ++ r)
+      (is-false (barred (replacedChars c) (x ∷ (a ++ r)))
+      (λ b. let (k, i, h) = any-in (λ (k : List ℕ). stands k (x ∷ (a ++ r))) (replacedChars c) b in
+      bar-stops value (rows c) (replacedChars c) (values-code c) (x ∷ a) r u k i h)))
+
+  byte-swaps : (v k : List ℕ) → IsUnit (rows c) (replacedChars c) (swap v k) → (r : List ℕ) → Makes (byteStep c) (swap v k) r
+  unfolding byteStep
+  byte-swaps v k i r = (
+    pred (length v),
+    row-length value (rows c) (replacedChars c) (values-code c) (k, v) i,
+    λ p. ap (λ (o : Option Row). undo o (unless (barred (replacedChars c) (v ++ r)) (keepByte (v ++ r)))) (row-first value (rows c) (replacedChars c) (values-code c) (k, v) i r),
+  )
+
+  -- Where the one reader stops before a text, so does the other.
+  byte-stops : (r : List ℕ) → IsText r → Ends (readStep c) r → (q : ℕ) → moves (byteStep c) q 0 r ≡ []
+  unfolding readStep byteStep
+  byte-stops [] t end q = refl
+  byte-stops (x ∷ s) t end q = ap (λ (m : Move). andThen m (moves (byteStep c) x (pred (length (takes m))) s)) (go (rowAt value (rows c) (x ∷ s)) (barred (replacedChars c) (x ∷ s)) (sequenceAt (x ∷ s)) refl (end .1))
+    where
+      go : (o : Option Row) (b : Bool) (w : Option (List Range)) → sequenceAt (x ∷ s) ≡ w → undo o (unless b (keepChar w (x ∷ s))) ≡ stop → undo o (unless b (keep (x ∷ []))) ≡ stop
+      go (some e) b w h f = f
+      go none true w h f = refl
+      go none false none h f = absurd (text-begins x s t h)
+      go none false (some z) h f = absurd (let z : _≡_ {A = ℕ} 0 1 = cc in omega arith)
+
+  -- The moves of the one are those of the other, byte by byte.
+  byte-moves : (t : List ℕ) → validTo t ≡ length t → through (byteStep c) t ≡ cut (through (readStep c) t)
+  byte-moves t h =
+      let ms = through (readStep c) t in
+      let (g, r, e, end) = moves-fair (IsUnit (rows c) (replacedChars c)) (readStep c) (units-read .fair) 0 0 t in
+      let (cs, f, q) = valid-iff t .1 h in
+      let (ds, f′, q′) = run-text c ms g in
+      let left = text-rest ds cs r f′ f (ap (λ (a : List ℕ). a ++ r) (sym q′) ∙ sym e ∙ q) in
+      let (p, w) = retrace (byteStep c) 0 (cut ms) r (follows-cut (byteStep c) (IsUnit (rows c) (replacedChars c)) byte-keeps byte-swaps ms g r) in
+      ap (through (byteStep c)) (e ∙ ap (λ (a : List ℕ). a ++ r) (sym (taken-cut ms))) ∙ w ∙ ap (λ (ns : List Move). cut ms ++ ns) (byte-stops r left end p) ∙ append-nil (cut ms)
+
+  pub byte-result : (t : List ℕ) → validTo t ≡ length t → result (through (byteStep c) t) ≡ readOf c t
+  byte-result t h = ap result (byte-moves t h) ∙ result-cut (through (readStep c) t)
+
+  byte-place : (t : List ℕ) → validTo t ≡ length t → place (through (byteStep c) t) ≡ readTo c t
+  byte-place t h = ap place (byte-moves t h) ∙ ap length (taken-cut (through (readStep c) t))
+
+  byte-replaced : (t : List ℕ) → validTo t ≡ length t → replaced (through (byteStep c) t) ≡ replaced (through (readStep c) t)
+  byte-replaced t h = ap replaced (byte-moves t h) ∙ replaced-cut (through (readStep c) t)
+
+  -- A loop that has counted all of the one reader's moves has the numbers of the other.
+  pub read-counted : (t : List ℕ) (i n k : ℕ) → validTo t ≡ length t → Counted (byteStep c) t i n k → from (byteStep c) t i ≡ []
+      → (n ≡ length (readOf c t)) × (i ≡ readTo c t) × (eqb k 0 ≡ eqb (replaced (through (readStep c) t)) 0)
+  read-counted t i n k h f e =
+      let (long, many, far) = counted-end f e in
+      (long ∙ ap length (byte-result t h), far ∙ byte-place t h, ap (λ (k : ℕ). eqb k 0) (many ∙ byte-replaced t h))

@@ -1,0 +1,4 @@
+pub mod Barred
+pub mod Bytewise
+pub mod Narrow
+pub mod Scanning
