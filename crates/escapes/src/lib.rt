@@ -13,7 +13,7 @@ ghost use Rattle.escapes.specs.Strings.{stringOf, nameOf};
 use rules::Escape;
 use rules::Quotes;
 
-pub mod heads;
+pub mod digits;
 pub mod rows;
 
 // The two escapes of older pages, where the byte before in the input is `<`: `\!--` yields `!` for the `\!`, and `\/` yields `/` before the
@@ -27,7 +27,7 @@ fn after_less(style: bool, before: u8, rest: &[u8]) -> Escape
     if heads::starts(b"\\!--", rest) {
         return Escape::Taken(2, 33);
     }
-    if heads::closes_element(style, rest) {
+    if digits::closes_element(style, rest) {
         return Escape::Taken(2, 47);
     }
     Escape::Nothing

@@ -5,7 +5,7 @@ ghost use Rattle.rules.specs.Bytes.{oneOf};
 ghost use Rattle.rules.specs.Tables.{rows};
 ghost use Rattle.escapes.specs.Finds.{Finds};
 ghost use Rattle.escapes.specs.Strings.{stringOf, slashedBytes, afterSlash, hexEscape, isHexed, separators};
-use crate::heads;
+use crate::digits;
 use rules::Escape;
 use rules::Quotes;
 
@@ -41,9 +41,9 @@ fn hex_escape(style: bool, rest: &[u8]) -> u32
     ensures { λ r. ⌜ r ≡ hexEscape style (now (rest .entry)) ⌝ }
 {
     if style {
-        return heads::hex_between(b"\\", b" ", rest);
+        return digits::hex_between(b"\\", b" ", rest);
     }
-    heads::hex_between(b"\\x", b"", rest)
+    digits::hex_between(b"\\x", b"", rest)
 }
 
 // Whether the string writes the byte of this value as a hex escape.

@@ -27,7 +27,7 @@ use Rattle.rules.proofs.Loops.{drop-next}
 use Rattle.rules.proofs.Quiet.{Keeps}
 use Rattle.parts.proofs.Filled.{lent-rest}
 use Rattle.escapes.specs.Finds.{Finds}
-use Rattle.escapes.proofs.Standing.{agree, agreed}
+use Rattle.heads.proofs.Standing.{agree, agreed}
 use Rattle.reader.specs.Bars.{htmlBars, barsOf, isBar, isWhole, Clear}
 use Rattle.reader.specs.Units.{byteStep}
 

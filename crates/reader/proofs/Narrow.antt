@@ -25,7 +25,7 @@ use Rattle.rules.proofs.EveryByte.{every-byte}
 use Rattle.escapes.specs.Finds.{Finds}
 use Rattle.escapes.specs.Hex.{hexBetween}
 use Rattle.escapes.proofs.Finding.{Coded, finds-byte, finds-no-byte, utf8-ascii, one-of-in}
-use Rattle.escapes.proofs.Standing.{agree, agreed}
+use Rattle.heads.proofs.Standing.{agree, agreed}
 use Rattle.escapes.proofs.Hex.{pair-digits, stands-between}
 use Rattle.reader.specs.Bars.{htmlBars, isBar}
 use Rattle.reader.specs.Units.{isOther}

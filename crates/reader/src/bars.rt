@@ -4,7 +4,6 @@ ghost use mathlib.Core.Path.{_≡_};
 ghost use Prim.Native.Nat.{ℕ, _≤_, _<_};
 ghost use lib.ListN.{length, getD};
 ghost use Rattle.reader.specs.Bars.{htmlBars, stringBars, barsOf, isBar, isWhole, Near, Clear};
-use escapes::heads;
 use rules::Context;
 use rules::Html;
 use rules::Quotes;

@@ -6,7 +6,7 @@ ghost use Rattle.rules.specs.declared.Html.the-variants.{Unquoted};
 ghost use Rattle.escapes.specs.Finds.{Finds};
 ghost use Rattle.reader.specs.Units.{isOther, ForByte};
 use crate::bars;
-use escapes::heads;
+use escapes::digits;
 use escapes::rows;
 use rules::Context;
 use rules::Escape;
@@ -64,7 +64,7 @@ fn reference(rest: &[u8]) -> Escape
     if heads::starts(b"&quot;", rest) {
         return Escape::Taken(6, 0x22);
     }
-    let v = heads::hex_between(b"&#x", b";", rest);
+    let v = digits::hex_between(b"&#x", b";", rest);
     if is_other(v) {
         return Escape::Taken(6, v);
     }

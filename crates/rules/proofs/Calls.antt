@@ -19,6 +19,7 @@ use Rattle.rules.specs.Utf8.{IsText, IsFree}
 use Rattle.rules.specs.Units.{unread, undecoded}
 use Rattle.rules.specs.Operations.{ruleOf, encodeOf}
 use Rattle.rules.specs.Refusals.{Call, Case, bad-context, too-long, not-utf8, not-a-form, lent, no-room, written, NoForm, Given, movesIn, caseOf, sameOf, answer, answerAt, outAt, textLimit, call, answerOf, outOf, viewOf}
+use Rattle.rules.specs.declared.Answer.{Answer}
 use Rattle.rules.specs.declared.Context.{Context}
 use Rattle.rules.specs.declared.Context.the-variants.{InHtml, InScript, InStyle}
 use Rattle.rules.specs.declared.Operation.{Operation}
@@ -231,3 +232,10 @@ module _ (c : Context) (borrows : Bool) (t out : List ℕ) where
   back-long o known long =
       ap (λ (row : Case). answerAt row (encodeOf c t) (movesIn (call o (Units c) borrows (encodeOf c t) out)))
       (case-iff (call o (Units c) borrows (encodeOf c t) out) too-long .1 (long, (known, tt)))
+
+-- ---- a contract allows one result
+
+-- Two answers, and two outputs, that a call's contract allows are equal.
+pub determined : (o : Operation) (n : Named) (borrows : Bool) (t out : List ℕ) (a b : Answer) (x y : List ℕ)
+    → (a ≡ answerOf o n borrows t out) × (x ≡ outOf o n borrows t out) → (b ≡ answerOf o n borrows t out) × (y ≡ outOf o n borrows t out) → (a ≡ b) × (x ≡ y)
+determined o n borrows t out a b x y p q = (p .0 ∙ sym (q .0), p .1 ∙ sym (q .1))

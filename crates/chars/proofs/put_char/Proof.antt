@@ -1,124 +1,94 @@
+-- `put_char` meets its contract: each return writes the bytes of one width of the definition.
+-- Assumes nothing.
 use borrow.Author.Tests.{lt-ltb, le-ltb}
 use borrow.Author.Needs.{needs}
-use Rattle.chars.proofs.put_char.Statement.{statement}
 use Rattle.chars.proofs.put_char.Tie as tie
-use Rattle.chars.proofs.put_char.Reads as reads
-use Rattle.chars.proofs.put_char.Lts as lts
-use Rattle.parts.proofs.put.Reads as put-reads
+use Rattle.chars.proofs.put_char.Statement.{statement}
 
--- src/chars.rt:30:29
 cast-t8 : tie.Need-cast-t8
 cast-t8 c = search needs
 
--- src/chars.rt:30:27
 slice-aggregate-put : tie.Need-slice-aggregate-put
 slice-aggregate-put c = search needs
 
--- src/chars.rt:30:9
 put-requires : tie.Need-put-requires
 put-requires c κs = rw (lt-ltb (c .before .before .before .before .args .number) 128 (c .before .before .if1 .taken)) at (c .before .before .before .before .pre .1)
 
--- src/chars.rt:30:9
 same-length : tie.Need-same-length
 same-length c = search needs
 
--- src/chars.rt:30:9
 returns : tie.Need-returns
 returns c = rw (lt-ltb (c .before .before .before .before .before .before .before .args .number) 128 (c .before .before .before .before .before .if1 .taken)) (c .before .before .put .ensures)
 
--- src/chars.rt:32:17
 add-last : tie.Need-add-last
 add-last c = search needs
 
--- src/chars.rt:32:16
 cast-last : tie.Need-cast-last
 cast-last c = search needs
 
--- src/chars.rt:34:30
 add-t17 : tie.Need-add-t17
 add-t17 c = search needs
 
--- src/chars.rt:34:29
 cast-t18 : tie.Need-cast-t18
 cast-t18 c = search needs
 
--- src/chars.rt:34:27
 slice-aggregate-put-2 : tie.Need-slice-aggregate-put-2
 slice-aggregate-put-2 c = search needs
 
--- src/chars.rt:34:9
 put-requires-2 : tie.Need-put-requires-2
 put-requires-2 c κs = rw (le-ltb (c .before .before .before .before .before .args .number) 128 (c .before .before .before .if1 .left), lt-ltb (c .before .before .before .before .before .args .number) 2048 (c .before .before .if2 .taken)) at (c .before .before .before .before .before .pre .1)
 
--- src/chars.rt:34:9
 same-length-2 : tie.Need-same-length-2
 same-length-2 c = search needs
 
--- src/chars.rt:34:9
 returns-2 : tie.Need-returns-2
 returns-2 c = rw (le-ltb (c .before .before .before .before .before .before .before .before .args .number) 128 (c .before .before .before .before .before .before .if1 .left), lt-ltb (c .before .before .before .before .before .before .before .before .args .number) 2048 (c .before .before .before .before .before .if2 .taken)) (c .before .before .put2 .ensures)
 
--- src/chars.rt:36:18
 add-third : tie.Need-add-third
 add-third c = search needs
 
--- src/chars.rt:36:17
 cast-third : tie.Need-cast-third
 cast-third c = search needs
 
--- src/chars.rt:38:30
 add-t26 : tie.Need-add-t26
 add-t26 c = search needs
 
--- src/chars.rt:38:29
 cast-t27 : tie.Need-cast-t27
 cast-t27 c = search needs
 
--- src/chars.rt:38:27
 slice-aggregate-put-3 : tie.Need-slice-aggregate-put-3
 slice-aggregate-put-3 c = search needs
 
--- src/chars.rt:38:9
 put-requires-3 : tie.Need-put-requires-3
 put-requires-3 c κs = rw (le-ltb (c .before .before .before .before .before .before .args .number) 128 (c .before .before .before .before .if1 .left), le-ltb (c .before .before .before .before .before .before .args .number) 2048 (c .before .before .before .if2 .left), lt-ltb (c .before .before .before .before .before .before .args .number) 65536 (c .before .before .if3 .taken)) at (c .before .before .before .before .before .before .pre .1)
 
--- src/chars.rt:38:9
 same-length-3 : tie.Need-same-length-3
 same-length-3 c = search needs
 
--- src/chars.rt:38:9
 returns-3 : tie.Need-returns-3
 returns-3 c = rw (le-ltb (c .before .before .before .before .before .before .before .before .before .args .number) 128 (c .before .before .before .before .before .before .before .if1 .left), le-ltb (c .before .before .before .before .before .before .before .before .before .args .number) 2048 (c .before .before .before .before .before .before .if2 .left), lt-ltb (c .before .before .before .before .before .before .before .before .before .args .number) 65536 (c .before .before .before .before .before .if3 .taken)) (c .before .before .put3 .ensures)
 
--- src/chars.rt:40:19
 add-second : tie.Need-add-second
 add-second c = search needs
 
--- src/chars.rt:40:18
 cast-second : tie.Need-cast-second
 cast-second c = search needs
 
--- src/chars.rt:41:19
 add-t13 : tie.Need-add-t13
 add-t13 c = search needs
 
--- src/chars.rt:41:18
 cast-t33 : tie.Need-cast-t33
 cast-t33 c = search needs
 
--- src/chars.rt:41:16
 slice-aggregate-put-4 : tie.Need-slice-aggregate-put-4
 slice-aggregate-put-4 c = search needs
 
--- src/chars.rt:41:5
 put-requires-4 : tie.Need-put-requires-4
 put-requires-4 c κs = rw (le-ltb (c .before .before .before .before .before .before .args .number) 128 (c .before .before .before .before .if1 .left), le-ltb (c .before .before .before .before .before .before .args .number) 2048 (c .before .before .before .if2 .left), le-ltb (c .before .before .before .before .before .before .args .number) 65536 (c .before .before .if3 .left)) at (c .before .before .before .before .before .before .pre .1)
 
--- src/chars.rt:25:1
 same-length-4 : tie.Need-same-length-4
 same-length-4 c = search needs
 
--- src/chars.rt:25:1
 returns-4 : tie.Need-returns-4
 returns-4 c = rw (le-ltb (c .before .before .before .before .before .before .before .before .before .args .number) 128 (c .before .before .before .before .before .before .before .if1 .left), le-ltb (c .before .before .before .before .before .before .before .before .before .args .number) 2048 (c .before .before .before .before .before .before .if2 .left), le-ltb (c .before .before .before .before .before .before .before .before .before .args .number) 65536 (c .before .before .before .before .before .if3 .left)) (c .before .before .put4 .ensures)
 

@@ -1,23 +1,19 @@
-use Rattle.escapes.proofs.Strings.{before-at}
+-- `byte_before` meets its contract: the start of the text, or the byte one place back.
+-- Assumes nothing.
 use borrow.Author.Needs.{needs}
-use Rattle.escapes.proofs.byte_before.Statement.{statement}
+use Rattle.escapes.proofs.Strings.{before-at}
 use Rattle.escapes.proofs.byte_before.Tie as tie
-use Rattle.escapes.proofs.byte_before.Reads as reads
-use Rattle.escapes.proofs.byte_before.Lts as lts
+use Rattle.escapes.proofs.byte_before.Statement.{statement}
 
--- src/lib.rt:53:9
 returns : tie.Need-returns
 returns c = search needs
 
--- src/lib.rt:55:10
 sub-result : tie.Need-sub-result
 sub-result c = search needs
 
--- src/lib.rt:55:5
 shared-slice-read-result : tie.Need-shared-slice-read-result
 shared-slice-read-result c = search needs
 
--- src/lib.rt:48:1
 returns-2 : tie.Need-returns-2
 returns-2 c = before-at (c .before .before .args .text .now) (c .before .before .args .i) (λ z. c .before .if1 .left z)
 

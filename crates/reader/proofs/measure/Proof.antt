@@ -1,22 +1,18 @@
-use Rattle.reader.proofs.Bytewise.{read-counted}
-use Rattle.reader.proofs.Barred.{clear-keeps, unit-here, no-unit-here}
+-- `measure` meets its contract: what is counted so far, with what the reader makes of the rest, is what it makes of the whole. The measure is what is left of the text.
+-- Assumes nothing.
+use Prim.Native.Nat.{_-_}
+use native.Mathlib.Omega.{arith}
+use borrow.Author.Needs.{needs}
+use lib.ListN.{length}
+use Rattle.rules.proofs.Loops.{from-end, from-stop}
+use Rattle.rules.specs.Utf8.{utf8}
 use Rattle.reader.specs.Units.{byteStep}
 use Rattle.escapes.proofs.Strings.{within-rest}
 use Rattle.parts.proofs.Counted.{Counted, counted-start, counted-quiet, counted-swap, less-left}
-use Rattle.rules.proofs.Loops.{from-end, from-stop}
-use Rattle.rules.specs.Utf8.{utf8}
-use borrow.Author.Needs.{needs}
-use lib.ListN.{length}
-use native.Mathlib.Omega.{arith}
-use Prim.Native.Nat.{ℕ, _+_, _-_, _*_, _≤_, _<_}
-use Rattle.reader.proofs.measure.Statement.{statement}
+use Rattle.reader.proofs.Bytewise.{read-counted}
+use Rattle.reader.proofs.Barred.{clear-keeps, unit-here, no-unit-here}
 use Rattle.reader.proofs.measure.Tie as tie
-use Rattle.reader.proofs.measure.Reads as reads
-use Rattle.reader.proofs.measure.Lts as lts
-use Rattle.chars.proofs.char_length.Reads as char-length-reads
-use Rattle.reader.proofs.bars.bars_of.Reads as bars-of-reads
-use Rattle.reader.proofs.bars.next_bar.Reads as next-bar-reads
-use Rattle.reader.proofs.units.unit.Reads as unit-reads
+use Rattle.reader.proofs.measure.Statement.{statement}
 
 abbrev Inv-loop : tie.InvT-loop
 Inv-loop c text bars n₀ k₀ i₀ n k i = Counted (byteStep c) text i n k
@@ -24,83 +20,63 @@ Inv-loop c text bars n₀ k₀ i₀ n k i = Counted (byteStep c) text i n k
 abbrev μ-loop : tie.MeasureT-loop
 μ-loop c text bars n₀ k₀ i₀ n k i = length text - i
 
--- src/lib.rt:29:16
 bars-of-requires : tie.Need-bars-of-requires Inv-loop μ-loop
 bars-of-requires c κs = search needs
 
--- src/lib.rt:33:5
 loop-holds : tie.Need-loop-holds Inv-loop μ-loop
 loop-holds c = counted-start (byteStep (c .before .before .args .c)) (c .before .before .args .text .now)
 
--- src/lib.rt:34:13
 next-bar-requires : tie.Need-next-bar-requires Inv-loop μ-loop
 next-bar-requires c κs = search needs
 
--- src/lib.rt:35:19
 sub-length : tie.Need-sub-length Inv-loop μ-loop
 sub-length c = search needs
 
--- src/lib.rt:35:9
 add-length : tie.Need-add-length Inv-loop μ-loop
 add-length c = search needs
 
--- src/lib.rt:37:13
 returns : tie.Need-returns Inv-loop μ-loop
 returns c = read-counted (c .before .before .before .before .before .before .before .args .c) (c .before .before .before .before .before .before .before .args .text .now) (c .before .next-bar .result) _ _ (c .before .before .before .before .before .before .before .pre .1) (counted-quiet (c .before .before .before .before .loop .inv) (c .before .next-bar .result) (c .before .next-bar .ensures .after) (c .before .next-bar .ensures .within) (clear-keeps (c .before .before .before .before .before .before .before .args .c) (c .before .before .before .before .before .before .before .args .text .now) (λ k. c .before .before .before .before .before .before .shared-slice-known .given k .fits) (c .before .before .before .before .loop .i) (c .before .next-bar .result) (rw (c .before .before .before .before .before .bars-of .ensures) at (c .before .next-bar .ensures)))) (from-end (byteStep (c .before .before .before .before .before .before .before .args .c)) (c .before .before .before .before .before .before .before .args .text .now) (c .before .next-bar .result) (omega arith))
 
--- src/lib.rt:39:51
 sub-unit : tie.Need-sub-unit Inv-loop μ-loop
 sub-unit c = search needs
 
--- src/lib.rt:39:51
 part-unit-start : tie.Need-part-unit-start Inv-loop μ-loop
 part-unit-start c = search needs
 
--- src/lib.rt:39:51
 part-unit-end : tie.Need-part-unit-end Inv-loop μ-loop
 part-unit-end c = search needs
 
--- src/lib.rt:39:36
 unit-requires : tie.Need-unit-requires Inv-loop μ-loop
 unit-requires c κs = search needs
 
--- src/lib.rt:39:27
 enum-known-n : tie.Need-enum-known-n Inv-loop μ-loop
 enum-known-n c = search needs
 
--- src/lib.rt:40:55
 enum-told : tie.Need-enum-told Inv-loop μ-loop
 enum-told c = search needs
 
--- src/lib.rt:40:13
 returns-2 : tie.Need-returns-2 Inv-loop μ-loop
 returns-2 c = read-counted (c .before .before .before .before .before .before .before .before .before .before .before .args .c) (c .before .before .before .before .before .before .before .before .before .before .before .args .text .now) (c .before .before .before .before .before .next-bar .result) _ _ (c .before .before .before .before .before .before .before .before .before .before .before .pre .1) (counted-quiet (c .before .before .before .before .before .before .before .before .loop .inv) (c .before .before .before .before .before .next-bar .result) (c .before .before .before .before .before .next-bar .ensures .after) (c .before .before .before .before .before .next-bar .ensures .within) (clear-keeps (c .before .before .before .before .before .before .before .before .before .before .before .args .c) (c .before .before .before .before .before .before .before .before .before .before .before .args .text .now) (λ k. c .before .before .before .before .before .before .before .before .before .before .shared-slice-known .given k .fits) (c .before .before .before .before .before .before .before .before .loop .i) (c .before .before .before .before .before .next-bar .result) (rw (c .before .before .before .before .before .before .before .before .before .bars-of .ensures) at (c .before .before .before .before .before .next-bar .ensures)))) (from-stop (byteStep (c .before .before .before .before .before .before .before .before .before .before .before .args .c)) (c .before .before .before .before .before .before .before .before .before .before .before .args .text .now) (c .before .before .before .before .before .next-bar .result) (omega arith) (no-unit-here (c .before .before .before .before .before .before .before .before .before .before .before .args .c) (c .before .before .before .before .before .before .before .before .before .before .before .args .text .now) (λ k. c .before .before .before .before .before .before .before .before .before .before .shared-slice-known .given k .fits) (c .before .before .before .before .before .before .before .before .loop .i) (c .before .before .before .before .before .next-bar .result) (rw (c .before .before .before .before .before .before .before .before .before .bars-of .ensures) at (c .before .before .before .before .before .next-bar .ensures)) (omega arith) (rw (c .enum-told .given .1) at (c .before .before .unit .ensures))))
 
--- src/lib.rt:42:19
 char-length-requires : tie.Need-char-length-requires Inv-loop μ-loop
 char-length-requires c κs = search needs
 
--- src/lib.rt:42:9
 add-length-2 : tie.Need-add-length-2 Inv-loop μ-loop
 add-length-2 c = let w = within-rest (c .before .before .before .before .before .before .before .before .before .before .before .before .before .args .text .now) (c .before .before .before .before .before .before .before .next-bar .result) (c .before .before .n .given .0 .0) (c .before .before .n .given .0 .1 .0) ((rw (c .before .before .n .given .1) at (c .before .before .before .before .unit .ensures)) .within) in omega (arith, w .1, w .2, c .char-length .ensures .0)
 
--- src/lib.rt:43:9
 add-units : tie.Need-add-units Inv-loop μ-loop
 add-units c = search needs
 
--- src/lib.rt:44:13
 add-i : tie.Need-add-i Inv-loop μ-loop
 add-i c = let w = within-rest (c .before .before .before .before .before .before .before .before .before .before .before .before .before .args .text .now) (c .before .before .before .before .before .before .before .next-bar .result) (c .before .before .n .given .0 .0) (c .before .before .n .given .0 .1 .0) ((rw (c .before .before .n .given .1) at (c .before .before .before .before .unit .ensures)) .within) in omega (arith, w .1)
 
--- src/lib.rt:33:5
 loop-less : tie.Need-loop-less Inv-loop μ-loop
 loop-less c = let w = within-rest (c .before .before .before .before .before .before .before .before .before .before .before .before .before .args .text .now) (c .before .before .before .before .before .before .before .next-bar .result) (c .before .before .n .given .0 .0) (c .before .before .n .given .0 .1 .0) ((rw (c .before .before .n .given .1) at (c .before .before .before .before .unit .ensures)) .within) in less-left (length (c .before .before .before .before .before .before .before .before .before .before .before .before .before .args .text .now)) (c .before .before .before .before .before .before .before .before .before .before .loop .i) (c .before .before .before .before .before .before .before .next-bar .result) (c .before .before .n .given .0 .0) (c .before .before .before .before .before .before .before .next-bar .ensures .after) (w .0) (w .1)
 
--- src/lib.rt:33:5
 loop-again : tie.Need-loop-again Inv-loop μ-loop
 loop-again c = let w = within-rest (c .before .before .before .before .before .before .before .before .before .before .before .before .before .args .text .now) (c .before .before .before .before .before .before .before .next-bar .result) (c .before .before .n .given .0 .0) (c .before .before .n .given .0 .1 .0) ((rw (c .before .before .n .given .1) at (c .before .before .before .before .unit .ensures)) .within) in rw (c .char-length .ensures .0) (counted-swap (counted-quiet (c .before .before .before .before .before .before .before .before .before .before .loop .inv) (c .before .before .before .before .before .before .before .next-bar .result) (c .before .before .before .before .before .before .before .next-bar .ensures .after) (c .before .before .before .before .before .before .before .next-bar .ensures .within) (clear-keeps (c .before .before .before .before .before .before .before .before .before .before .before .before .before .args .c) (c .before .before .before .before .before .before .before .before .before .before .before .before .before .args .text .now) (λ k. c .before .before .before .before .before .before .before .before .before .before .before .before .shared-slice-known .given k .fits) (c .before .before .before .before .before .before .before .before .before .before .loop .i) (c .before .before .before .before .before .before .before .next-bar .result) (rw (c .before .before .before .before .before .before .before .before .before .before .before .bars-of .ensures) at (c .before .before .before .before .before .before .before .next-bar .ensures)))) (c .before .before .n .given .0 .0) (utf8 (c .before .before .n .given .0 .1 .0)) (w .0) (w .1) (w .2) (unit-here (c .before .before .before .before .before .before .before .before .before .before .before .before .before .args .c) (c .before .before .before .before .before .before .before .before .before .before .before .before .before .args .text .now) (c .before .before .before .before .before .before .before .next-bar .result) (c .before .before .n .given .0 .0) (c .before .before .n .given .0 .1 .0) (rw (c .before .before .n .given .1) at (c .before .before .before .before .unit .ensures))))
 
--- src/lib.rt:25:1
 returns-3 : tie.Need-returns-3 Inv-loop μ-loop
 returns-3 c = read-counted (c .before .before .before .before .args .c) (c .before .before .before .before .args .text .now) (c .before .loop .i) _ _ (c .before .before .before .before .pre .1) (c .before .loop .inv) (from-end (byteStep (c .before .before .before .before .args .c)) (c .before .before .before .before .args .text .now) (c .before .loop .i) (omega arith))
 

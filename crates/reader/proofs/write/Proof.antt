@@ -1,27 +1,22 @@
-use Rattle.reader.proofs.Bytewise.{byte-result}
-use Rattle.reader.proofs.Barred.{clear-keeps, unit-here, no-unit-here}
-use Rattle.reader.specs.Units.{byteStep}
-use Rattle.escapes.proofs.Strings.{within-rest}
-use Rattle.parts.proofs.Counted.{next-quiet, next-swap, filled-all, filled-within, less-left}
-use Rattle.parts.proofs.Filled.{Filled, filled-start, filled-room, filled-next, filled-put}
+-- `write` meets its contract: what is written so far, with what the reader gives of the rest, is the result of the whole. The measure is what is left of the text.
+-- Assumes nothing.
+use mathlib.Core.Path.{ap}
+use Prim.Native.Nat.{_-_, _≤_}
+use native.Mathlib.Omega.{arith}
+use borrow.Author.Needs.{needs}
+use lib.ListN.{length}
 use Rattle.rules.proofs.Loops.{from-end, from-stop}
 use Rattle.rules.specs.Operations.{readOf}
 use Rattle.rules.specs.Utf8.{utf8}
 use Rattle.rules.specs.Moves.{result, from}
-use borrow.Author.Needs.{needs}
-use lib.ListN.{length}
-use native.Mathlib.Omega.{arith}
-use Prim.Native.Nat.{ℕ, _+_, _-_, _*_, _≤_, _<_}
-use mathlib.Core.Path.{ap}
-use Rattle.reader.proofs.write.Statement.{statement}
+use Rattle.reader.specs.Units.{byteStep}
+use Rattle.escapes.proofs.Strings.{within-rest}
+use Rattle.parts.proofs.Counted.{next-quiet, next-swap, filled-all, filled-within, less-left}
+use Rattle.parts.proofs.Filled.{Filled, filled-start, filled-room, filled-next, filled-put}
+use Rattle.reader.proofs.Bytewise.{byte-result}
+use Rattle.reader.proofs.Barred.{clear-keeps, unit-here, no-unit-here}
 use Rattle.reader.proofs.write.Tie as tie
-use Rattle.reader.proofs.write.Reads as reads
-use Rattle.reader.proofs.write.Lts as lts
-use Rattle.chars.proofs.put_char.Reads as put-char-reads
-use Rattle.parts.proofs.put.Reads as put-reads
-use Rattle.reader.proofs.bars.bars_of.Reads as bars-of-reads
-use Rattle.reader.proofs.bars.next_bar.Reads as next-bar-reads
-use Rattle.reader.proofs.units.unit.Reads as unit-reads
+use Rattle.reader.proofs.write.Statement.{statement}
 
 abbrev Inv-loop : tie.InvT-loop
 Inv-loop c text output₀ bars at₀ i₀ output at i =
@@ -30,127 +25,96 @@ Inv-loop c text output₀ bars at₀ i₀ output at i =
 abbrev μ-loop : tie.MeasureT-loop
 μ-loop c text output₀ bars at₀ i₀ output at i = length text - i
 
--- src/lib.rt:55:16
 bars-of-requires : tie.Need-bars-of-requires Inv-loop μ-loop
 bars-of-requires c κs = search needs
 
--- src/lib.rt:58:5
 loop-holds : tie.Need-loop-holds Inv-loop μ-loop
 loop-holds c = (search needs, rw (byte-result (c .before .before .before .args .c) (c .before .before .before .args .text .now) (c .before .before .before .pre .0)) (filled-start _ _ (c .before .before .before .pre .1)))
 
--- src/lib.rt:59:13
 next-bar-requires : tie.Need-next-bar-requires Inv-loop μ-loop
 next-bar-requires c κs = search needs
 
--- src/lib.rt:60:26
 sub-put : tie.Need-sub-put Inv-loop μ-loop
 sub-put c = search needs
 
--- src/lib.rt:60:26
 part-put-start : tie.Need-part-put-start Inv-loop μ-loop
 part-put-start c = search needs
 
--- src/lib.rt:60:26
 part-put-end : tie.Need-part-put-end Inv-loop μ-loop
 part-put-end c = search needs
 
--- src/lib.rt:60:39
 sub-put-2 : tie.Need-sub-put-2 Inv-loop μ-loop
 sub-put-2 c = search needs
 
--- src/lib.rt:60:39
 part-put-start-2 : tie.Need-part-put-start-2 Inv-loop μ-loop
 part-put-start-2 c = search needs
 
--- src/lib.rt:60:39
 part-put-end-2 : tie.Need-part-put-end-2 Inv-loop μ-loop
 part-put-end-2 c = search needs
 
--- src/lib.rt:60:15
 put-requires : tie.Need-put-requires Inv-loop μ-loop
 put-requires c κs = filled-room (c .before .before .before .before .before .loop .inv .1) (next-quiet (byteStep (c .before .before .before .before .before .before .before .before .before .args .c)) (c .before .before .before .before .before .before .before .before .before .args .text .now) (c .before .before .before .before .before .loop .i) (c .before .before .next-bar .result) (c .before .before .next-bar .ensures .after) (c .before .before .next-bar .ensures .within) (clear-keeps (c .before .before .before .before .before .before .before .before .before .args .c) (c .before .before .before .before .before .before .before .before .before .args .text .now) (λ k. c .before .before .before .before .before .before .before .before .shared-slice-known .given k .fits) (c .before .before .before .before .before .loop .i) (c .before .before .next-bar .result) (rw (c .before .before .before .before .before .before .bars-of .ensures) at (c .before .before .next-bar .ensures))))
 
--- src/lib.rt:60:9
 add-at : tie.Need-add-at Inv-loop μ-loop
 add-at c = omega (arith, c .before .before .put .ensures .0, filled-next (c .before .before .before .before .before .before .before .before .loop .inv .1) (next-quiet (byteStep (c .before .before .before .before .before .before .before .before .before .before .before .before .args .c)) (c .before .before .before .before .before .before .before .before .before .before .before .before .args .text .now) (c .before .before .before .before .before .before .before .before .loop .i) (c .before .before .before .before .before .next-bar .result) (c .before .before .before .before .before .next-bar .ensures .after) (c .before .before .before .before .before .next-bar .ensures .within) (clear-keeps (c .before .before .before .before .before .before .before .before .before .before .before .before .args .c) (c .before .before .before .before .before .before .before .before .before .before .before .before .args .text .now) (λ k. c .before .before .before .before .before .before .before .before .before .before .before .shared-slice-known .given k .fits) (c .before .before .before .before .before .before .before .before .loop .i) (c .before .before .before .before .before .next-bar .result) (rw (c .before .before .before .before .before .before .before .before .before .bars-of .ensures) at (c .before .before .before .before .before .next-bar .ensures)))))
 
--- src/lib.rt:62:13
 same-length : tie.Need-same-length Inv-loop μ-loop
 same-length c = search needs
 
--- src/lib.rt:62:13
 returns : tie.Need-returns Inv-loop μ-loop
 returns c = filled-all (filled-put (c .before .before .before .before .before .before .before .before .before .loop .inv .1) (next-quiet (byteStep (c .before .before .before .before .before .before .before .before .before .before .before .before .before .args .c)) (c .before .before .before .before .before .before .before .before .before .before .before .before .before .args .text .now) (c .before .before .before .before .before .before .before .before .before .loop .i) (c .before .before .before .before .before .before .next-bar .result) (c .before .before .before .before .before .before .next-bar .ensures .after) (c .before .before .before .before .before .before .next-bar .ensures .within) (clear-keeps (c .before .before .before .before .before .before .before .before .before .before .before .before .before .args .c) (c .before .before .before .before .before .before .before .before .before .before .before .before .before .args .text .now) (λ k. c .before .before .before .before .before .before .before .before .before .before .before .before .shared-slice-known .given k .fits) (c .before .before .before .before .before .before .before .before .before .loop .i) (c .before .before .before .before .before .before .next-bar .result) (rw (c .before .before .before .before .before .before .before .before .before .before .bars-of .ensures) at (c .before .before .before .before .before .before .next-bar .ensures)))) (c .before .before .before .put .last .1 .0) (c .before .before .before .put .result) (c .before .before .before .put .ensures .0) (c .before .before .before .put .ensures .1)) (ap result (from-end (byteStep (c .before .before .before .before .before .before .before .before .before .before .before .before .before .args .c)) (c .before .before .before .before .before .before .before .before .before .before .before .before .before .args .text .now) (c .before .before .before .before .before .before .next-bar .result) (omega arith)))
 
--- src/lib.rt:64:51
 sub-unit : tie.Need-sub-unit Inv-loop μ-loop
 sub-unit c = search needs
 
--- src/lib.rt:64:51
 part-unit-start : tie.Need-part-unit-start Inv-loop μ-loop
 part-unit-start c = search needs
 
--- src/lib.rt:64:51
 part-unit-end : tie.Need-part-unit-end Inv-loop μ-loop
 part-unit-end c = search needs
 
--- src/lib.rt:64:36
 unit-requires : tie.Need-unit-requires Inv-loop μ-loop
 unit-requires c κs = search needs
 
--- src/lib.rt:64:27
 enum-known-n : tie.Need-enum-known-n Inv-loop μ-loop
 enum-known-n c = search needs
 
--- src/lib.rt:65:13
 enum-told : tie.Need-enum-told Inv-loop μ-loop
 enum-told c = search needs
 
--- src/lib.rt:65:13
 same-length-2 : tie.Need-same-length-2 Inv-loop μ-loop
 same-length-2 c = search needs
 
--- src/lib.rt:65:13
 returns-2 : tie.Need-returns-2 Inv-loop μ-loop
 returns-2 c = filled-all (filled-put (c .before .before .before .before .before .before .before .before .before .before .before .before .before .loop .inv .1) (next-quiet (byteStep (c .before .before .before .before .before .before .before .before .before .before .before .before .before .before .before .before .before .args .c)) (c .before .before .before .before .before .before .before .before .before .before .before .before .before .before .before .before .before .args .text .now) (c .before .before .before .before .before .before .before .before .before .before .before .before .before .loop .i) (c .before .before .before .before .before .before .before .before .before .before .next-bar .result) (c .before .before .before .before .before .before .before .before .before .before .next-bar .ensures .after) (c .before .before .before .before .before .before .before .before .before .before .next-bar .ensures .within) (clear-keeps (c .before .before .before .before .before .before .before .before .before .before .before .before .before .before .before .before .before .args .c) (c .before .before .before .before .before .before .before .before .before .before .before .before .before .before .before .before .before .args .text .now) (λ k. c .before .before .before .before .before .before .before .before .before .before .before .before .before .before .before .before .shared-slice-known .given k .fits) (c .before .before .before .before .before .before .before .before .before .before .before .before .before .loop .i) (c .before .before .before .before .before .before .before .before .before .before .next-bar .result) (rw (c .before .before .before .before .before .before .before .before .before .before .before .before .before .before .bars-of .ensures) at (c .before .before .before .before .before .before .before .before .before .before .next-bar .ensures)))) (c .before .before .before .before .before .before .before .put .last .1 .0) (c .before .before .before .before .before .before .before .put .result) (c .before .before .before .before .before .before .before .put .ensures .0) (c .before .before .before .before .before .before .before .put .ensures .1)) (ap result (from-stop (byteStep (c .before .before .before .before .before .before .before .before .before .before .before .before .before .before .before .before .before .args .c)) (c .before .before .before .before .before .before .before .before .before .before .before .before .before .before .before .before .before .args .text .now) (c .before .before .before .before .before .before .before .before .before .before .next-bar .result) (omega arith) (no-unit-here (c .before .before .before .before .before .before .before .before .before .before .before .before .before .before .before .before .before .args .c) (c .before .before .before .before .before .before .before .before .before .before .before .before .before .before .before .before .before .args .text .now) (λ k. c .before .before .before .before .before .before .before .before .before .before .before .before .before .before .before .before .shared-slice-known .given k .fits) (c .before .before .before .before .before .before .before .before .before .before .before .before .before .loop .i) (c .before .before .before .before .before .before .before .before .before .before .next-bar .result) (rw (c .before .before .before .before .before .before .before .before .before .before .before .before .before .before .bars-of .ensures) at (c .before .before .before .before .before .before .before .before .before .before .next-bar .ensures)) (omega arith) (rw (c .enum-told .given .1) at (c .before .before .unit .ensures)))))
 
--- src/lib.rt:67:35
 sub-put-char : tie.Need-sub-put-char Inv-loop μ-loop
 sub-put-char c = filled-within (filled-put (c .before .before .before .before .before .before .before .before .before .before .before .before .before .before .loop .inv .1) (next-quiet (byteStep (c .before .before .before .before .before .before .before .before .before .before .before .before .before .before .before .before .before .before .args .c)) (c .before .before .before .before .before .before .before .before .before .before .before .before .before .before .before .before .before .before .args .text .now) (c .before .before .before .before .before .before .before .before .before .before .before .before .before .before .loop .i) (c .before .before .before .before .before .before .before .before .before .before .before .next-bar .result) (c .before .before .before .before .before .before .before .before .before .before .before .next-bar .ensures .after) (c .before .before .before .before .before .before .before .before .before .before .before .next-bar .ensures .within) (clear-keeps (c .before .before .before .before .before .before .before .before .before .before .before .before .before .before .before .before .before .before .args .c) (c .before .before .before .before .before .before .before .before .before .before .before .before .before .before .before .before .before .before .args .text .now) (λ k. c .before .before .before .before .before .before .before .before .before .before .before .before .before .before .before .before .before .shared-slice-known .given k .fits) (c .before .before .before .before .before .before .before .before .before .before .before .before .before .before .loop .i) (c .before .before .before .before .before .before .before .before .before .before .before .next-bar .result) (rw (c .before .before .before .before .before .before .before .before .before .before .before .before .before .before .before .bars-of .ensures) at (c .before .before .before .before .before .before .before .before .before .before .before .next-bar .ensures)))) (c .before .before .before .before .before .before .before .before .put .last .1 .0) (c .before .before .before .before .before .before .before .before .put .result) (c .before .before .before .before .before .before .before .before .put .ensures .0) (c .before .before .before .before .before .before .before .before .put .ensures .1))
 
--- src/lib.rt:67:35
 part-put-char-start : tie.Need-part-put-char-start Inv-loop μ-loop
 part-put-char-start c = filled-within (filled-put (c .before .before .before .before .before .before .before .before .before .before .before .before .before .before .loop .inv .1) (next-quiet (byteStep (c .before .before .before .before .before .before .before .before .before .before .before .before .before .before .before .before .before .before .args .c)) (c .before .before .before .before .before .before .before .before .before .before .before .before .before .before .before .before .before .before .args .text .now) (c .before .before .before .before .before .before .before .before .before .before .before .before .before .before .loop .i) (c .before .before .before .before .before .before .before .before .before .before .before .next-bar .result) (c .before .before .before .before .before .before .before .before .before .before .before .next-bar .ensures .after) (c .before .before .before .before .before .before .before .before .before .before .before .next-bar .ensures .within) (clear-keeps (c .before .before .before .before .before .before .before .before .before .before .before .before .before .before .before .before .before .before .args .c) (c .before .before .before .before .before .before .before .before .before .before .before .before .before .before .before .before .before .before .args .text .now) (λ k. c .before .before .before .before .before .before .before .before .before .before .before .before .before .before .before .before .before .shared-slice-known .given k .fits) (c .before .before .before .before .before .before .before .before .before .before .before .before .before .before .loop .i) (c .before .before .before .before .before .before .before .before .before .before .before .next-bar .result) (rw (c .before .before .before .before .before .before .before .before .before .before .before .before .before .before .before .bars-of .ensures) at (c .before .before .before .before .before .before .before .before .before .before .before .next-bar .ensures)))) (c .before .before .before .before .before .before .before .before .put .last .1 .0) (c .before .before .before .before .before .before .before .before .put .result) (c .before .before .before .before .before .before .before .before .put .ensures .0) (c .before .before .before .before .before .before .before .before .put .ensures .1))
 
--- src/lib.rt:67:35
 part-put-char-end : tie.Need-part-put-char-end Inv-loop μ-loop
 part-put-char-end c = search needs
 
--- src/lib.rt:67:15
 put-char-requires : tie.Need-put-char-requires Inv-loop μ-loop
 put-char-requires c κs = let w = within-rest (c .before .before .before .before .before .before .before .before .before .before .before .before .before .before .before .before .before .before .before .args .text .now) (c .before .before .before .before .before .before .before .before .before .before .before .before .next-bar .result) (c .before .before .n .given .0 .0) (c .before .before .n .given .0 .1 .0) ((rw (c .before .before .n .given .1) at (c .before .before .before .before .unit .ensures)) .within) in (omega (arith, w .3), filled-room (filled-put (c .before .before .before .before .before .before .before .before .before .before .before .before .before .before .before .loop .inv .1) (next-quiet (byteStep (c .before .before .before .before .before .before .before .before .before .before .before .before .before .before .before .before .before .before .before .args .c)) (c .before .before .before .before .before .before .before .before .before .before .before .before .before .before .before .before .before .before .before .args .text .now) (c .before .before .before .before .before .before .before .before .before .before .before .before .before .before .before .loop .i) (c .before .before .before .before .before .before .before .before .before .before .before .before .next-bar .result) (c .before .before .before .before .before .before .before .before .before .before .before .before .next-bar .ensures .after) (c .before .before .before .before .before .before .before .before .before .before .before .before .next-bar .ensures .within) (clear-keeps (c .before .before .before .before .before .before .before .before .before .before .before .before .before .before .before .before .before .before .before .args .c) (c .before .before .before .before .before .before .before .before .before .before .before .before .before .before .before .before .before .before .before .args .text .now) (λ k. c .before .before .before .before .before .before .before .before .before .before .before .before .before .before .before .before .before .before .shared-slice-known .given k .fits) (c .before .before .before .before .before .before .before .before .before .before .before .before .before .before .before .loop .i) (c .before .before .before .before .before .before .before .before .before .before .before .before .next-bar .result) (rw (c .before .before .before .before .before .before .before .before .before .before .before .before .before .before .before .before .bars-of .ensures) at (c .before .before .before .before .before .before .before .before .before .before .before .before .next-bar .ensures)))) (c .before .before .before .before .before .before .before .before .before .put .last .1 .0) (c .before .before .before .before .before .before .before .before .before .put .result) (c .before .before .before .before .before .before .before .before .before .put .ensures .0) (c .before .before .before .before .before .before .before .before .before .put .ensures .1)) (next-swap (byteStep (c .before .before .before .before .before .before .before .before .before .before .before .before .before .before .before .before .before .before .before .args .c)) (c .before .before .before .before .before .before .before .before .before .before .before .before .before .before .before .before .before .before .before .args .text .now) (c .before .before .before .before .before .before .before .before .before .before .before .before .next-bar .result) (c .before .before .n .given .0 .0) (utf8 (c .before .before .n .given .0 .1 .0)) (w .0) (w .1) (unit-here (c .before .before .before .before .before .before .before .before .before .before .before .before .before .before .before .before .before .before .before .args .c) (c .before .before .before .before .before .before .before .before .before .before .before .before .before .before .before .before .before .before .before .args .text .now) (c .before .before .before .before .before .before .before .before .before .before .before .before .next-bar .result) (c .before .before .n .given .0 .0) (c .before .before .n .given .0 .1 .0) (rw (c .before .before .n .given .1) at (c .before .before .before .before .unit .ensures)))))
 
--- src/lib.rt:67:9
 add-at-2 : tie.Need-add-at-2 Inv-loop μ-loop
 add-at-2 c = let w = within-rest (c .before .before .before .before .before .before .before .before .before .before .before .before .before .before .before .before .before .before .before .before .before .before .args .text .now) (c .before .before .before .before .before .before .before .before .before .before .before .before .before .before .before .next-bar .result) (c .before .before .before .before .before .n .given .0 .0) (c .before .before .before .before .before .n .given .0 .1 .0) ((rw (c .before .before .before .before .before .n .given .1) at (c .before .before .before .before .before .before .before .unit .ensures)) .within) in omega (arith, c .before .before .put-char .ensures .0, filled-next (filled-put (c .before .before .before .before .before .before .before .before .before .before .before .before .before .before .before .before .before .before .loop .inv .1) (next-quiet (byteStep (c .before .before .before .before .before .before .before .before .before .before .before .before .before .before .before .before .before .before .before .before .before .before .args .c)) (c .before .before .before .before .before .before .before .before .before .before .before .before .before .before .before .before .before .before .before .before .before .before .args .text .now) (c .before .before .before .before .before .before .before .before .before .before .before .before .before .before .before .before .before .before .loop .i) (c .before .before .before .before .before .before .before .before .before .before .before .before .before .before .before .next-bar .result) (c .before .before .before .before .before .before .before .before .before .before .before .before .before .before .before .next-bar .ensures .after) (c .before .before .before .before .before .before .before .before .before .before .before .before .before .before .before .next-bar .ensures .within) (clear-keeps (c .before .before .before .before .before .before .before .before .before .before .before .before .before .before .before .before .before .before .before .before .before .before .args .c) (c .before .before .before .before .before .before .before .before .before .before .before .before .before .before .before .before .before .before .before .before .before .before .args .text .now) (λ k. c .before .before .before .before .before .before .before .before .before .before .before .before .before .before .before .before .before .before .before .before .before .shared-slice-known .given k .fits) (c .before .before .before .before .before .before .before .before .before .before .before .before .before .before .before .before .before .before .loop .i) (c .before .before .before .before .before .before .before .before .before .before .before .before .before .before .before .next-bar .result) (rw (c .before .before .before .before .before .before .before .before .before .before .before .before .before .before .before .before .before .before .before .bars-of .ensures) at (c .before .before .before .before .before .before .before .before .before .before .before .before .before .before .before .next-bar .ensures)))) (c .before .before .before .before .before .before .before .before .before .before .before .before .put .last .1 .0) (c .before .before .before .before .before .before .before .before .before .before .before .before .put .result) (c .before .before .before .before .before .before .before .before .before .before .before .before .put .ensures .0) (c .before .before .before .before .before .before .before .before .before .before .before .before .put .ensures .1)) (next-swap (byteStep (c .before .before .before .before .before .before .before .before .before .before .before .before .before .before .before .before .before .before .before .before .before .before .args .c)) (c .before .before .before .before .before .before .before .before .before .before .before .before .before .before .before .before .before .before .before .before .before .before .args .text .now) (c .before .before .before .before .before .before .before .before .before .before .before .before .before .before .before .next-bar .result) (c .before .before .before .before .before .n .given .0 .0) (utf8 (c .before .before .before .before .before .n .given .0 .1 .0)) (w .0) (w .1) (unit-here (c .before .before .before .before .before .before .before .before .before .before .before .before .before .before .before .before .before .before .before .before .before .before .args .c) (c .before .before .before .before .before .before .before .before .before .before .before .before .before .before .before .before .before .before .before .before .before .before .args .text .now) (c .before .before .before .before .before .before .before .before .before .before .before .before .before .before .before .next-bar .result) (c .before .before .before .before .before .n .given .0 .0) (c .before .before .before .before .before .n .given .0 .1 .0) (rw (c .before .before .before .before .before .n .given .1) at (c .before .before .before .before .before .before .before .unit .ensures)))))
 
--- src/lib.rt:68:13
 add-i : tie.Need-add-i Inv-loop μ-loop
 add-i c = let w = within-rest (c .before .before .before .before .before .before .before .before .before .before .before .before .before .before .before .before .before .before .before .before .before .before .args .text .now) (c .before .before .before .before .before .before .before .before .before .before .before .before .before .before .before .next-bar .result) (c .before .before .before .before .before .n .given .0 .0) (c .before .before .before .before .before .n .given .0 .1 .0) ((rw (c .before .before .before .before .before .n .given .1) at (c .before .before .before .before .before .before .before .unit .ensures)) .within) in omega (arith, w .1)
 
--- src/lib.rt:58:5
 loop-less : tie.Need-loop-less Inv-loop μ-loop
 loop-less c = let w = within-rest (c .before .before .before .before .before .before .before .before .before .before .before .before .before .before .before .before .before .before .before .before .before .before .args .text .now) (c .before .before .before .before .before .before .before .before .before .before .before .before .before .before .before .next-bar .result) (c .before .before .before .before .before .n .given .0 .0) (c .before .before .before .before .before .n .given .0 .1 .0) ((rw (c .before .before .before .before .before .n .given .1) at (c .before .before .before .before .before .before .before .unit .ensures)) .within) in less-left (length (c .before .before .before .before .before .before .before .before .before .before .before .before .before .before .before .before .before .before .before .before .before .before .args .text .now)) (c .before .before .before .before .before .before .before .before .before .before .before .before .before .before .before .before .before .before .loop .i) (c .before .before .before .before .before .before .before .before .before .before .before .before .before .before .before .next-bar .result) (c .before .before .before .before .before .n .given .0 .0) (c .before .before .before .before .before .before .before .before .before .before .before .before .before .before .before .next-bar .ensures .after) (w .0) (w .1)
 
--- src/lib.rt:58:5
 loop-again : tie.Need-loop-again Inv-loop μ-loop
 loop-again c = let w = within-rest (c .before .before .before .before .before .before .before .before .before .before .before .before .before .before .before .before .before .before .before .before .before .before .args .text .now) (c .before .before .before .before .before .before .before .before .before .before .before .before .before .before .before .next-bar .result) (c .before .before .before .before .before .n .given .0 .0) (c .before .before .before .before .before .n .given .0 .1 .0) ((rw (c .before .before .before .before .before .n .given .1) at (c .before .before .before .before .before .before .before .unit .ensures)) .within) in (w .1, filled-put (filled-put (c .before .before .before .before .before .before .before .before .before .before .before .before .before .before .before .before .before .before .loop .inv .1) (next-quiet (byteStep (c .before .before .before .before .before .before .before .before .before .before .before .before .before .before .before .before .before .before .before .before .before .before .args .c)) (c .before .before .before .before .before .before .before .before .before .before .before .before .before .before .before .before .before .before .before .before .before .before .args .text .now) (c .before .before .before .before .before .before .before .before .before .before .before .before .before .before .before .before .before .before .loop .i) (c .before .before .before .before .before .before .before .before .before .before .before .before .before .before .before .next-bar .result) (c .before .before .before .before .before .before .before .before .before .before .before .before .before .before .before .next-bar .ensures .after) (c .before .before .before .before .before .before .before .before .before .before .before .before .before .before .before .next-bar .ensures .within) (clear-keeps (c .before .before .before .before .before .before .before .before .before .before .before .before .before .before .before .before .before .before .before .before .before .before .args .c) (c .before .before .before .before .before .before .before .before .before .before .before .before .before .before .before .before .before .before .before .before .before .before .args .text .now) (λ k. c .before .before .before .before .before .before .before .before .before .before .before .before .before .before .before .before .before .before .before .before .before .shared-slice-known .given k .fits) (c .before .before .before .before .before .before .before .before .before .before .before .before .before .before .before .before .before .before .loop .i) (c .before .before .before .before .before .before .before .before .before .before .before .before .before .before .before .next-bar .result) (rw (c .before .before .before .before .before .before .before .before .before .before .before .before .before .before .before .before .before .before .before .bars-of .ensures) at (c .before .before .before .before .before .before .before .before .before .before .before .before .before .before .before .next-bar .ensures)))) (c .before .before .before .before .before .before .before .before .before .before .before .before .put .last .1 .0) (c .before .before .before .before .before .before .before .before .before .before .before .before .put .result) (c .before .before .before .before .before .before .before .before .before .before .before .before .put .ensures .0) (c .before .before .before .before .before .before .before .before .before .before .before .before .put .ensures .1)) (next-swap (byteStep (c .before .before .before .before .before .before .before .before .before .before .before .before .before .before .before .before .before .before .before .before .before .before .args .c)) (c .before .before .before .before .before .before .before .before .before .before .before .before .before .before .before .before .before .before .before .before .before .before .args .text .now) (c .before .before .before .before .before .before .before .before .before .before .before .before .before .before .before .next-bar .result) (c .before .before .before .before .before .n .given .0 .0) (utf8 (c .before .before .before .before .before .n .given .0 .1 .0)) (w .0) (w .1) (unit-here (c .before .before .before .before .before .before .before .before .before .before .before .before .before .before .before .before .before .before .before .before .before .before .args .c) (c .before .before .before .before .before .before .before .before .before .before .before .before .before .before .before .before .before .before .before .before .before .before .args .text .now) (c .before .before .before .before .before .before .before .before .before .before .before .before .before .before .before .next-bar .result) (c .before .before .before .before .before .n .given .0 .0) (c .before .before .before .before .before .n .given .0 .1 .0) (rw (c .before .before .before .before .before .n .given .1) at (c .before .before .before .before .before .before .before .unit .ensures)))) (c .before .before .put-char .last .1 .0) (c .before .before .put-char .result) (c .before .before .put-char .ensures .0) (c .before .before .put-char .ensures .1))
 
--- src/lib.rt:51:1
 same-length-3 : tie.Need-same-length-3 Inv-loop μ-loop
 same-length-3 c = search needs
 
--- src/lib.rt:51:1
 returns-3 : tie.Need-returns-3 Inv-loop μ-loop
 returns-3 c = filled-all (c .before .loop .inv .1) (ap result (from-end (byteStep (c .before .before .before .before .before .args .c)) (c .before .before .before .before .before .args .text .now) (c .before .loop .i) (omega arith)))
 

@@ -1,30 +1,25 @@
-use Rattle.escapes.proofs.Strings.{slash-short, slash-long}
-use borrow.Author.Tests.{ne-eqb}
-use native.Mathlib.Omega.{arith}
+-- `after_slash` meets its contract: there is a backslash with a byte after it, or the answer is 0.
+-- Assumes nothing.
 use mathlib.Core.Path.{sym, _∙_}
+use native.Mathlib.Omega.{arith}
+use borrow.Author.Tests.{ne-eqb}
 use borrow.Author.Needs.{needs}
-use Rattle.escapes.proofs.rows.after_slash.Statement.{statement}
+use Rattle.escapes.proofs.Strings.{slash-short, slash-long}
 use Rattle.escapes.proofs.rows.after_slash.Tie as tie
-use Rattle.escapes.proofs.rows.after_slash.Reads as reads
-use Rattle.escapes.proofs.rows.after_slash.Lts as lts
+use Rattle.escapes.proofs.rows.after_slash.Statement.{statement}
 
--- src/rows.rt:31:9
 returns : tie.Need-returns
 returns c = sym (slash-short (c .before .args .rest .now) (c .if1 .taken))
 
--- src/rows.rt:33:8
 shared-slice-read-if2 : tie.Need-shared-slice-read-if2
 shared-slice-read-if2 c = search needs
 
--- src/rows.rt:34:16
 shared-slice-read-result : tie.Need-shared-slice-read-result
 shared-slice-read-result c = search needs
 
--- src/rows.rt:34:9
 returns-2 : tie.Need-returns-2
 returns-2 c = sym (slash-long (c .before .before .before .before .args .rest .now) (λ h. omega arith) ∙ rw (c .before .if2 .taken))
 
--- src/rows.rt:27:1
 returns-3 : tie.Need-returns-3
 returns-3 c = sym (slash-long (c .before .before .before .args .rest .now) (λ h. omega arith) ∙ rw (ne-eqb _ 92 (c .if2 .left)))
 

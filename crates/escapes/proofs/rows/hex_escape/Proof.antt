@@ -1,39 +1,30 @@
+-- `hex_escape` meets its contract: `\HH ` in a style string, `\xHH` in a script string.
+-- Assumes nothing.
 use borrow.Author.Needs.{needs}
-use Rattle.escapes.proofs.rows.hex_escape.Statement.{statement}
 use Rattle.escapes.proofs.rows.hex_escape.Tie as tie
-use Rattle.escapes.proofs.rows.hex_escape.Reads as reads
-use Rattle.escapes.proofs.rows.hex_escape.Lts as lts
-use Rattle.escapes.proofs.heads.hex_between.Reads as hex-between-reads
+use Rattle.escapes.proofs.rows.hex_escape.Statement.{statement}
 
--- src/rows.rt:43:35
 slice-aggregate-hex-between : tie.Need-slice-aggregate-hex-between
 slice-aggregate-hex-between c = search needs
 
--- src/rows.rt:43:42
 slice-aggregate-hex-between-2 : tie.Need-slice-aggregate-hex-between-2
 slice-aggregate-hex-between-2 c = search needs
 
--- src/rows.rt:43:9
 hex-between-requires : tie.Need-hex-between-requires
 hex-between-requires c κs = search needs
 
--- src/rows.rt:43:9
 returns : tie.Need-returns
 returns c = rw (c .before .before .before .if1 .taken) (c .hex-between .ensures .0)
 
--- src/rows.rt:45:24
 slice-aggregate-hex-between-3 : tie.Need-slice-aggregate-hex-between-3
 slice-aggregate-hex-between-3 c = search needs
 
--- src/rows.rt:45:32
 slice-aggregate-hex-between-4 : tie.Need-slice-aggregate-hex-between-4
 slice-aggregate-hex-between-4 c = search needs
 
--- src/rows.rt:45:5
 hex-between-requires-2 : tie.Need-hex-between-requires-2
 hex-between-requires-2 c κs = search needs
 
--- src/rows.rt:39:1
 returns-2 : tie.Need-returns-2
 returns-2 c = rw (c .before .before .before .if1 .left) (c .hex-between2 .ensures .0)
 

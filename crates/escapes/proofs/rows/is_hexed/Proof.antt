@@ -1,22 +1,18 @@
+-- `is_hexed` meets its contract: each return by the tests that led there.
+-- Assumes nothing.
 use borrow.Author.Tests.{ne-eqb, lt-ltb, le-ltb}
-use Rattle.escapes.proofs.rows.is_hexed.Statement.{statement}
 use Rattle.escapes.proofs.rows.is_hexed.Tie as tie
-use Rattle.escapes.proofs.rows.is_hexed.Reads as reads
-use Rattle.escapes.proofs.rows.is_hexed.Lts as lts
+use Rattle.escapes.proofs.rows.is_hexed.Statement.{statement}
 
--- src/rows.rt:53:9
 returns : tie.Need-returns
 returns c = rw (c .if1 .taken)
 
--- src/rows.rt:56:9
 returns-2 : tie.Need-returns-2
 returns-2 c = rw (ne-eqb _ 60 (c .before .if1 .left), le-ltb _ 32 (c .if2 .taken))
 
--- src/rows.rt:59:9
 returns-3 : tie.Need-returns-3
 returns-3 c = rw (ne-eqb _ 60 (c .before .before .if1 .left), lt-ltb _ 32 (c .before .if2 .left), c .if3 .taken)
 
--- src/rows.rt:49:1
 returns-4 : tie.Need-returns-4
 returns-4 c = rw (ne-eqb _ 60 (c .before .before .if1 .left), lt-ltb _ 32 (c .before .if2 .left), c .if3 .left)
 

@@ -1,40 +1,32 @@
+-- `is_slashed` meets its contract, by the quotes that the string escapes.
+-- Assumes nothing.
 use mathlib.Core.Bool.{or-false}
 use borrow.Author.Tests.{ne-eqb}
 use borrow.Author.Needs.{needs}
-use Rattle.escapes.proofs.rows.is_slashed.Statement.{statement}
 use Rattle.escapes.proofs.rows.is_slashed.Tie as tie
-use Rattle.escapes.proofs.rows.is_slashed.Reads as reads
-use Rattle.escapes.proofs.rows.is_slashed.Lts as lts
+use Rattle.escapes.proofs.rows.is_slashed.Statement.{statement}
 
--- src/rows.rt:19:9
 returns : tie.Need-returns
 returns c = rw (c .if1 .taken)
 
--- src/rows.rt:22:27
 enum-told : tie.Need-enum-told
 enum-told c = search needs
 
--- src/rows.rt:23:27
 enum-told-2 : tie.Need-enum-told-2
 enum-told-2 c = search needs
 
--- src/rows.rt:24:28
 enum-told-3 : tie.Need-enum-told-3
 enum-told-3 c = search needs
 
--- src/rows.rt:15:1
 returns-2 : tie.Need-returns-2
 returns-2 c = rw (c .enum-told .given .1, ne-eqb _ 92 (c .before .before .if1 .left), or-false)
 
--- src/rows.rt:15:1
 returns-3 : tie.Need-returns-3
 returns-3 c = rw (c .enum-told2 .given .1, ne-eqb _ 92 (c .before .before .if1 .left), or-false)
 
--- src/rows.rt:15:1
 returns-4 : tie.Need-returns-4
 returns-4 c = rw (c .before .enum-told3 .given .1, c .if2 .taken)
 
--- src/rows.rt:15:1
 returns-5 : tie.Need-returns-5
 returns-5 c = rw (c .before .enum-told3 .given .1, ne-eqb _ 92 (c .before .before .before .if1 .left), ne-eqb _ 39 (c .if2 .left), or-false)
 

@@ -1,39 +1,31 @@
-use Rattle.escapes.specs.Strings.{lineSeparator, paragraphSeparator}
+-- `separator` meets its contract: one of the two stands there, or none.
+-- Assumes nothing.
 use mathlib.Core.List.{[], _∷_}
-use Rattle.escapes.proofs.Finding.{finds-here, finds-later, finds-end}
 use mathlib.Core.Path.{refl, sym, _∙_}
 use borrow.Author.Needs.{needs}
-use Rattle.escapes.proofs.rows.separator.Statement.{statement}
+use Rattle.escapes.specs.Strings.{lineSeparator, paragraphSeparator}
+use Rattle.escapes.proofs.Finding.{finds-here, finds-later, finds-end}
 use Rattle.escapes.proofs.rows.separator.Tie as tie
-use Rattle.escapes.proofs.rows.separator.Reads as reads
-use Rattle.escapes.proofs.rows.separator.Lts as lts
-use Rattle.escapes.proofs.heads.starts.Reads as starts-reads
+use Rattle.escapes.proofs.rows.separator.Statement.{statement}
 
--- src/rows.rt:69:22
 slice-aggregate-starts : tie.Need-slice-aggregate-starts
 slice-aggregate-starts c = search needs
 
--- src/rows.rt:69:8
 starts-requires : tie.Need-starts-requires
 starts-requires c κs = search needs
 
--- src/rows.rt:70:9
 returns : tie.Need-returns
 returns c = finds-here lineSeparator (paragraphSeparator ∷ []) 0x2028 (sym (c .before .starts .ensures) ∙ c .if1 .taken) refl tt
 
--- src/rows.rt:72:22
 slice-aggregate-starts-2 : tie.Need-slice-aggregate-starts-2
 slice-aggregate-starts-2 c = search needs
 
--- src/rows.rt:72:8
 starts-requires-2 : tie.Need-starts-requires-2
 starts-requires-2 c κs = search needs
 
--- src/rows.rt:73:9
 returns-2 : tie.Need-returns-2
 returns-2 c = finds-later (sym (c .before .before .before .before .starts .ensures) ∙ c .before .before .before .if1 .left) (finds-here paragraphSeparator [] 0x2029 (sym (c .before .starts2 .ensures) ∙ c .if2 .taken) refl tt)
 
--- src/rows.rt:66:1
 returns-3 : tie.Need-returns-3
 returns-3 c = finds-later (sym (c .before .before .before .before .starts .ensures) ∙ c .before .before .before .if1 .left) (finds-later (sym (c .before .starts2 .ensures) ∙ c .if2 .left) finds-end)
 

@@ -1,44 +1,33 @@
+-- `bars_of` meets its contract: each return by the tests that led there.
+-- Assumes nothing.
 use borrow.Author.Needs.{needs}
-use Rattle.reader.proofs.bars.bars_of.Statement.{statement}
 use Rattle.reader.proofs.bars.bars_of.Tie as tie
-use Rattle.reader.proofs.bars.bars_of.Reads as reads
-use Rattle.reader.proofs.bars.bars_of.Lts as lts
-use Rattle.reader.proofs.bars.html_bars.Reads as html-bars-reads
-use Rattle.reader.proofs.bars.string_bars.Reads as string-bars-reads
+use Rattle.reader.proofs.bars.bars_of.Statement.{statement}
 
--- src/bars.rt:42:25
 enum-known-c : tie.Need-enum-known-c
 enum-known-c c = search needs
 
--- src/bars.rt:42:31
 html-bars-requires : tie.Need-html-bars-requires
 html-bars-requires c κs = search needs
 
--- src/bars.rt:43:27
 enum-known-c-2 : tie.Need-enum-known-c-2
 enum-known-c-2 c = search needs
 
--- src/bars.rt:43:33
 string-bars-requires : tie.Need-string-bars-requires
 string-bars-requires c κs = search needs
 
--- src/bars.rt:44:26
 enum-known-c-3 : tie.Need-enum-known-c-3
 enum-known-c-3 c = search needs
 
--- src/bars.rt:44:32
 string-bars-requires-2 : tie.Need-string-bars-requires-2
 string-bars-requires-2 c κs = search needs
 
--- src/bars.rt:38:1
 returns : tie.Need-returns
 returns c = search needs
 
--- src/bars.rt:38:1
 returns-2 : tie.Need-returns-2
 returns-2 c = rw (c .before .before .c2 .given .1) (c .string-bars .ensures)
 
--- src/bars.rt:38:1
 returns-3 : tie.Need-returns-3
 returns-3 c = rw (c .before .before .c3 .given .1) (c .string-bars2 .ensures)
 

@@ -1,14 +1,13 @@
-use Rattle.reader.proofs.Scanning.{Each, IsOut, each-more, sum-zero}
+-- `count` meets its contract: what has been passed so far has no such byte. The measure is what is left of the text.
+-- Assumes nothing.
+use mathlib.Core.Path.{_≡_}
+use Prim.Native.Nat.{_-_, _≤_}
+use native.Mathlib.Omega.{arith}
 use borrow.Author.Needs.{needs}
 use lib.ListN.{length}
-use native.Mathlib.Omega.{arith}
-use Prim.Native.Nat.{ℕ, _+_, _-_, _≤_, _<_}
-use mathlib.Core.Path.{_≡_}
-use Rattle.reader.proofs.bars.count.Statement.{statement}
+use Rattle.reader.proofs.Scanning.{Each, IsOut, each-more, sum-zero}
 use Rattle.reader.proofs.bars.count.Tie as tie
-use Rattle.reader.proofs.bars.count.Reads as reads
-use Rattle.reader.proofs.bars.count.Lts as lts
-use Rattle.reader.proofs.bars.hit.Reads as hit-reads
+use Rattle.reader.proofs.bars.count.Statement.{statement}
 
 abbrev Inv-loop : tie.InvT-loop
 Inv-loop bars part n₀ j₀ n j = (j ≤ length part) × (n ≤ j) × (n ≡ 0 → Each (IsOut bars part) 0 j)
@@ -16,35 +15,27 @@ Inv-loop bars part n₀ j₀ n j = (j ≤ length part) × (n ≤ j) × (n ≡ 0 
 abbrev μ-loop : tie.MeasureT-loop
 μ-loop bars part n₀ j₀ n j = length part - j
 
--- src/bars.rt:84:5
 loop-holds : tie.Need-loop-holds Inv-loop μ-loop
 loop-holds c = (search needs, search needs, λ z k h l. absurd (omega arith))
 
--- src/bars.rt:85:24
 shared-slice-read-hit : tie.Need-shared-slice-read-hit Inv-loop μ-loop
 shared-slice-read-hit c = search needs
 
--- src/bars.rt:85:14
 hit-requires : tie.Need-hit-requires Inv-loop μ-loop
 hit-requires c κs = search needs
 
--- src/bars.rt:85:9
 add-n : tie.Need-add-n Inv-loop μ-loop
 add-n c = search needs
 
--- src/bars.rt:86:9
 add-j : tie.Need-add-j Inv-loop μ-loop
 add-j c = search needs
 
--- src/bars.rt:84:5
 loop-less : tie.Need-loop-less Inv-loop μ-loop
 loop-less c = search needs
 
--- src/bars.rt:84:5
 loop-again : tie.Need-loop-again Inv-loop μ-loop
 loop-again c = (search needs, omega (arith, c .hit .ensures .0), λ z. let w = sum-zero (c .before .before .before .loop .n) (c .hit .result) z in each-more (IsOut (c .before .before .before .before .before .args .bars .now) (c .before .before .before .before .before .args .part .now)) 0 (c .before .before .before .loop .j) (c .before .before .before .loop .inv .2 (w .0)) (c .hit .ensures .1 (w .1)))
 
--- src/bars.rt:78:1
 returns : tie.Need-returns Inv-loop μ-loop
 returns c = λ z k h. c .before .loop .inv .2 z k (omega arith) (omega arith)
 

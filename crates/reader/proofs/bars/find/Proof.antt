@@ -1,15 +1,13 @@
-use Rattle.reader.proofs.Scanning.{Each, IsOut, each-more}
+-- `find` meets its contract: what has been passed so far has no such byte. The measure is what is left of the text.
+-- Assumes nothing.
+use mathlib.Core.Path.{sym, _∙_}
+use Prim.Native.Nat.{_-_, _≤_}
+use native.Mathlib.Omega.{arith}
 use borrow.Author.Needs.{needs}
 use lib.ListN.{length}
-use native.Mathlib.Omega.{arith}
-use Prim.Native.Nat.{ℕ, _+_, _-_, _≤_, _<_}
-use mathlib.Core.Path.{_≡_, sym, _∙_}
-use Rattle.reader.proofs.bars.find.Statement.{statement}
+use Rattle.reader.proofs.Scanning.{Each, IsOut, each-more}
 use Rattle.reader.proofs.bars.find.Tie as tie
-use Rattle.reader.proofs.bars.find.Reads as reads
-use Rattle.reader.proofs.bars.find.Lts as lts
-use Rattle.reader.proofs.bars.is_bar.Reads as is-bar-reads
-use Rattle.reader.proofs.bars.pass.Reads as pass-reads
+use Rattle.reader.proofs.bars.find.Statement.{statement}
 
 abbrev Inv-loop : tie.InvT-loop
 Inv-loop bars text from i₀ i = (from ≤ i) × (i ≤ length text) × Each (IsOut bars text) from i
@@ -17,39 +15,30 @@ Inv-loop bars text from i₀ i = (from ≤ i) × (i ≤ length text) × Each (Is
 abbrev μ-loop : tie.MeasureT-loop
 μ-loop bars text from i₀ i = length text - i
 
--- src/bars.rt:113:9
 pass-requires : tie.Need-pass-requires Inv-loop μ-loop
 pass-requires c κs = search needs
 
--- src/bars.rt:114:5
 loop-holds : tie.Need-loop-holds Inv-loop μ-loop
 loop-holds c = c .pass .ensures
 
--- src/bars.rt:115:25
 shared-slice-read-is-bar : tie.Need-shared-slice-read-is-bar Inv-loop μ-loop
 shared-slice-read-is-bar c = search needs
 
--- src/bars.rt:115:12
 is-bar-requires : tie.Need-is-bar-requires Inv-loop μ-loop
 is-bar-requires c κs = search needs
 
--- src/bars.rt:116:13
 returns : tie.Need-returns Inv-loop μ-loop
 returns c = record { after = c .before .before .before .before .loop .inv .0; within = c .before .before .before .before .loop .inv .1; none = c .before .before .before .before .loop .inv .2; here = λ h. sym (c .before .is-bar .ensures) ∙ c .if1 .taken }
 
--- src/bars.rt:118:9
 add-i : tie.Need-add-i Inv-loop μ-loop
 add-i c = search needs
 
--- src/bars.rt:114:5
 loop-less : tie.Need-loop-less Inv-loop μ-loop
 loop-less c = search needs
 
--- src/bars.rt:114:5
 loop-again : tie.Need-loop-again Inv-loop μ-loop
 loop-again c = (search needs, search needs, each-more (IsOut (c .before .before .before .before .before .before .before .args .bars .now) (c .before .before .before .before .before .before .before .args .text .now)) (c .before .before .before .before .before .before .before .args .from) (c .before .before .before .before .loop .i) (c .before .before .before .before .loop .inv .2) (sym (c .before .is-bar .ensures) ∙ c .if1 .left))
 
--- src/bars.rt:109:1
 returns-2 : tie.Need-returns-2 Inv-loop μ-loop
 returns-2 c = record { after = c .before .loop .inv .0; within = c .before .loop .inv .1; none = c .before .loop .inv .2; here = λ h. absurd (omega arith) }
 

@@ -1,21 +1,17 @@
-use native.Mathlib.Omega.{arith}
+-- `hit` meets its contract: each return by the tests that led there.
+-- Assumes nothing.
 use mathlib.Core.Path.{sym, _∙_}
+use native.Mathlib.Omega.{arith}
 use borrow.Author.Needs.{needs}
-use Rattle.reader.proofs.bars.hit.Statement.{statement}
 use Rattle.reader.proofs.bars.hit.Tie as tie
-use Rattle.reader.proofs.bars.hit.Reads as reads
-use Rattle.reader.proofs.bars.hit.Lts as lts
-use Rattle.reader.proofs.bars.is_bar.Reads as is-bar-reads
+use Rattle.reader.proofs.bars.hit.Statement.{statement}
 
--- src/bars.rt:74:8
 is-bar-requires : tie.Need-is-bar-requires
 is-bar-requires c κs = search needs
 
--- src/bars.rt:71:1
 returns : tie.Need-returns
 returns c = (search needs, λ z. absurd (omega arith))
 
--- src/bars.rt:71:1
 returns-2 : tie.Need-returns-2
 returns-2 c = (search needs, λ z. sym (c .before .is-bar .ensures) ∙ c .if1 .left)
 

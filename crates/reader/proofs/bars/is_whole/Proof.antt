@@ -1,40 +1,31 @@
+-- `is_whole` meets its contract: each return by the tests that led there.
+-- Assumes nothing.
 use borrow.Author.Tests.{ne-eqb}
 use borrow.Author.Needs.{needs}
-use Rattle.reader.proofs.bars.is_whole.Statement.{statement}
 use Rattle.reader.proofs.bars.is_whole.Tie as tie
-use Rattle.reader.proofs.bars.is_whole.Reads as reads
-use Rattle.reader.proofs.bars.is_whole.Lts as lts
-use Rattle.escapes.proofs.heads.starts.Reads as starts-reads
+use Rattle.reader.proofs.bars.is_whole.Statement.{statement}
 
--- src/bars.rt:127:8
 shared-slice-read-if1 : tie.Need-shared-slice-read-if1
 shared-slice-read-if1 c = search needs
 
--- src/bars.rt:128:9
 returns : tie.Need-returns
 returns c = rw (ne-eqb _ 226 (c .if1 .taken))
 
--- src/bars.rt:130:31
 slice-aggregate-starts : tie.Need-slice-aggregate-starts
 slice-aggregate-starts c = search needs
 
--- src/bars.rt:130:8
 starts-requires : tie.Need-starts-requires
 starts-requires c κs = search needs
 
--- src/bars.rt:131:9
 returns-2 : tie.Need-returns-2
 returns-2 c = rw (c .before .before .before .if1 .left, ← c .before .starts .ensures, c .if2 .taken)
 
--- src/bars.rt:133:28
 slice-aggregate-starts-2 : tie.Need-slice-aggregate-starts-2
 slice-aggregate-starts-2 c = search needs
 
--- src/bars.rt:133:5
 starts-requires-2 : tie.Need-starts-requires-2
 starts-requires-2 c κs = search needs
 
--- src/bars.rt:123:1
 returns-3 : tie.Need-returns-3
 returns-3 c = rw (c .before .before .before .before .before .if1 .left, ← c .before .before .before .starts .ensures, c .before .before .if2 .left) (c .starts2 .ensures)
 

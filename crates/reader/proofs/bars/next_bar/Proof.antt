@@ -1,18 +1,16 @@
-use Rattle.reader.proofs.Scanning.{Each, IsPlain, each-join, each-more, out-plain, part-plain, bar-whole}
-use Rattle.reader.specs.Bars.{isBar, isWhole}
-use Rattle.parts.proofs.Filled.{lent-rest}
+-- `next_bar` meets its contract: what has been passed so far has no such byte. The measure is what is left of the text.
+-- Assumes nothing.
+use mathlib.Core.Bool.{true}
+use mathlib.Core.Path.{_≡_, sym, _∙_}
+use Prim.Native.Nat.{_+_, _-_, _≤_, _<_}
+use native.Mathlib.Omega.{arith}
 use borrow.Author.Needs.{needs}
 use lib.ListN.{length, getD, length-drop}
-use native.Mathlib.Omega.{arith}
-use Prim.Native.Nat.{ℕ, _+_, _-_, _≤_, _<_}
-use mathlib.Core.Bool.{Bool, true, _&&_}
-use mathlib.Core.Path.{_≡_, sym, ap, _∙_}
-use Rattle.reader.proofs.bars.next_bar.Statement.{statement}
+use Rattle.reader.specs.Bars.{isBar}
+use Rattle.parts.proofs.Filled.{lent-rest}
+use Rattle.reader.proofs.Scanning.{Each, IsPlain, each-join, each-more, out-plain, part-plain, bar-whole}
 use Rattle.reader.proofs.bars.next_bar.Tie as tie
-use Rattle.reader.proofs.bars.next_bar.Reads as reads
-use Rattle.reader.proofs.bars.next_bar.Lts as lts
-use Rattle.reader.proofs.bars.find.Reads as find-reads
-use Rattle.reader.proofs.bars.is_whole.Reads as is-whole-reads
+use Rattle.reader.proofs.bars.next_bar.Statement.{statement}
 
 abbrev Inv-loop : tie.InvT-loop
 Inv-loop bars text from i₀ i = (from ≤ i) × (i ≤ length text) × Each (IsPlain bars text) from i × (i < length text → isBar bars (getD text i 0) ≡ true)
@@ -20,51 +18,39 @@ Inv-loop bars text from i₀ i = (from ≤ i) × (i ≤ length text) × Each (Is
 abbrev μ-loop : tie.MeasureT-loop
 μ-loop bars text from i₀ i = length text - i
 
--- src/bars.rt:142:9
 find-requires : tie.Need-find-requires Inv-loop μ-loop
 find-requires c κs = search needs
 
--- src/bars.rt:143:5
 loop-holds : tie.Need-loop-holds Inv-loop μ-loop
 loop-holds c = (c .find .ensures .after, c .find .ensures .within, out-plain (c .before .before .args .bars .now) (c .before .before .args .text .now) (c .before .before .args .from) (c .find .result) (c .find .ensures .none), c .find .ensures .here)
 
--- src/bars.rt:144:21
 sub-is-whole : tie.Need-sub-is-whole Inv-loop μ-loop
 sub-is-whole c = search needs
 
--- src/bars.rt:144:21
 part-is-whole-start : tie.Need-part-is-whole-start Inv-loop μ-loop
 part-is-whole-start c = search needs
 
--- src/bars.rt:144:21
 part-is-whole-end : tie.Need-part-is-whole-end Inv-loop μ-loop
 part-is-whole-end c = search needs
 
--- src/bars.rt:144:12
 is-whole-requires : tie.Need-is-whole-requires Inv-loop μ-loop
 is-whole-requires c κs = rw (lent-rest, length-drop) (search needs)
 
--- src/bars.rt:145:13
 returns : tie.Need-returns Inv-loop μ-loop
 returns c = record { after = c .before .before .before .before .loop .inv .0; within = c .before .before .before .before .loop .inv .1; none = c .before .before .before .before .loop .inv .2; here = λ h. bar-whole (c .before .before .before .before .before .before .before .args .bars .now) (c .before .before .before .before .before .before .before .args .text .now) (c .before .before .before .before .loop .i) (c .before .before .before .before .loop .inv .3 h) (rw (← lent-rest (c .before .before .before .before .loop .i) (c .before .before .before .before .before .before .before .args .text .now)) (sym (c .before .is-whole .ensures) ∙ c .if1 .taken)) }
 
--- src/bars.rt:147:30
 add-find : tie.Need-add-find Inv-loop μ-loop
 add-find c = search needs
 
--- src/bars.rt:147:9
 find-requires-2 : tie.Need-find-requires-2 Inv-loop μ-loop
 find-requires-2 c κs = search needs
 
--- src/bars.rt:143:5
 loop-less : tie.Need-loop-less Inv-loop μ-loop
 loop-less c = search needs
 
--- src/bars.rt:143:5
 loop-again : tie.Need-loop-again Inv-loop μ-loop
 loop-again c = (search needs, c .find2 .ensures .within, each-join (IsPlain (c .before .before .before .before .before .before .before .before .args .bars .now) (c .before .before .before .before .before .before .before .before .args .text .now)) (c .before .before .before .before .before .before .before .before .args .from) ((c .before .before .before .before .before .loop .i) + 1) (c .find2 .result) (each-more (IsPlain (c .before .before .before .before .before .before .before .before .args .bars .now) (c .before .before .before .before .before .before .before .before .args .text .now)) (c .before .before .before .before .before .before .before .before .args .from) (c .before .before .before .before .before .loop .i) (c .before .before .before .before .before .loop .inv .2) (part-plain (c .before .before .before .before .before .before .before .before .args .bars .now) (c .before .before .before .before .before .before .before .before .args .text .now) (c .before .before .before .before .before .loop .i) (rw (← lent-rest (c .before .before .before .before .before .loop .i) (c .before .before .before .before .before .before .before .before .args .text .now)) (sym (c .before .before .is-whole .ensures) ∙ c .before .if1 .left)))) (out-plain (c .before .before .before .before .before .before .before .before .args .bars .now) (c .before .before .before .before .before .before .before .before .args .text .now) ((c .before .before .before .before .before .loop .i) + 1) (c .find2 .result) (c .find2 .ensures .none)), c .find2 .ensures .here)
 
--- src/bars.rt:138:1
 returns-2 : tie.Need-returns-2 Inv-loop μ-loop
 returns-2 c = record { after = c .before .loop .inv .0; within = c .before .loop .inv .1; none = c .before .loop .inv .2; here = λ h. absurd (omega arith) }
 

@@ -1,30 +1,24 @@
+-- `string_bars` meets its contract: each return by the tests that led there.
+-- Assumes nothing.
 use borrow.Author.Needs.{needs}
-use Rattle.reader.proofs.bars.string_bars.Statement.{statement}
 use Rattle.reader.proofs.bars.string_bars.Tie as tie
-use Rattle.reader.proofs.bars.string_bars.Reads as reads
-use Rattle.reader.proofs.bars.string_bars.Lts as lts
+use Rattle.reader.proofs.bars.string_bars.Statement.{statement}
 
--- src/bars.rt:31:27
 enum-told : tie.Need-enum-told
 enum-told c = search needs
 
--- src/bars.rt:32:27
 enum-told-2 : tie.Need-enum-told-2
 enum-told-2 c = search needs
 
--- src/bars.rt:33:25
 enum-told-3 : tie.Need-enum-told-3
 enum-told-3 c = search needs
 
--- src/bars.rt:27:1
 returns : tie.Need-returns
 returns c = rw (c .enum-told .given .1)
 
--- src/bars.rt:27:1
 returns-2 : tie.Need-returns-2
 returns-2 c = rw (c .enum-told2 .given .1)
 
--- src/bars.rt:27:1
 returns-3 : tie.Need-returns-3
 returns-3 c = rw (c .enum-told3 .given .1)
 

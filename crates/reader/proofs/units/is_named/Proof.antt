@@ -1,23 +1,19 @@
+-- `is_named` meets its contract: each return by the tests that led there.
+-- Assumes nothing.
 use mathlib.Core.Bool.{or-false}
 use borrow.Author.Tests.{ne-eqb}
-use Rattle.reader.proofs.units.is_named.Statement.{statement}
 use Rattle.reader.proofs.units.is_named.Tie as tie
-use Rattle.reader.proofs.units.is_named.Reads as reads
-use Rattle.reader.proofs.units.is_named.Lts as lts
+use Rattle.reader.proofs.units.is_named.Statement.{statement}
 
--- src/units.rt:20:9
 returns : tie.Need-returns
 returns c = rw (c .if1 .taken)
 
--- src/units.rt:23:9
 returns-2 : tie.Need-returns-2
 returns-2 c = rw (c .if2 .taken)
 
--- src/units.rt:26:9
 returns-3 : tie.Need-returns-3
 returns-3 c = rw (c .if3 .taken)
 
--- src/units.rt:16:1
 returns-4 : tie.Need-returns-4
 returns-4 c = rw (ne-eqb _ 38 (c .before .before .if1 .left), ne-eqb _ 60 (c .before .if2 .left), ne-eqb _ 62 (c .if3 .left), or-false)
 

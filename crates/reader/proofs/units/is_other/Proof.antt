@@ -1,49 +1,37 @@
+-- `is_other` meets its contract: each return by the tests that led there.
+-- Assumes nothing.
 use borrow.Author.Tests.{lt-ltb, le-ltb}
 use borrow.Author.Needs.{needs}
-use Rattle.reader.proofs.units.is_other.Statement.{statement}
 use Rattle.reader.proofs.units.is_other.Tie as tie
-use Rattle.reader.proofs.units.is_other.Reads as reads
-use Rattle.reader.proofs.units.is_other.Lts as lts
-use Rattle.escapes.proofs.heads.is_within.Reads as is-within-reads
-use Rattle.reader.proofs.units.is_named.Reads as is-named-reads
+use Rattle.reader.proofs.units.is_other.Statement.{statement}
 
--- src/units.rt:36:9
 returns : tie.Need-returns
 returns c = rw (le-ltb (c .before .args .v) 128 (c .if1 .taken))
 
--- src/units.rt:38:13
 cast-b : tie.Need-cast-b
 cast-b c = search needs
 
--- src/units.rt:39:8
 is-within-requires : tie.Need-is-within-requires
 is-within-requires c κs = search needs
 
--- src/units.rt:40:9
 returns-2 : tie.Need-returns-2
 returns-2 c = rw (lt-ltb (c .before .before .before .args .v) 128 (c .before .before .if1 .left), ← c .before .is-within .ensures, c .if2 .taken)
 
--- src/units.rt:42:8
 is-within-requires-2 : tie.Need-is-within-requires-2
 is-within-requires-2 c κs = search needs
 
--- src/units.rt:43:9
 returns-3 : tie.Need-returns-3
 returns-3 c = rw (lt-ltb (c .before .before .before .before .before .args .v) 128 (c .before .before .before .before .if1 .left), ← c .before .before .before .is-within .ensures, c .before .before .if2 .left, ← c .before .is-within2 .ensures, c .if3 .taken)
 
--- src/units.rt:45:8
 is-within-requires-3 : tie.Need-is-within-requires-3
 is-within-requires-3 c κs = search needs
 
--- src/units.rt:46:9
 returns-4 : tie.Need-returns-4
 returns-4 c = rw (lt-ltb (c .before .before .before .before .before .before .before .args .v) 128 (c .before .before .before .before .before .before .if1 .left), ← c .before .before .before .before .before .is-within .ensures, c .before .before .before .before .if2 .left, ← c .before .before .before .is-within2 .ensures, c .before .before .if3 .left, ← c .before .is-within3 .ensures, c .if4 .taken)
 
--- src/units.rt:48:6
 is-named-requires : tie.Need-is-named-requires
 is-named-requires c κs = search needs
 
--- src/units.rt:32:1
 returns-5 : tie.Need-returns-5
 returns-5 c = rw (lt-ltb (c .before .before .before .before .before .before .before .before .args .v) 128 (c .before .before .before .before .before .before .before .if1 .left), ← c .before .before .before .before .before .before .is-within .ensures, c .before .before .before .before .before .if2 .left, ← c .before .before .before .before .is-within2 .ensures, c .before .before .before .if3 .left, ← c .before .before .is-within3 .ensures, c .before .if4 .left, ← c .is-named .ensures)
 

@@ -1,86 +1,65 @@
-use Rattle.reader.proofs.Narrow.{other-small, finds-other, finds-no-other}
-use Rattle.escapes.proofs.Finding.{finds-here, finds-later}
-use Rattle.rules.specs.Tables.{amp, lt, gt, quot, reference, others}
+-- `reference` meets its contract: each return by the tests that led there.
+-- Assumes nothing.
 use mathlib.Core.List.{_∷_, map}
 use mathlib.Core.Path.{refl, sym, _∙_}
 use borrow.Author.Needs.{needs}
-use Rattle.reader.proofs.units.reference.Statement.{statement}
+use Rattle.rules.specs.Tables.{amp, lt, gt, quot, reference, others}
+use Rattle.escapes.proofs.Finding.{finds-here, finds-later}
+use Rattle.reader.proofs.Narrow.{other-small, finds-other, finds-no-other}
 use Rattle.reader.proofs.units.reference.Tie as tie
-use Rattle.reader.proofs.units.reference.Reads as reads
-use Rattle.reader.proofs.units.reference.Lts as lts
-use Rattle.escapes.proofs.heads.hex_between.Reads as hex-between-reads
-use Rattle.escapes.proofs.heads.starts.Reads as starts-reads
-use Rattle.reader.proofs.units.is_other.Reads as is-other-reads
+use Rattle.reader.proofs.units.reference.Statement.{statement}
 
--- src/units.rt:55:22
 slice-aggregate-starts : tie.Need-slice-aggregate-starts
 slice-aggregate-starts c = search needs
 
--- src/units.rt:55:8
 starts-requires : tie.Need-starts-requires
 starts-requires c κs = search needs
 
--- src/units.rt:56:9
 returns : tie.Need-returns
 returns c = (finds-here amp (lt ∷ gt ∷ quot ∷ map reference others) 0x26 (sym (c .before .starts .ensures) ∙ c .if1 .taken) refl tt, search needs)
 
--- src/units.rt:58:22
 slice-aggregate-starts-2 : tie.Need-slice-aggregate-starts-2
 slice-aggregate-starts-2 c = search needs
 
--- src/units.rt:58:8
 starts-requires-2 : tie.Need-starts-requires-2
 starts-requires-2 c κs = search needs
 
--- src/units.rt:59:9
 returns-2 : tie.Need-returns-2
 returns-2 c = (finds-later (sym (c .before .before .before .before .starts .ensures) ∙ c .before .before .before .if1 .left) (finds-here lt (gt ∷ quot ∷ map reference others) 0x3C (sym (c .before .starts2 .ensures) ∙ c .if2 .taken) refl tt), search needs)
 
--- src/units.rt:61:22
 slice-aggregate-starts-3 : tie.Need-slice-aggregate-starts-3
 slice-aggregate-starts-3 c = search needs
 
--- src/units.rt:61:8
 starts-requires-3 : tie.Need-starts-requires-3
 starts-requires-3 c κs = search needs
 
--- src/units.rt:62:9
 returns-3 : tie.Need-returns-3
 returns-3 c = (finds-later (sym (c .before .before .before .before .before .before .before .starts .ensures) ∙ c .before .before .before .before .before .before .if1 .left) (finds-later (sym (c .before .before .before .before .starts2 .ensures) ∙ c .before .before .before .if2 .left) (finds-here gt (quot ∷ map reference others) 0x3E (sym (c .before .starts3 .ensures) ∙ c .if3 .taken) refl tt)), search needs)
 
--- src/units.rt:64:22
 slice-aggregate-starts-4 : tie.Need-slice-aggregate-starts-4
 slice-aggregate-starts-4 c = search needs
 
--- src/units.rt:64:8
 starts-requires-4 : tie.Need-starts-requires-4
 starts-requires-4 c κs = search needs
 
--- src/units.rt:65:9
 returns-4 : tie.Need-returns-4
 returns-4 c = (finds-later (sym (c .before .before .before .before .before .before .before .before .before .before .starts .ensures) ∙ c .before .before .before .before .before .before .before .before .before .if1 .left) (finds-later (sym (c .before .before .before .before .before .before .before .starts2 .ensures) ∙ c .before .before .before .before .before .before .if2 .left) (finds-later (sym (c .before .before .before .before .starts3 .ensures) ∙ c .before .before .before .if3 .left) (finds-here quot (map reference others) 0x22 (sym (c .before .starts4 .ensures) ∙ c .if4 .taken) refl tt))), search needs)
 
--- src/units.rt:67:32
 slice-aggregate-hex-between : tie.Need-slice-aggregate-hex-between
 slice-aggregate-hex-between c = search needs
 
--- src/units.rt:67:40
 slice-aggregate-hex-between-2 : tie.Need-slice-aggregate-hex-between-2
 slice-aggregate-hex-between-2 c = search needs
 
--- src/units.rt:67:9
 hex-between-requires : tie.Need-hex-between-requires
 hex-between-requires c κs = search needs
 
--- src/units.rt:68:8
 is-other-requires : tie.Need-is-other-requires
 is-other-requires c κs = search needs
 
--- src/units.rt:69:9
 returns-5 : tie.Need-returns-5
 returns-5 c = let e = sym (c .before .is-other .ensures) ∙ c .if5 .taken in (finds-later (sym (c .before .before .before .before .before .before .before .before .before .before .before .before .before .before .before .starts .ensures) ∙ c .before .before .before .before .before .before .before .before .before .before .before .before .before .before .if1 .left) (finds-later (sym (c .before .before .before .before .before .before .before .before .before .before .before .before .starts2 .ensures) ∙ c .before .before .before .before .before .before .before .before .before .before .before .if2 .left) (finds-later (sym (c .before .before .before .before .before .before .before .before .before .starts3 .ensures) ∙ c .before .before .before .before .before .before .before .before .if3 .left) (finds-later (sym (c .before .before .before .before .before .before .starts4 .ensures) ∙ c .before .before .before .before .before .if4 .left) (finds-other (c .before .before .before .before .before .before .before .before .before .before .before .before .before .before .before .before .before .before .args .rest .now) (c .before .before .hex-between .result) (c .before .before .hex-between .ensures .0) e)))), other-small (c .before .before .hex-between .result) e)
 
--- src/units.rt:52:1
 returns-6 : tie.Need-returns-6
 returns-6 c = let e = sym (c .before .is-other .ensures) ∙ c .if5 .left in (finds-later (sym (c .before .before .before .before .before .before .before .before .before .before .before .before .before .before .before .starts .ensures) ∙ c .before .before .before .before .before .before .before .before .before .before .before .before .before .before .if1 .left) (finds-later (sym (c .before .before .before .before .before .before .before .before .before .before .before .before .starts2 .ensures) ∙ c .before .before .before .before .before .before .before .before .before .before .before .if2 .left) (finds-later (sym (c .before .before .before .before .before .before .before .before .before .starts3 .ensures) ∙ c .before .before .before .before .before .before .before .before .if3 .left) (finds-later (sym (c .before .before .before .before .before .before .starts4 .ensures) ∙ c .before .before .before .before .before .if4 .left) (finds-no-other (c .before .before .before .before .before .before .before .before .before .before .before .before .before .before .before .before .before .before .args .rest .now) (c .before .before .hex-between .result) (c .before .before .hex-between .ensures .0) e)))), tt)
 

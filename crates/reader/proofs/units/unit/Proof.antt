@@ -1,44 +1,33 @@
+-- `unit` meets its contract: each return by the tests that led there.
+-- Assumes nothing.
 use borrow.Author.Needs.{needs}
-use Rattle.reader.proofs.units.unit.Statement.{statement}
 use Rattle.reader.proofs.units.unit.Tie as tie
-use Rattle.reader.proofs.units.unit.Reads as reads
-use Rattle.reader.proofs.units.unit.Lts as lts
-use Rattle.escapes.proofs.rows.row_at.Reads as row-at-reads
-use Rattle.reader.proofs.units.html_unit.Reads as html-unit-reads
+use Rattle.reader.proofs.units.unit.Statement.{statement}
 
--- src/units.rt:93:25
 enum-known-c : tie.Need-enum-known-c
 enum-known-c c = search needs
 
--- src/units.rt:93:31
 html-unit-requires : tie.Need-html-unit-requires
 html-unit-requires c κs = search needs
 
--- src/units.rt:94:27
 enum-known-c-2 : tie.Need-enum-known-c-2
 enum-known-c-2 c = search needs
 
--- src/units.rt:94:33
 row-at-requires : tie.Need-row-at-requires
 row-at-requires c κs = search needs
 
--- src/units.rt:95:26
 enum-known-c-3 : tie.Need-enum-known-c-3
 enum-known-c-3 c = search needs
 
--- src/units.rt:95:32
 row-at-requires-2 : tie.Need-row-at-requires-2
 row-at-requires-2 c κs = search needs
 
--- src/units.rt:89:1
 returns : tie.Need-returns
 returns c = rw (c .before .before .c .given .1) (c .html-unit .ensures)
 
--- src/units.rt:89:1
 returns-2 : tie.Need-returns-2
 returns-2 c = rw (c .before .before .c2 .given .1) (c .row-at .ensures)
 
--- src/units.rt:89:1
 returns-3 : tie.Need-returns-3
 returns-3 c = rw (c .before .before .c3 .given .1) (c .row-at2 .ensures)
 

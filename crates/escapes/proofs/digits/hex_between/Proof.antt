@@ -1,41 +1,32 @@
-use Rattle.escapes.proofs.Standing.{stands-within}
-use Rattle.escapes.specs.Hex.{hexBetween}
-use Rattle.parts.proofs.Filled.{lent-rest}
+-- `hex_between` meets its contract: the bytes before stand there, or the answer is 256.
+-- Assumes nothing.
 use mathlib.Core.Path.{sym, _∙_}
 use borrow.Author.Needs.{needs}
-use Rattle.escapes.proofs.heads.hex_between.Statement.{statement}
-use Rattle.escapes.proofs.heads.hex_between.Tie as tie
-use Rattle.escapes.proofs.heads.hex_between.Reads as reads
-use Rattle.escapes.proofs.heads.hex_between.Lts as lts
-use Rattle.escapes.proofs.heads.hex_before.Reads as hex-before-reads
-use Rattle.escapes.proofs.heads.starts.Reads as starts-reads
+use Rattle.escapes.specs.Hex.{hexBetween}
+use Rattle.parts.proofs.Filled.{lent-rest}
+use Rattle.escapes.proofs.Standing.{stands-within}
+use Rattle.escapes.proofs.digits.hex_between.Tie as tie
+use Rattle.escapes.proofs.digits.hex_between.Statement.{statement}
 
--- src/heads.rt:79:8
 starts-requires : tie.Need-starts-requires
 starts-requires c κs = search needs
 
--- src/heads.rt:81:34
 sub-hex-before : tie.Need-sub-hex-before
 sub-hex-before c = stands-within (c .before .before .before .before .before .args .before .now) (c .before .before .before .before .before .args .rest .now) (sym (c .before .starts .ensures) ∙ c .if1 .taken)
 
--- src/heads.rt:81:34
 part-hex-before-start : tie.Need-part-hex-before-start
 part-hex-before-start c = stands-within (c .before .before .before .before .before .args .before .now) (c .before .before .before .before .before .args .rest .now) (sym (c .before .starts .ensures) ∙ c .if1 .taken)
 
--- src/heads.rt:81:34
 part-hex-before-end : tie.Need-part-hex-before-end
 part-hex-before-end c = search needs
 
--- src/heads.rt:81:9
 hex-before-requires : tie.Need-hex-before-requires
 hex-before-requires c κs = search needs
 
--- src/heads.rt:81:9
 returns : tie.Need-returns
 unfolding hexBetween
 returns c = (c .hex-before .ensures .0 ∙ rw (← c .before .before .before .starts .ensures, c .before .before .if1 .taken, lent-rest), c .hex-before .ensures .1)
 
--- src/heads.rt:76:1
 returns-2 : tie.Need-returns-2
 unfolding hexBetween
 returns-2 c = (rw (← c .before .starts .ensures, c .if1 .left), search needs)
