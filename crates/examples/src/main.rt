@@ -18,12 +18,16 @@ fn print_answer(answer: Answer) {
     print_number(answer.place);
 }
 
+// The byte as a number.
+fn wide(b: u8) -> u64 {
+    b as u64
+}
+
 // Prints bytes in hex, and a line end.
 fn print_bytes(bytes: &[u8]) {
     let mut i = 0;
     while i < bytes.len() {
-        let b = bytes[i];
-        io::print_hex(STDOUT_FILENO, b as u64, 2);
+        io::print_hex(STDOUT_FILENO, wide(bytes[i]), 2);
         i += 1;
     }
     io::write_all(STDOUT_FILENO, b"\n");
