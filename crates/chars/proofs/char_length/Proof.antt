@@ -1,21 +1,39 @@
--- `char_length` meets its contract: each return is one width of the definition.
+-- `chars::char_length` meets its contract: a character has one byte, and one more for each bound that its number reaches.
 -- Assumes nothing.
 use borrow.Author.Needs.{needs}
-use borrow.Author.Tests.{lt-ltb, le-ltb}
-use Rattle.chars.proofs.char_length.Tie as tie
+use Rattle.chars.proofs.Widths.{utf8-length}
 use Rattle.chars.proofs.char_length.Statement.{statement}
+use Rattle.chars.proofs.char_length.Tie as tie
+
+reaches-requires : tie.Need-reaches-requires
+reaches-requires c κs = search needs
+
+add-result : tie.Need-add-result
+add-result c = search needs
+
+reaches-requires-2 : tie.Need-reaches-requires-2
+reaches-requires-2 c κs = search needs
+
+add-result-2 : tie.Need-add-result-2
+add-result-2 c = search needs
+
+reaches-requires-3 : tie.Need-reaches-requires-3
+reaches-requires-3 c κs = search needs
+
+add-result-3 : tie.Need-add-result-3
+add-result-3 c = search needs
 
 returns : tie.Need-returns
-returns c = (rw (lt-ltb _ 128 (c .if1 .taken)), search needs)
-
-returns-2 : tie.Need-returns-2
-returns-2 c = (rw (le-ltb _ 128 (c .before .if1 .left), lt-ltb _ 2048 (c .if2 .taken)), search needs)
-
-returns-3 : tie.Need-returns-3
-returns-3 c = (rw (le-ltb _ 128 (c .before .before .if1 .left), le-ltb _ 2048 (c .before .if2 .left), lt-ltb _ 65536 (c .if3 .taken)), search needs)
-
-returns-4 : tie.Need-returns-4
-returns-4 c = (rw (le-ltb _ 128 (c .before .before .if1 .left), le-ltb _ 2048 (c .before .if2 .left), le-ltb _ 65536 (c .if3 .left)), search needs)
+returns c = (rw (c .before .before .reaches .ensures .0, c .before .reaches2 .ensures .0, c .reaches3 .ensures .0) (utf8-length (c .before .before .before .args .number)), search needs)
 
 pub char-length-spec : {M : Type 1} → statement M
-char-length-spec = tie.close (tie.spec returns returns-2 returns-3 returns-4)
+char-length-spec =
+    tie.close
+    (tie.spec
+    reaches-requires
+    add-result
+    reaches-requires-2
+    add-result-2
+    reaches-requires-3
+    add-result-3
+    returns)

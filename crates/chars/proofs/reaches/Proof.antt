@@ -1,9 +1,9 @@
--- `references::characters::reaches` meets its contract: its test is the definition's.
+-- `chars::reaches` meets its contract: its test is the definition's.
 -- Assumes nothing.
 use borrow.Author.Needs.{needs}
 use borrow.Author.Tests.{le-leb, lt-leb}
-use Rattle.references.proofs.characters.reaches.Statement.{statement}
-use Rattle.references.proofs.characters.reaches.Tie as tie
+use Rattle.chars.proofs.reaches.Statement.{statement}
+use Rattle.chars.proofs.reaches.Tie as tie
 
 returns : tie.Need-returns
 returns c = (rw (le-leb _ _ (c .if1 .taken)), search needs)
