@@ -14,7 +14,7 @@ use Rattle.rules.specs.Operations.{decodeStep}
 use Rattle.rules.specs.Refusals.{caseBy}
 use Rattle.rules.specs.Program.{entityOf}
 use Rattle.rules.specs.Examples.{holdsIn, holds, starred, rest}
-use Rattle.rules.specs.Edges.{characters, validUpTo, longByOnes, encoders, writeFrom, closesAt, edges, copying, borrowing, digest, namesDigest, papers, readsAs, sessions, answers}
+use Rattle.rules.specs.Edges.{characters, validUpTo, longByOnes, encoders, writeFrom, closesAt, edges, copying, borrowing, digest, namesDigest, papers, readsAs, requests, answers}
 
 -- The starred examples, 1 to 12.
 pub starred-hold : T (all holds starred)
@@ -56,6 +56,6 @@ names-digest = tt
 pub papers-read : T (all readsAs papers)
 papers-read = tt
 
-pub program-answers : T (all answers sessions)
+pub program-answers : T (all answers requests)
 unfolding charStep encodeStep rawStep readStep names referenceStep browseStep decodeStep caseBy contextOf entityOf
 program-answers = tt

@@ -462,8 +462,8 @@ abbrev pub prints : ℕ → ℕ → List ℕ
 prints s p = printed (answer s 0 0 p) []
 
 -- What it reads, and what it prints.
-abbrev pub sessions : List (List ℕ × List ℕ)
-sessions =
+abbrev pub requests : List (List ℕ × List ℕ)
+requests =
     -- the listing
     (
       ascii "op=encode\ncontext=double_quoted\ntext=Tom's \"5\" & <up>",

@@ -43,7 +43,8 @@ pub enum Operation {
     Browse,
 }
 
-// The answer record of every call.
+// The answer record of every call, laid out as C lays it out.
+#[repr(C)]
 pub struct Answer {
     pub status: usize,
     pub length: usize,

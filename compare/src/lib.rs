@@ -1,0 +1,138 @@
+//! What the programs beside the crate share: the library's calls as its archive exports them, the crate's functions by context, and a
+//! generator of numbers with a fixed seed.
+
+/// The answer record, as include/lintelrye.h lays it out.
+#[repr(C)]
+#[derive(Clone, Copy, Debug, PartialEq, Eq)]
+pub struct Answer {
+    pub status: u64,
+    pub length: u64,
+    pub same: u64,
+    pub place: u64,
+}
+
+type Exported = unsafe extern "C" fn(u32, *const u8, usize, *mut u8, usize) -> Answer;
+
+#[link(name = "lintelrye_c", kind = "static")]
+extern "C" {
+    fn lintelrye_encode(c: u32, t: *const u8, n: usize, o: *mut u8, m: usize) -> Answer;
+    fn lintelrye_encode_borrowing(c: u32, t: *const u8, n: usize, o: *mut u8, m: usize) -> Answer;
+    fn lintelrye_decode(c: u32, t: *const u8, n: usize, o: *mut u8, m: usize) -> Answer;
+    fn lintelrye_decode_borrowing(c: u32, t: *const u8, n: usize, o: *mut u8, m: usize) -> Answer;
+    fn lintelrye_read(c: u32, t: *const u8, n: usize, o: *mut u8, m: usize) -> Answer;
+    fn lintelrye_read_borrowing(c: u32, t: *const u8, n: usize, o: *mut u8, m: usize) -> Answer;
+    fn lintelrye_browse(c: u32, t: *const u8, n: usize, o: *mut u8, m: usize) -> Answer;
+    fn lintelrye_browse_borrowing(c: u32, t: *const u8, n: usize, o: *mut u8, m: usize) -> Answer;
+}
+
+/// The four operations.
+#[derive(Clone, Copy, Debug, PartialEq, Eq)]
+pub enum Operation {
+    Encode,
+    Decode,
+    Read,
+    Browse,
+}
+
+pub const OPERATIONS: [Operation; 4] = [Operation::Encode, Operation::Decode, Operation::Read, Operation::Browse];
+
+/// The contexts by their numbers.
+pub const CONTEXTS: [&str; 14] = [
+    "text_minimal",
+    "text",
+    "double_quoted",
+    "single_quoted",
+    "quoted",
+    "safe",
+    "unquoted",
+    "script_single",
+    "script_double",
+    "script_quoted",
+    "style_single",
+    "style_double",
+    "style_quoted",
+    "script_raw",
+];
+
+/// One call of the library, copying or borrowing.
+pub fn call(operation: Operation, borrowing: bool, context: u32, text: &[u8], output: &mut [u8]) -> Answer {
+    let exported: Exported = match (operation, borrowing) {
+        (Operation::Encode, false) => lintelrye_encode,
+        (Operation::Encode, true) => lintelrye_encode_borrowing,
+        (Operation::Decode, false) => lintelrye_decode,
+        (Operation::Decode, true) => lintelrye_decode_borrowing,
+        (Operation::Read, false) => lintelrye_read,
+        (Operation::Read, true) => lintelrye_read_borrowing,
+        (Operation::Browse, false) => lintelrye_browse,
+        (Operation::Browse, true) => lintelrye_browse_borrowing,
+    };
+    // SAFETY: both slices are valid for their lengths, and a borrowed text and a mutably borrowed output do not overlap.
+    unsafe { exported(context, text.as_ptr(), text.len(), output.as_mut_ptr(), output.len()) }
+}
+
+/// A function of the crate that appends its result to a vector.
+pub type ToVec = for<'a> fn(&str, &'a mut Vec<u8>) -> &'a [u8];
+
+macro_rules! to_vec {
+    ($name:ident) => {
+        |text, output| html_escape::$name(text, output)
+    };
+}
+
+/// The crate's encoders, in the order of the contexts.
+pub const CRATE_ENCODERS: [ToVec; 14] = [
+    to_vec!(encode_text_minimal_to_vec),
+    to_vec!(encode_text_to_vec),
+    to_vec!(encode_double_quoted_attribute_to_vec),
+    to_vec!(encode_single_quoted_attribute_to_vec),
+    to_vec!(encode_quoted_attribute_to_vec),
+    to_vec!(encode_safe_to_vec),
+    to_vec!(encode_unquoted_attribute_to_vec),
+    to_vec!(encode_script_single_quoted_text_to_vec),
+    to_vec!(encode_script_double_quoted_text_to_vec),
+    to_vec!(encode_script_quoted_text_to_vec),
+    to_vec!(encode_style_single_quoted_text_to_vec),
+    to_vec!(encode_style_double_quoted_text_to_vec),
+    to_vec!(encode_style_quoted_text_to_vec),
+    to_vec!(encode_script_to_vec),
+];
+
+/// The crate's decoders, in the order of the contexts; script_raw has none.
+pub const CRATE_DECODERS: [ToVec; 13] = [
+    to_vec!(decode_html_entities_to_vec),
+    to_vec!(decode_html_entities_to_vec),
+    to_vec!(decode_html_entities_to_vec),
+    to_vec!(decode_html_entities_to_vec),
+    to_vec!(decode_html_entities_to_vec),
+    to_vec!(decode_html_entities_to_vec),
+    to_vec!(decode_html_entities_to_vec),
+    to_vec!(decode_script_single_quoted_text_to_vec),
+    to_vec!(decode_script_double_quoted_text_to_vec),
+    to_vec!(decode_script_quoted_text_to_vec),
+    to_vec!(decode_style_single_quoted_text_to_vec),
+    to_vec!(decode_style_double_quoted_text_to_vec),
+    to_vec!(decode_style_quoted_text_to_vec),
+];
+
+/// Numbers that look random and are the same in every run (splitmix64).
+pub struct Numbers(pub u64);
+
+impl Numbers {
+    pub fn next(&mut self) -> u64 {
+        self.0 = self.0.wrapping_add(0x9E37_79B9_7F4A_7C15);
+        let mut z = self.0;
+        z = (z ^ (z >> 30)).wrapping_mul(0xBF58_476D_1CE4_E5B9);
+        z = (z ^ (z >> 27)).wrapping_mul(0x94D0_49BB_1331_11EB);
+        z ^ (z >> 31)
+    }
+
+    /// A number below a bound that is not 0.
+    pub fn below(&mut self, bound: usize) -> usize {
+        (self.next() % bound as u64) as usize
+    }
+
+    /// One of the given values.
+    pub fn one_of<'a, T>(&mut self, values: &'a [T]) -> &'a T {
+        &values[self.below(values.len())]
+    }
+}
