@@ -3,10 +3,11 @@ ghost use mathlib.Core.Path.{_≡_};
 ghost use mathlib.Core.Bool.{not};
 ghost use Rattle.rules.specs.Contexts.{contextOf};
 ghost use Rattle.rules.specs.Operations.{browseIn, ruleOf};
-ghost use Rattle.rules.specs.declared.Operation.the-variants.{Encode, Decode, Read, Browse};
+ghost use Rattle.rules.specs.declared.Named.the-variants.{Units, ScriptRaw};
 ghost use Rattle.frame.specs.Jobs.{known, ruleAt};
 use rules::Context;
 use rules::Named;
+use rules::Operation;
 
 // The jobs: each operation in a context that it has, and nothing, where it has no such context. browse is the same in all of its contexts.
 pub enum Job {
@@ -16,39 +17,6 @@ pub enum Job {
     Read(Context),
     Browse,
     Nothing,
-}
-
-// The job of encode in the context of a number.
-pub fn encode_in(number: u32) -> Job
-    ensures { λ r. ⌜ ruleAt r ≡ ruleOf Encode (contextOf number) ⌝ }
-{
-    match rules::context_of(number) {
-        Named::Units(context) => Job::Encode(context),
-        Named::ScriptRaw => Job::EncodeRaw,
-        Named::Unknown => Job::Nothing,
-    }
-}
-
-// The job of decode in the context of a number.
-pub fn decode_in(number: u32) -> Job
-    ensures { λ r. ⌜ ruleAt r ≡ ruleOf Decode (contextOf number) ⌝ }
-{
-    match rules::context_of(number) {
-        Named::Units(context) => Job::Decode(context),
-        Named::ScriptRaw => Job::Nothing,
-        Named::Unknown => Job::Nothing,
-    }
-}
-
-// The job of read in the context of a number.
-pub fn read_in(number: u32) -> Job
-    ensures { λ r. ⌜ ruleAt r ≡ ruleOf Read (contextOf number) ⌝ }
-{
-    match rules::context_of(number) {
-        Named::Units(context) => Job::Read(context),
-        Named::ScriptRaw => Job::Nothing,
-        Named::Unknown => Job::Nothing,
-    }
 }
 
 // The job of browse in a context that has units: the HTML seven have it.
@@ -62,13 +30,37 @@ fn browse_units(context: Context) -> Job
     }
 }
 
-// The job of browse in the context of a number.
-pub fn browse_in(number: u32) -> Job
-    ensures { λ r. ⌜ ruleAt r ≡ ruleOf Browse (contextOf number) ⌝ }
+// The job of an operation in a context that has units.
+fn units_job(operation: Operation, context: Context) -> Job
+    ensures { λ r. ⌜ ruleAt r ≡ ruleOf operation (Units context) ⌝ }
+{
+    match operation {
+        Operation::Encode => Job::Encode(context),
+        Operation::Decode => Job::Decode(context),
+        Operation::Read => Job::Read(context),
+        Operation::Browse => browse_units(context),
+    }
+}
+
+// The job of an operation in script_raw: only encode has it.
+fn raw_job(operation: Operation) -> Job
+    ensures { λ r. ⌜ ruleAt r ≡ ruleOf operation ScriptRaw ⌝ }
+{
+    match operation {
+        Operation::Encode => Job::EncodeRaw,
+        Operation::Decode => Job::Nothing,
+        Operation::Read => Job::Nothing,
+        Operation::Browse => Job::Nothing,
+    }
+}
+
+// The job of an operation in the context of a number.
+pub fn job_of(operation: Operation, number: u32) -> Job
+    ensures { λ r. ⌜ ruleAt r ≡ ruleOf operation (contextOf number) ⌝ }
 {
     match rules::context_of(number) {
-        Named::Units(context) => browse_units(context),
-        Named::ScriptRaw => Job::Nothing,
+        Named::Units(context) => units_job(operation, context),
+        Named::ScriptRaw => raw_job(operation),
         Named::Unknown => Job::Nothing,
     }
 }

@@ -5,10 +5,12 @@ pub mod work;
 
 ghost use mathlib.Core.Path.{_≡_};
 ghost use mathlib.Core.Bool.{_&&_, cond};
-ghost use Rattle.rules.specs.Refusals.{answer, answerBy, outBy};
+ghost use Rattle.rules.specs.Refusals.{answer, answerBy, outBy, answerOf, outOf};
+ghost use Rattle.rules.specs.Contexts.{contextOf};
 ghost use Rattle.frame.specs.Jobs.{ruleAt};
 use crate::job::Job;
 use rules::Answer;
+use rules::Operation;
 
 // A refusal by its three numbers; `same` is 0.
 fn refusal(status: usize, length: usize, place: usize) -> Answer
@@ -38,7 +40,7 @@ fn same_bit(same: bool) -> usize
 
 // Every call of a job: the refusals in their order, and then the result. The output is written only where nothing is left to refuse;
 // a borrowing call leaves it alone where nothing is replaced.
-pub fn convert(job: Job, borrows: bool, text: &[u8], output: &mut [u8]) -> Answer
+fn convert(job: Job, borrows: bool, text: &[u8], output: &mut [u8]) -> Answer
     ensures { λ r. ⌜ (r ≡ answerBy (ruleAt job) borrows (now (text .entry)) (now (output .entry))) × (now (output .exit) ≡ outBy (ruleAt job) borrows (now (text .entry)) (now (output .entry))) ⌝ }
 {
     if job::is_nothing(job) {
@@ -72,4 +74,17 @@ pub fn convert(job: Job, borrows: bool, text: &[u8], output: &mut [u8]) -> Answe
         same: same_bit(found.same),
         place: 0,
     }
+}
+
+// A call of an operation in the context of a number: every public call is one of these.
+pub fn call(
+    operation: Operation,
+    context: u32,
+    borrows: bool,
+    text: &[u8],
+    output: &mut [u8],
+) -> Answer
+    ensures { λ r. ⌜ (r ≡ answerOf operation (contextOf context) borrows (now (text .entry)) (now (output .entry))) × (now (output .exit) ≡ outOf operation (contextOf context) borrows (now (text .entry)) (now (output .entry))) ⌝ }
+{
+    convert(job::job_of(operation, context), borrows, text, output)
 }

@@ -23,6 +23,7 @@ ghost use Rattle.rules.specs.Contexts.{contextOf};
 ghost use Rattle.rules.specs.Refusals.{answerOf, outOf, viewOf};
 ghost use Rattle.rules.specs.declared.Operation.the-variants.{Encode, Decode, Read, Browse};
 use rules::Answer;
+use rules::Operation;
 
 // The contexts: the HTML seven, the script strings, the style strings, and text inside a script element.
 pub const TEXT_MINIMAL: u32 = 0;
@@ -70,14 +71,14 @@ pub const BAD_CONTEXT: usize = 5;
 pub fn encode(context: u32, text: &[u8], output: &mut [u8]) -> Answer
     ensures { λ r. ⌜ (r ≡ answerOf Encode (contextOf context) false (now (text .entry)) (now (output .entry))) × (now (output .exit) ≡ outOf Encode (contextOf context) false (now (text .entry)) (now (output .entry))) ⌝ }
 {
-    frame::convert(frame::job::encode_in(context), false, text, output)
+    frame::call(Operation::Encode, context, false, text, output)
 }
 
 // encode as a borrowing call.
 pub fn encode_borrowing(context: u32, text: &[u8], output: &mut [u8]) -> Answer
     ensures { λ r. ⌜ (r ≡ answerOf Encode (contextOf context) true (now (text .entry)) (now (output .entry))) × (now (output .exit) ≡ outOf Encode (contextOf context) true (now (text .entry)) (now (output .entry))) ⌝ }
 {
-    frame::convert(frame::job::encode_in(context), true, text, output)
+    frame::call(Operation::Encode, context, true, text, output)
 }
 
 // Takes replacements back, as html-escape does: references in the HTML seven, escapes in the strings; whatever is none stays as it is.
@@ -85,42 +86,42 @@ pub fn encode_borrowing(context: u32, text: &[u8], output: &mut [u8]) -> Answer
 pub fn decode(context: u32, text: &[u8], output: &mut [u8]) -> Answer
     ensures { λ r. ⌜ (r ≡ answerOf Decode (contextOf context) false (now (text .entry)) (now (output .entry))) × (now (output .exit) ≡ outOf Decode (contextOf context) false (now (text .entry)) (now (output .entry))) ⌝ }
 {
-    frame::convert(frame::job::decode_in(context), false, text, output)
+    frame::call(Operation::Decode, context, false, text, output)
 }
 
 // decode as a borrowing call.
 pub fn decode_borrowing(context: u32, text: &[u8], output: &mut [u8]) -> Answer
     ensures { λ r. ⌜ (r ≡ answerOf Decode (contextOf context) true (now (text .entry)) (now (output .entry))) × (now (output .exit) ≡ outOf Decode (contextOf context) true (now (text .entry)) (now (output .entry))) ⌝ }
 {
-    frame::convert(frame::job::decode_in(context), true, text, output)
+    frame::call(Operation::Decode, context, true, text, output)
 }
 
 // Takes back exactly what encode writes, and refuses everything else: of a form that encode wrote it gives the text that was typed.
 pub fn read(context: u32, text: &[u8], output: &mut [u8]) -> Answer
     ensures { λ r. ⌜ (r ≡ answerOf Read (contextOf context) false (now (text .entry)) (now (output .entry))) × (now (output .exit) ≡ outOf Read (contextOf context) false (now (text .entry)) (now (output .entry))) ⌝ }
 {
-    frame::convert(frame::job::read_in(context), false, text, output)
+    frame::call(Operation::Read, context, false, text, output)
 }
 
 // read as a borrowing call.
 pub fn read_borrowing(context: u32, text: &[u8], output: &mut [u8]) -> Answer
     ensures { λ r. ⌜ (r ≡ answerOf Read (contextOf context) true (now (text .entry)) (now (output .entry))) × (now (output .exit) ≡ outOf Read (contextOf context) true (now (text .entry)) (now (output .entry))) ⌝ }
 {
-    frame::convert(frame::job::read_in(context), true, text, output)
+    frame::call(Operation::Read, context, true, text, output)
 }
 
 // Takes references back as decode does, but numbers as a browser takes them: 0, surrogates and numbers above 10FFFF hex give U+FFFD.
 pub fn browse(context: u32, text: &[u8], output: &mut [u8]) -> Answer
     ensures { λ r. ⌜ (r ≡ answerOf Browse (contextOf context) false (now (text .entry)) (now (output .entry))) × (now (output .exit) ≡ outOf Browse (contextOf context) false (now (text .entry)) (now (output .entry))) ⌝ }
 {
-    frame::convert(frame::job::browse_in(context), false, text, output)
+    frame::call(Operation::Browse, context, false, text, output)
 }
 
 // browse as a borrowing call.
 pub fn browse_borrowing(context: u32, text: &[u8], output: &mut [u8]) -> Answer
     ensures { λ r. ⌜ (r ≡ answerOf Browse (contextOf context) true (now (text .entry)) (now (output .entry))) × (now (output .exit) ≡ outOf Browse (contextOf context) true (now (text .entry)) (now (output .entry))) ⌝ }
 {
-    frame::convert(frame::job::browse_in(context), true, text, output)
+    frame::call(Operation::Browse, context, true, text, output)
 }
 
 // The result of a call: the whole text where the answer's `same` is 1, otherwise the first `length` bytes of the output, or an empty part where
