@@ -54,20 +54,34 @@ pub const CONTEXTS: [&str; 14] = [
     "script_raw",
 ];
 
+/// A call of the library, found once and made often.
+#[derive(Clone, Copy)]
+pub struct Call(Exported);
+
+impl Call {
+    pub fn find(operation: Operation, borrowing: bool) -> Call {
+        Call(match (operation, borrowing) {
+            (Operation::Encode, false) => lintelrye_encode,
+            (Operation::Encode, true) => lintelrye_encode_borrowing,
+            (Operation::Decode, false) => lintelrye_decode,
+            (Operation::Decode, true) => lintelrye_decode_borrowing,
+            (Operation::Read, false) => lintelrye_read,
+            (Operation::Read, true) => lintelrye_read_borrowing,
+            (Operation::Browse, false) => lintelrye_browse,
+            (Operation::Browse, true) => lintelrye_browse_borrowing,
+        })
+    }
+
+    #[inline]
+    pub fn make(self, context: u32, text: &[u8], output: &mut [u8]) -> Answer {
+        // SAFETY: both slices are valid for their lengths, and a borrowed text and a mutably borrowed output do not overlap.
+        unsafe { (self.0)(context, text.as_ptr(), text.len(), output.as_mut_ptr(), output.len()) }
+    }
+}
+
 /// One call of the library, copying or borrowing.
 pub fn call(operation: Operation, borrowing: bool, context: u32, text: &[u8], output: &mut [u8]) -> Answer {
-    let exported: Exported = match (operation, borrowing) {
-        (Operation::Encode, false) => lintelrye_encode,
-        (Operation::Encode, true) => lintelrye_encode_borrowing,
-        (Operation::Decode, false) => lintelrye_decode,
-        (Operation::Decode, true) => lintelrye_decode_borrowing,
-        (Operation::Read, false) => lintelrye_read,
-        (Operation::Read, true) => lintelrye_read_borrowing,
-        (Operation::Browse, false) => lintelrye_browse,
-        (Operation::Browse, true) => lintelrye_browse_borrowing,
-    };
-    // SAFETY: both slices are valid for their lengths, and a borrowed text and a mutably borrowed output do not overlap.
-    unsafe { exported(context, text.as_ptr(), text.len(), output.as_mut_ptr(), output.len()) }
+    Call::find(operation, borrowing).make(context, text, output)
 }
 
 /// A function of the crate that appends its result to a vector.

@@ -1,0 +1,163 @@
+//! Measuring: four passes over the same texts, in rounds that interleave them, and the median of each.
+
+use crate::texts::Case;
+use compare::Call;
+use std::arch::asm;
+use std::str::from_utf8;
+use std::time::{Duration, Instant};
+
+/// The room that every result fits into: six times the longest text.
+const ROOM: usize = 6 * 65_536;
+
+/// How many rounds are taken, and how long one pass is repeated in a round.
+pub struct Effort {
+    pub rounds: usize,
+    pub round: Duration,
+}
+
+/// Medians in nanoseconds per byte of the text.
+pub struct Row {
+    pub case: Case,
+    /// The library.
+    pub ours: f64,
+    /// The crate alone.
+    pub alone: f64,
+    /// The crate after `std::str::from_utf8`.
+    pub checked: f64,
+    /// A copy of the text.
+    pub copied: f64,
+    /// How far apart the quartiles of ours and of the checked crate are, as a part of the median (the larger one).
+    pub spread: f64,
+}
+
+impl Row {
+    /// The ratio that the bar is about.
+    pub fn ratio(&self) -> f64 {
+        self.ours / self.checked
+    }
+
+    pub fn above(&self) -> bool {
+        self.case.bar().map_or(false, |bar| self.ratio() > bar)
+    }
+}
+
+/// Where the passes write.
+pub struct Rooms {
+    ours: Vec<u8>,
+    alone: Vec<u8>,
+    checked: Vec<u8>,
+    copied: Vec<u8>,
+}
+
+impl Rooms {
+    pub fn new() -> Rooms {
+        let room = || vec![0; ROOM];
+        Rooms { ours: room(), alone: room(), checked: room(), copied: room() }
+    }
+}
+
+/// Keeps the compiler from leaving out what computes a value, or from knowing it.
+fn keep<T: ?Sized>(value: &T) -> &T {
+    // SAFETY: the code is empty.
+    unsafe { asm!("/* {0} */", in(reg) value as *const T as *const u8, options(nostack, preserves_flags)) };
+    value
+}
+
+/// Whether both sides give the same bytes for every text of the case; the words say where they do not.
+pub fn compare(case: &Case, rooms: &mut Rooms) -> Result<(), String> {
+    let call = Call::find(case.operation, case.borrowing);
+    for text in &case.texts {
+        let answer = call.make(case.context as u32, text.as_bytes(), &mut rooms.ours);
+        rooms.alone.clear();
+        let theirs = case.theirs()(text, &mut rooms.alone);
+        let length = answer.length as usize;
+        if answer.status != 0 || length > ROOM {
+            return Err(format!("{}: {:?} for {:.60?}", case.name(), answer, text));
+        }
+        let wrote = !(case.borrowing && answer.same == 1);
+        let ours = if wrote { &rooms.ours[..length] } else { text.as_bytes() };
+        if ours != theirs {
+            return Err(format!("{}: other bytes than the crate's for {:.60?}", case.name(), text));
+        }
+    }
+    Ok(())
+}
+
+/// Measures a case: calibrates each pass (which also warms up), then takes rounds, each of which starts with another pass.
+pub fn measure(case: Case, rooms: &mut Rooms, effort: &Effort) -> Row {
+    let mut passes = passes(&case, rooms);
+    let mut repeats = [0; 4];
+    for (pass, repeats) in passes.iter_mut().zip(&mut repeats) {
+        *repeats = calibrate(pass, effort.round);
+    }
+    let mut times: [Vec<f64>; 4] = Default::default();
+    for round in 0..effort.rounds {
+        for turn in 0..4 {
+            let i = (round + turn) % 4;
+            let spent = time(&mut passes[i], repeats[i]);
+            times[i].push(spent.as_nanos() as f64 / repeats[i] as f64 / case.bytes() as f64);
+        }
+    }
+    drop(passes);
+    for times in &mut times {
+        times.sort_by(f64::total_cmp);
+    }
+    let part = |i: usize, quarters: usize| times[i][(times[i].len() - 1) * quarters / 4];
+    let spread = |i: usize| (part(i, 3) - part(i, 1)) / part(i, 2);
+    Row { ours: part(0, 2), alone: part(1, 2), checked: part(2, 2), copied: part(3, 2), spread: spread(0).max(spread(2)), case }
+}
+
+type Pass<'a> = Box<dyn FnMut() + 'a>;
+
+/// The four passes over the texts of a case: ours, the crate alone, the crate after from_utf8, a copy.
+fn passes<'a>(case: &'a Case, rooms: &'a mut Rooms) -> [Pass<'a>; 4] {
+    let Rooms { ours, alone, checked, copied } = rooms;
+    let (call, theirs) = (Call::find(case.operation, case.borrowing), case.theirs());
+    let each = move || case.texts.iter().map(|text| keep(text.as_str()));
+    [
+        Box::new(move || {
+            each().for_each(|text| {
+                keep(&call.make(case.context as u32, text.as_bytes(), ours));
+            })
+        }),
+        Box::new(move || {
+            each().for_each(|text| {
+                alone.clear();
+                keep(theirs(text, alone));
+            })
+        }),
+        Box::new(move || {
+            each().for_each(|text| {
+                checked.clear();
+                let text = from_utf8(text.as_bytes()).expect("the texts are valid");
+                keep(theirs(text, checked));
+            })
+        }),
+        Box::new(move || {
+            each().for_each(|text| {
+                copied[..text.len()].copy_from_slice(text.as_bytes());
+                keep(&copied[..]);
+            })
+        }),
+    ]
+}
+
+/// How often a pass is repeated to fill a round.
+fn calibrate(pass: &mut Pass, round: Duration) -> u32 {
+    let mut repeats = 1;
+    loop {
+        let spent = time(pass, repeats);
+        if spent * 4 >= round {
+            return (repeats as f64 * round.as_secs_f64() / spent.as_secs_f64()).ceil() as u32;
+        }
+        repeats *= 2;
+    }
+}
+
+fn time(pass: &mut Pass, repeats: u32) -> Duration {
+    let start = Instant::now();
+    for _ in 0..repeats {
+        pass();
+    }
+    start.elapsed()
+}

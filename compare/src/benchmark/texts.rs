@@ -1,0 +1,253 @@
+//! The texts of the benchmark: for every operation and context the same classes, made by a generator with a fixed seed.
+
+use compare::{Numbers, Operation, ToVec, CONTEXTS, CRATE_DECODERS, CRATE_ENCODERS};
+
+/// The longest text that a call takes.
+const LIMIT: usize = 65_536;
+
+/// How many names are called one after the other.
+const NAMES: usize = 2_000;
+
+const ENGLISH: [&str; 40] = [
+    "the", "pump", "in", "north", "hall", "was", "opened", "at", "seven", "and", "closed", "again", "before", "noon", "because", "of", "a",
+    "pressure", "reading", "that", "nobody", "could", "explain", "so", "far", "Engineers", "will", "look", "after", "valve", "12", "on",
+    "Monday", "with", "spare", "parts", "from", "store", "room", "4",
+];
+const CYRILLIC: [&str; 16] = [
+    "насос", "в", "северном", "зале", "был", "открыт", "утром", "и", "закрыт", "снова", "до", "полудня", "Инженеры", "посмотрят", "клапан", "завтра",
+];
+const CJK: [&str; 16] = [
+    "北側", "の", "水泵", "早上", "七點", "開", "中午", "前", "又", "關閉", "工程師", "會", "檢查", "閥門", "ポンプ", "明日",
+];
+const EMOJI: [&str; 16] = [
+    "😀", "🚰", "🔧", "🏭", "👩\u{200D}🔧", "🌡\u{FE0F}", "🚪", "🔔", "🔒", "🧯", "🪛", "🛠\u{FE0F}", "🕖", "🙈", "🎉", "👍🏽",
+];
+
+/// One line of the table: an operation in a context, on texts of a class.
+pub struct Case {
+    pub operation: Operation,
+    pub borrowing: bool,
+    pub context: usize,
+    pub class: &'static str,
+    pub texts: Vec<String>,
+}
+
+impl Case {
+    /// The crate's counterpart: its encoder or decoder of the context. For `read` and `browse`, which the crate does not have, its decoder.
+    pub fn theirs(&self) -> ToVec {
+        match self.operation {
+            Operation::Encode => CRATE_ENCODERS[self.context],
+            _ => CRATE_DECODERS[self.context],
+        }
+    }
+
+    /// The number of bytes that one pass over the texts takes.
+    pub fn bytes(&self) -> usize {
+        self.texts.iter().map(String::len).sum()
+    }
+
+    /// The contexts that are of one kind, with the operation.
+    pub fn family(&self) -> &'static str {
+        match (self.operation, self.context, self.borrowing) {
+            (Operation::Encode, 0..=6, false) => "encode HTML",
+            (Operation::Encode, 0..=6, true) => "encode HTML, borrowing",
+            (Operation::Encode, 7..=9, _) => "encode script strings",
+            (Operation::Encode, 10..=12, _) => "encode style strings",
+            (Operation::Encode, _, _) => "encode script_raw",
+            (Operation::Decode, 0..=6, _) => "decode HTML",
+            (Operation::Decode, 7..=9, _) => "decode script strings",
+            (Operation::Decode, _, _) => "decode style strings",
+            (Operation::Read, 0..=6, _) => "read HTML",
+            (Operation::Read, 7..=9, _) => "read script strings",
+            (Operation::Read, _, _) => "read style strings",
+            (Operation::Browse, _, _) => "browse",
+        }
+    }
+
+    pub fn name(&self) -> String {
+        format!("{} | {} | {}", self.family(), CONTEXTS[self.context], self.class)
+    }
+
+    /// The most that ours may take of the time of the crate after `from_utf8`; `read` has no such bar.
+    pub fn bar(&self) -> Option<f64> {
+        match (self.operation, self.context, self.class) {
+            (Operation::Encode, 0..=6, "plain") => Some(if self.borrowing { 0.15 } else { 0.3 }),
+            (Operation::Encode, 0..=6, "short names") => Some(0.9),
+            (Operation::Encode, 0..=6, "Cyrillic" | "CJK" | "emoji") => Some(0.6),
+            (Operation::Encode, 0..=6, _) => Some(1.3),
+            (Operation::Encode, _, _) => Some(1.5),
+            (Operation::Decode | Operation::Browse, _, "plain") => Some(1.0),
+            (Operation::Decode | Operation::Browse, _, _) => Some(2.0),
+            (Operation::Read, _, _) => None,
+        }
+    }
+}
+
+/// Every case. The HTML seven share one decoder, so decode and browse are measured in one of them.
+pub fn cases() -> Vec<Case> {
+    let mut all = Vec::new();
+    let mut add = |operation, borrowing, contexts: &[usize]| {
+        for &context in contexts {
+            all.extend(cases_of(operation, borrowing, context));
+        }
+    };
+    add(Operation::Encode, false, &[0, 1, 2, 3, 4, 5, 6]);
+    add(Operation::Encode, true, &[0, 1, 2, 3, 4, 5, 6]);
+    add(Operation::Encode, false, &[7, 8, 9, 10, 11, 12, 13]);
+    add(Operation::Decode, false, &[1, 7, 8, 9, 10, 11, 12]);
+    add(Operation::Read, false, &[0, 1, 2, 3, 4, 5, 6, 7, 8, 9, 10, 11, 12]);
+    add(Operation::Browse, false, &[1]);
+    all
+}
+
+/// The classes of one operation in one context.
+fn cases_of(operation: Operation, borrowing: bool, context: usize) -> Vec<Case> {
+    let mut numbers = Numbers(context as u64);
+    let pieces = pieces(operation, context);
+    let spaced = context != 6;
+    let english = words(&mut numbers, &ENGLISH, if spaced { &[" ", " ", " ", " ", ", ", ". "] } else { &[""] });
+    let mut classes: Vec<(&'static str, Vec<String>)> = Vec::new();
+    for (class, percent) in [("plain", 0), ("1 %", 1), ("10 %", 10), ("50 %", 50), ("all", 100)] {
+        classes.push((class, vec![fill(&mut numbers, &english, &pieces, percent, LIMIT)]));
+    }
+    classes.push(("short names", names(&mut numbers, &english, &pieces)));
+    let space = if spaced { " " } else { "" };
+    for (class, list, gaps) in [("Cyrillic", &CYRILLIC, [space, space]), ("CJK", &CJK, ["", "、"]), ("emoji", &EMOJI, ["", space])] {
+        let text = words(&mut numbers, list, &gaps);
+        classes.push((class, vec![fill(&mut numbers, &text, &pieces, 0, LIMIT)]));
+    }
+    for (class, pieces) in further(operation, context) {
+        classes.push((class, vec![fill(&mut numbers, &english, &pieces, 100, LIMIT)]));
+    }
+    classes.into_iter().map(|(class, texts)| Case { operation, borrowing, context, class, texts }).collect()
+}
+
+/// Words of a list with gaps between them, somewhat more than a text takes.
+fn words(numbers: &mut Numbers, list: &[&str], gaps: &[&str]) -> String {
+    let mut text = String::new();
+    while text.len() < LIMIT + 256 {
+        text += *numbers.one_of(list);
+        text += *numbers.one_of(gaps);
+    }
+    text
+}
+
+/// A text of at most `limit` bytes: `percent` of its pieces are from `pieces`, the others are the characters of `plain`, which is longer.
+fn fill(numbers: &mut Numbers, plain: &str, pieces: &[String], percent: usize, limit: usize) -> String {
+    let mut characters = plain.chars();
+    let mut text = String::new();
+    loop {
+        let before = text.len();
+        if numbers.below(100) < percent {
+            text += numbers.one_of(pieces).as_str();
+        } else {
+            text.extend(characters.next());
+        }
+        if text.len() > limit {
+            text.truncate(before);
+            return text;
+        }
+    }
+}
+
+/// Names of 5 to 40 bytes, cut out of a text of ASCII characters; one in ten has some of the pieces.
+fn names(numbers: &mut Numbers, plain: &str, pieces: &[String]) -> Vec<String> {
+    let mut all = Vec::new();
+    while all.len() < NAMES {
+        let percent = if numbers.below(10) == 0 { 10 } else { 0 };
+        let (start, limit) = (numbers.below(LIMIT), 5 + numbers.below(36));
+        let name = fill(numbers, &plain[start..], pieces, percent, limit);
+        if name.len() >= 5 {
+            all.push(name);
+        }
+    }
+    all
+}
+
+/// What is special for the operation in the context: what encode replaces there, or what the others take back.
+fn pieces(operation: Operation, context: usize) -> Vec<String> {
+    match operation {
+        Operation::Encode => special(context),
+        Operation::Decode | Operation::Browse if context < 7 => references(),
+        _ => special(context).iter().map(|piece| encoded(context, piece)).collect(),
+    }
+}
+
+/// What the context's encoder replaces, but nothing that the crate's decoder would not take back (NUL in a style string, most controls in `unquoted`).
+fn special(context: usize) -> Vec<String> {
+    let mut pieces: Vec<&str> = match context {
+        0 => vec!["&", "<"],
+        1 => vec!["&", "<", ">"],
+        2 => vec!["&", "<", ">", "\""],
+        3 => vec!["&", "<", ">", "'"],
+        4 => vec!["&", "<", ">", "\"", "'"],
+        5 => vec!["&", "<", ">", "\"", "'", "/"],
+        6 => " |!|\"|#|$|%|&|'|(|)|*|+|,|-|.|/|:|;|<|=|>|?|@|[|\\|]|^|_|`|{|}|~|\t|\n|\u{C}|\r".split('|').chain(["|"]).collect(),
+        13 => vec!["<!--", "</script>", "<"],
+        _ => vec!["\\", "<", "\n", "\t", "\u{1}", "\u{1F}"],
+    };
+    match context {
+        7 | 10 => pieces.push("'"),
+        8 | 11 => pieces.push("\""),
+        9 | 12 => pieces.extend(["'", "\""]),
+        _ => {}
+    }
+    if let 7..=9 = context {
+        pieces.extend(["\u{2028}", "\u{2029}"]);
+    }
+    pieces.into_iter().map(String::from).collect()
+}
+
+/// What the context's encoder writes for a piece.
+fn encoded(context: usize, piece: &str) -> String {
+    let mut output = Vec::new();
+    CRATE_ENCODERS[context](piece, &mut output);
+    String::from_utf8(output).expect("the crate's encoders write UTF-8")
+}
+
+/// References as pages have them: half of them the common names, a quarter numbers, a quarter any names of the table.
+fn references() -> Vec<String> {
+    let mut numbers = Numbers(14);
+    let (numbered, named) = (numbered(), named());
+    let common = ["&amp;", "&lt;", "&gt;", "&quot;", "&nbsp;", "&apos;"];
+    let one = |i: usize| match i % 4 {
+        0 => numbers.one_of(&numbered).clone(),
+        1 => numbers.one_of(&named).clone(),
+        _ => numbers.one_of(&common).to_string(),
+    };
+    (0..256).map(one).collect()
+}
+
+/// Numeric references, decimal and hexadecimal, to characters of one to four bytes.
+fn numbered() -> Vec<String> {
+    let mut numbers = Numbers(15);
+    let one = |i: usize| {
+        let (from, count) = [(0x21, 0x5E), (0xA0, 0x460), (0x2000, 0xC00), (0x1F300, 0x400)][i % 4];
+        let character = from + numbers.below(count);
+        match numbers.below(3) {
+            0 => format!("&#{};", character),
+            1 => format!("&#x{:X};", character),
+            _ => format!("&#x{:x};", character),
+        }
+    };
+    (0..256).map(one).collect()
+}
+
+/// A reference for every name of the table.
+fn named() -> Vec<String> {
+    html_escape::NAMED_ENTITIES.iter().map(|(name, _)| format!("&{};", String::from_utf8_lossy(name))).collect()
+}
+
+/// Classes that only some operations and contexts have: nothing but pieces of one kind. An escape with digits counts as a number.
+fn further(operation: Operation, context: usize) -> Vec<(&'static str, Vec<String>)> {
+    match (operation, context) {
+        (Operation::Encode, 6) => vec![("English", ENGLISH.iter().map(|word| format!("{} ", word)).collect())],
+        (Operation::Encode, 13) => [("only <!--", "<!--"), ("only </script>", "</script>"), ("only <", "<")].map(|(class, piece)| (class, vec![piece.to_string()])).to_vec(),
+        (Operation::Decode | Operation::Browse, 0..=6) => vec![("numbers only", numbered()), ("named only", named())],
+        (Operation::Decode, _) => {
+            let (numbered, named) = pieces(operation, context).into_iter().partition(|piece| piece.bytes().any(|byte| byte.is_ascii_digit()));
+            vec![("numbers only", numbered), ("named only", named)]
+        }
+        _ => Vec::new(),
+    }
+}
