@@ -4,7 +4,7 @@ use crate::texts::Case;
 use compare::Call;
 use std::arch::asm;
 use std::str::from_utf8;
-use std::time::{Duration, Instant};
+use std::time::Duration;
 
 /// The room that every result fits into: six times the longest text.
 const ROOM: usize = 6 * 65_536;
@@ -31,13 +31,13 @@ pub struct Row {
 }
 
 impl Row {
-    /// The ratio that the bar is about.
+    /// The ratio that is limited, to the two digits that are printed.
     pub fn ratio(&self) -> f64 {
-        self.ours / self.checked
+        (100.0 * self.ours / self.checked).round() / 100.0
     }
 
     pub fn above(&self) -> bool {
-        self.case.bar().map_or(false, |bar| self.ratio() > bar)
+        self.case.limit().map_or(false, |limit| self.ratio() > limit)
     }
 }
 
@@ -66,18 +66,20 @@ fn keep<T: ?Sized>(value: &T) -> &T {
 /// Whether both sides give the same bytes for every text of the case; the words say where they do not.
 pub fn compare(case: &Case, rooms: &mut Rooms) -> Result<(), String> {
     let call = Call::find(case.operation, case.borrowing);
-    for text in &case.texts {
+    for (i, text) in case.texts.iter().enumerate() {
+        // No result has this byte: what an earlier text left cannot pass for this one's result.
+        rooms.ours[..6 * text.len()].fill(0xFF);
         let answer = call.make(case.context as u32, text.as_bytes(), &mut rooms.ours);
+        if answer.status != 0 || answer.length as usize > ROOM {
+            return Err(format!("{}, text {}: {:?}", case.name(), i, answer));
+        }
+        let borrowed = case.borrowing && answer.same == 1;
+        let ours = if borrowed { text.as_bytes() } else { &rooms.ours[..answer.length as usize] };
         rooms.alone.clear();
         let theirs = case.theirs()(text, &mut rooms.alone);
-        let length = answer.length as usize;
-        if answer.status != 0 || length > ROOM {
-            return Err(format!("{}: {:?} for {:.60?}", case.name(), answer, text));
-        }
-        let wrote = !(case.borrowing && answer.same == 1);
-        let ours = if wrote { &rooms.ours[..length] } else { text.as_bytes() };
         if ours != theirs {
-            return Err(format!("{}: other bytes than the crate's for {:.60?}", case.name(), text));
+            let place = ours.iter().zip(theirs).take_while(|(one, other)| one == other).count();
+            return Err(format!("{}, text {}: from byte {} of the result on it is not the crate's", case.name(), i, place));
         }
     }
     Ok(())
@@ -154,10 +156,32 @@ fn calibrate(pass: &mut Pass, round: Duration) -> u32 {
     }
 }
 
+/// How long the repeats of a pass take.
 fn time(pass: &mut Pass, repeats: u32) -> Duration {
-    let start = Instant::now();
+    let start = processor_time();
     for _ in 0..repeats {
         pass();
     }
-    start.elapsed()
+    processor_time() - start
+}
+
+/// As Linux lays it out on 64-bit processors.
+#[repr(C)]
+struct Time {
+    seconds: i64,
+    nanoseconds: i64,
+}
+
+extern "C" {
+    fn clock_gettime(clock: i32, time: *mut Time) -> i32;
+}
+
+/// The processor time of this thread: what else the machine does meanwhile does not count.
+fn processor_time() -> Duration {
+    const CLOCK_THREAD_CPUTIME_ID: i32 = 3;
+    let mut now = Time { seconds: 0, nanoseconds: 0 };
+    // SAFETY: the time is valid for writing.
+    let failed = unsafe { clock_gettime(CLOCK_THREAD_CPUTIME_ID, &mut now) };
+    assert_eq!(failed, 0, "the clock of the thread's processor time cannot be read");
+    Duration::new(now.seconds as u64, now.nanoseconds as u32)
 }

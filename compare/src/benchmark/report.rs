@@ -1,30 +1,60 @@
-//! What the benchmark says: the lines of its table, the bar, and the document.
+//! What the benchmark prints: a line for each row, and the worst ratios. Also what the document and the picture ask of the rows.
 
 use crate::clock::Row;
-use compare::CONTEXTS;
+use compare::{call, Operation, CONTEXTS};
 
 /// The head of the table that is printed.
-pub const HEAD: &str = "                                                    ns per byte                          ours over\noperation and context                  class            ours   crate  +utf8   memcpy    crate  +utf8  memcpy";
+pub const HEAD: &str = concat!(
+    "                                                        ns per byte                        ours over\n",
+    "operation and context                   class           ours   crate  +utf8  memcpy    crate  +utf8  memcpy"
+);
 
 /// One line of the table.
 pub fn line(row: &Row) -> String {
     let case = &row.case;
     let place = format!("{} {}", case.family(), CONTEXTS[case.context]);
-    let mark = match case.bar() {
-        Some(bar) if row.above() => format!("  ABOVE {:.2}", bar),
+    let mark = match case.limit() {
+        Some(limit) if row.above() => format!("  above {:.2}", limit),
         _ => String::new(),
     };
     let medians = format!("{:6.3}  {:6.3} {:6.3}  {:6.3}", row.ours, row.alone, row.checked, row.copied);
     let ratios = format!("{:6.2} {:6.2}  {:6.1}", row.ours / row.alone, row.ratio(), row.ours / row.copied);
-    format!("{:38} {:14} {}   {}{}", place, case.class, medians, ratios, mark)
+    format!("{:39} {:14} {}   {}{}", place, case.class, medians, ratios, mark)
 }
 
-/// The names of a kind, each once, in their order.
-pub fn each_once<'a>(rows: &'a [Row], name: impl Fn(&'a Row) -> &'static str) -> Vec<&'static str> {
+/// The worst ratio of each family in each class, as lines of text.
+pub fn summary(rows: &[Row]) -> String {
+    let mut text = String::from("worst ratio, ours over the crate after from_utf8 (* above the limit):\n");
+    for family in families(rows) {
+        let worst = classes(rows).into_iter().filter_map(|class| worst(rows, family, class));
+        let cell = |row: &Row| format!("{} {:.2}{}", row.case.class, row.ratio(), if row.above() { "*" } else { "" });
+        text += &format!("{:24} {}\n", family, worst.map(cell).collect::<Vec<_>>().join(", "));
+    }
+    text + &above(rows)
+}
+
+/// How many rows are above their limit.
+pub fn above(rows: &[Row]) -> String {
+    let above = rows.iter().filter(|row| row.above()).count();
+    format!("{} of {} lines are above their limit.", above, rows.len())
+}
+
+/// The families of the rows, each once.
+pub fn families(rows: &[Row]) -> Vec<&'static str> {
+    each_once(rows.iter().map(|row| row.case.family()))
+}
+
+/// The classes of the rows, each once.
+pub fn classes(rows: &[Row]) -> Vec<&'static str> {
+    each_once(rows.iter().map(|row| row.case.class))
+}
+
+/// Values, each once, in their order.
+pub fn each_once<T: PartialEq>(values: impl Iterator<Item = T>) -> Vec<T> {
     let mut all = Vec::new();
-    for row in rows {
-        if !all.contains(&name(row)) {
-            all.push(name(row));
+    for value in values {
+        if !all.contains(&value) {
+            all.push(value);
         }
     }
     all
@@ -32,22 +62,18 @@ pub fn each_once<'a>(rows: &'a [Row], name: impl Fn(&'a Row) -> &'static str) ->
 
 /// The row with the highest ratio among the contexts of a family, for one class.
 pub fn worst<'a>(rows: &'a [Row], family: &str, class: &str) -> Option<&'a Row> {
-    let chosen = rows.iter().filter(|row| row.case.family() == family && row.case.class == class);
-    chosen.max_by(|one, other| one.ratio().total_cmp(&other.ratio()))
+    highest(rows.iter().filter(|row| row.case.family() == family && row.case.class == class))
 }
 
-/// The worst ratio of each family in each class, as lines of text.
-pub fn summary(rows: &[Row]) -> String {
-    let mut text = String::from("worst ratio, ours over the crate after from_utf8 (* above the bar):\n");
-    for family in each_once(rows, |row| row.case.family()) {
-        let mut cells = Vec::new();
-        for class in each_once(rows, |row| row.case.class) {
-            if let Some(row) = worst(rows, family, class) {
-                cells.push(format!("{} {:.2}{}", class, row.ratio(), if row.above() { "*" } else { "" }));
-            }
-        }
-        text += &format!("{:24} {}\n", family, cells.join(", "));
-    }
-    let above = rows.iter().filter(|row| row.above()).count();
-    text + &format!("{} of {} lines are above the bar", above, rows.len())
+/// The row with the highest ratio.
+pub fn highest<'a>(rows: impl Iterator<Item = &'a Row>) -> Option<&'a Row> {
+    rows.max_by(|one, other| one.ratio().total_cmp(&other.ratio()))
+}
+
+/// A label as text in a document, escaped by the library itself.
+pub fn escaped(label: &str) -> String {
+    let mut output = vec![0; 6 * label.len()];
+    let answer = call(Operation::Encode, false, 1, label.as_bytes(), &mut output);
+    output.truncate(answer.length as usize);
+    String::from_utf8(output).expect("the library writes UTF-8")
 }

@@ -3,25 +3,16 @@
 use compare::{Numbers, Operation, ToVec, CONTEXTS, CRATE_DECODERS, CRATE_ENCODERS};
 
 /// The longest text that a call takes.
-const LIMIT: usize = 65_536;
+const LONGEST: usize = 65_536;
 
 /// How many names are called one after the other.
 const NAMES: usize = 2_000;
 
-const ENGLISH: [&str; 40] = [
-    "the", "pump", "in", "north", "hall", "was", "opened", "at", "seven", "and", "closed", "again", "before", "noon", "because", "of", "a",
-    "pressure", "reading", "that", "nobody", "could", "explain", "so", "far", "Engineers", "will", "look", "after", "valve", "12", "on",
-    "Monday", "with", "spare", "parts", "from", "store", "room", "4",
-];
-const CYRILLIC: [&str; 16] = [
-    "насос", "в", "северном", "зале", "был", "открыт", "утром", "и", "закрыт", "снова", "до", "полудня", "Инженеры", "посмотрят", "клапан", "завтра",
-];
-const CJK: [&str; 16] = [
-    "北側", "の", "水泵", "早上", "七點", "開", "中午", "前", "又", "關閉", "工程師", "會", "檢查", "閥門", "ポンプ", "明日",
-];
-const EMOJI: [&str; 16] = [
-    "😀", "🚰", "🔧", "🏭", "👩\u{200D}🔧", "🌡\u{FE0F}", "🚪", "🔔", "🔒", "🧯", "🪛", "🛠\u{FE0F}", "🕖", "🙈", "🎉", "👍🏽",
-];
+const ENGLISH: &str = "the pump in north hall was opened at seven and closed again before noon because of a pressure reading that nobody could \
+    explain so far Engineers will look after valve 12 on Monday with spare parts from store room 4";
+const CYRILLIC: &str = "насос в северном зале был открыт утром и закрыт снова до полудня Инженеры посмотрят клапан завтра";
+const CJK: &str = "北側 の 水泵 早上 七點 開 中午 前 又 關閉 工程師 會 檢查 閥門 ポンプ 明日";
+const EMOJI: &str = "😀 🚰 🔧 🏭 👩\u{200D}🔧 🌡\u{FE0F} 🚪 🔔 🔒 🧯 🪛 🛠\u{FE0F} 🕖 🙈 🎉 👍🏽";
 
 /// One line of the table: an operation in a context, on texts of a class.
 pub struct Case {
@@ -68,8 +59,8 @@ impl Case {
         format!("{} | {} | {}", self.family(), CONTEXTS[self.context], self.class)
     }
 
-    /// The most that ours may take of the time of the crate after `from_utf8`; `read` has no such bar.
-    pub fn bar(&self) -> Option<f64> {
+    /// The most that ours may take of the time of the crate after `from_utf8`; `read` has no limit.
+    pub fn limit(&self) -> Option<f64> {
         match (self.operation, self.context, self.class) {
             (Operation::Encode, 0..=6, "plain") => Some(if self.borrowing { 0.15 } else { 0.3 }),
             (Operation::Encode, 0..=6, "short names") => Some(0.9),
@@ -100,33 +91,34 @@ pub fn cases() -> Vec<Case> {
     all
 }
 
-/// The classes of one operation in one context.
+/// The classes of one operation in one context. In `unquoted`, where a space is special, plain words stand side by side.
 fn cases_of(operation: Operation, borrowing: bool, context: usize) -> Vec<Case> {
-    let mut numbers = Numbers(context as u64);
+    let numbers = &mut Numbers(context as u64);
+    let gaps = if context == 6 { [""; 6] } else { [" ", " ", " ", " ", ", ", ". "] };
+    let english = words(numbers, ENGLISH, &gaps);
     let pieces = pieces(operation, context);
-    let spaced = context != 6;
-    let english = words(&mut numbers, &ENGLISH, if spaced { &[" ", " ", " ", " ", ", ", ". "] } else { &[""] });
-    let mut classes: Vec<(&'static str, Vec<String>)> = Vec::new();
+    let mut all = Vec::new();
+    let mut add = |class, texts| all.push(Case { operation, borrowing, context, class, texts });
     for (class, percent) in [("plain", 0), ("1 %", 1), ("10 %", 10), ("50 %", 50), ("all", 100)] {
-        classes.push((class, vec![fill(&mut numbers, &english, &pieces, percent, LIMIT)]));
+        add(class, vec![fill(numbers, &english, &pieces, percent, LONGEST)]);
     }
-    classes.push(("short names", names(&mut numbers, &english, &pieces)));
-    let space = if spaced { " " } else { "" };
-    for (class, list, gaps) in [("Cyrillic", &CYRILLIC, [space, space]), ("CJK", &CJK, ["", "、"]), ("emoji", &EMOJI, ["", space])] {
-        let text = words(&mut numbers, list, &gaps);
-        classes.push((class, vec![fill(&mut numbers, &text, &pieces, 0, LIMIT)]));
+    add("short names", names(numbers, &english, &pieces));
+    for (class, list, gap) in [("Cyrillic", CYRILLIC, gaps[0]), ("CJK", CJK, ""), ("emoji", EMOJI, "")] {
+        let text = words(numbers, list, &[gap]);
+        add(class, vec![fill(numbers, &text, &[], 0, LONGEST)]);
     }
     for (class, pieces) in further(operation, context) {
-        classes.push((class, vec![fill(&mut numbers, &english, &pieces, 100, LIMIT)]));
+        add(class, vec![fill(numbers, &english, &pieces, 100, LONGEST)]);
     }
-    classes.into_iter().map(|(class, texts)| Case { operation, borrowing, context, class, texts }).collect()
+    all
 }
 
 /// Words of a list with gaps between them, somewhat more than a text takes.
-fn words(numbers: &mut Numbers, list: &[&str], gaps: &[&str]) -> String {
+fn words(numbers: &mut Numbers, list: &str, gaps: &[&str]) -> String {
+    let list: Vec<&str> = list.split(' ').collect();
     let mut text = String::new();
-    while text.len() < LIMIT + 256 {
-        text += *numbers.one_of(list);
+    while text.len() < LONGEST + 256 {
+        text += *numbers.one_of(&list);
         text += *numbers.one_of(gaps);
     }
     text
@@ -150,12 +142,12 @@ fn fill(numbers: &mut Numbers, plain: &str, pieces: &[String], percent: usize, l
     }
 }
 
-/// Names of 5 to 40 bytes, cut out of a text of ASCII characters; one in ten has some of the pieces.
+/// Names of 5 to 40 bytes, cut out of a text of ASCII characters; about one in ten has some of the pieces.
 fn names(numbers: &mut Numbers, plain: &str, pieces: &[String]) -> Vec<String> {
     let mut all = Vec::new();
     while all.len() < NAMES {
         let percent = if numbers.below(10) == 0 { 10 } else { 0 };
-        let (start, limit) = (numbers.below(LIMIT), 5 + numbers.below(36));
+        let (start, limit) = (numbers.below(LONGEST), 5 + numbers.below(36));
         let name = fill(numbers, &plain[start..], pieces, percent, limit);
         if name.len() >= 5 {
             all.push(name);
@@ -241,8 +233,10 @@ fn named() -> Vec<String> {
 /// Classes that only some operations and contexts have: nothing but pieces of one kind. An escape with digits counts as a number.
 fn further(operation: Operation, context: usize) -> Vec<(&'static str, Vec<String>)> {
     match (operation, context) {
-        (Operation::Encode, 6) => vec![("English", ENGLISH.iter().map(|word| format!("{} ", word)).collect())],
-        (Operation::Encode, 13) => [("only <!--", "<!--"), ("only </script>", "</script>"), ("only <", "<")].map(|(class, piece)| (class, vec![piece.to_string()])).to_vec(),
+        (Operation::Encode, 6) => vec![("English", ENGLISH.split(' ').map(|word| format!("{} ", word)).collect())],
+        (Operation::Encode, 13) => {
+            [("only <!--", "<!--"), ("only </script>", "</script>"), ("only <", "<")].map(|(class, piece)| (class, vec![piece.to_string()])).to_vec()
+        }
         (Operation::Decode | Operation::Browse, 0..=6) => vec![("numbers only", numbered()), ("named only", named())],
         (Operation::Decode, _) => {
             let (numbered, named) = pieces(operation, context).into_iter().partition(|piece| piece.bytes().any(|byte| byte.is_ascii_digit()));

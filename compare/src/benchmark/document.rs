@@ -1,0 +1,119 @@
+//! docs/BENCHMARKS.md: what was measured, how, and every median.
+
+use crate::clock::{Effort, Row};
+use crate::report::{above, classes, each_once, escaped, families, highest, worst};
+use compare::CONTEXTS;
+
+/// The whole document.
+pub fn document(rows: &[Row], facts: &[(&str, String)], effort: &Effort) -> String {
+    let mut text = String::from("# Benchmarks\n\n");
+    text +=
+        "`compare/run benchmark --write` wrote this page and its picture. The numbers are from that one run, on the machine that is named here.\n\n";
+    text += "| | |\n|---|---|\n";
+    for (name, fact) in facts {
+        text += &format!("| {} | {} |\n", name, fact);
+    }
+    text += &format!("| steadiness | {} |\n", steadiness(rows));
+    text += &method(effort);
+    text += &limits(rows);
+    text += &matrix(rows);
+    text += "\n![The worst ratio of each family of contexts, by class](benchmarks.svg)\n";
+    text + &lines(rows)
+}
+
+/// How far apart the rounds were.
+fn steadiness(rows: &[Row]) -> String {
+    let mut spreads: Vec<f64> = rows.iter().map(|row| row.spread).collect();
+    spreads.sort_by(f64::total_cmp);
+    let most = spreads.get(spreads.len() * 9 / 10).copied().unwrap_or(0.0);
+    format!("in nine of ten lines the middle half of the rounds is at most {:.1} % of the median wide", 100.0 * most)
+}
+
+/// How it is measured, and what the classes are.
+fn method(effort: &Effort) -> String {
+    let rounds = format!("After a warm-up each side has {} rounds of about {} ms.\n", effort.rounds, effort.round.as_millis());
+    format!("\n## How it is measured\n\nBoth sides run in one process, on the same texts. {}{}{}", rounds, METHOD, CLASSES)
+}
+
+const METHOD: &str = "\
+The rounds interleave the sides, and each round starts with another one. A number is the median of the rounds, in nanoseconds of processor time per byte
+of the text. Before a line is measured, the results of both sides are compared byte for byte.
+
+| side | what is timed |
+|---|---|
+| ours | the copying call (or the borrowing one, where the line says so) of the archive, into a buffer that has room |
+| crate | the function of html-escape that ends in `_to_vec`, into a vector that is cleared and keeps its capacity |
+| crate + utf8 | the same after `std::str::from_utf8`: the library takes bytes and checks them in every call, the crate takes text that was checked before |
+| memcpy | a copy of the text |
+
+The limits are about ours over crate + utf8: below 1 the library is faster. The borrowing call, which writes nothing where nothing is replaced, is held
+beside the same function of the crate as the copying one. `read` and `browse` have no counterpart in the crate: `read` is held beside the crate's decoder
+of the same context on the same written form, though it also refuses what is no such form; `browse` is held beside `decode_html_entities`. The HTML seven
+share one decoder, so that decode and browse are measured in one of them.
+
+";
+
+const CLASSES: &str = "\
+| class | texts |
+|---|---|
+| plain | 64 KiB of English words in which nothing is replaced (for `unquoted`, which replaces spaces, letters and digits alone) |
+| 1 %, 10 %, 50 %, all | 64 KiB, of whose characters so many are special, at random places: what encode replaces in the context; for read, decode and browse the references or escapes that they take back (HTML decode: half common names, a quarter numbers, a quarter any names) |
+| short names | 2,000 names of 5 to 40 bytes, one call for each; about one in ten has something special |
+| Cyrillic, CJK, emoji | 64 KiB of characters of two, three, four bytes, nothing special |
+| English | `unquoted` alone: 64 KiB of English words with the spaces between them |
+| only `<!--`, only `</script>`, only `<` | script_raw alone: 64 KiB of that piece |
+| numbers only, named only | decode and browse: 64 KiB of numeric references, or of names from the whole table; in strings, of the escapes with digits, or of the others |
+";
+
+/// The limits, and whether they hold.
+fn limits(rows: &[Row]) -> String {
+    let mut text = format!("\n## The limits\n\n{}\n\n| | classes | at most | worst | in | |\n|---|---|---|---|---|---|\n", above(rows));
+    for family in families(rows) {
+        let of_family = || rows.iter().filter(|row| row.case.family() == family);
+        for limit in each_once(of_family().filter_map(|row| row.case.limit())) {
+            let under = || of_family().filter(|row| row.case.limit() == Some(limit));
+            let classes = each_once(under().map(|row| row.case.class)).join(", ");
+            if let Some(row) = highest(under()) {
+                let place = format!("{}, {}", CONTEXTS[row.case.context], row.case.class);
+                let verdict = if row.above() { "**above**" } else { "holds" };
+                text += &format!("| {} | {} | {:.2} | {:.2} | {} | {} |\n", family, escaped(&classes), limit, row.ratio(), escaped(&place), verdict);
+            }
+        }
+    }
+    text
+}
+
+/// The worst ratio of each family in each class.
+fn matrix(rows: &[Row]) -> String {
+    let families = families(rows);
+    let mut text = format!("\n## Worst ratio by class\n\nBold is above the limit; `read` has none.\n\n| | {} |\n", families.join(" | "));
+    text += &format!("|---{}|\n", "|---".repeat(families.len()));
+    for class in classes(rows) {
+        let cell = |family: &&str| match worst(rows, family, class) {
+            Some(row) => marked(row),
+            None => String::new(),
+        };
+        text += &format!("| {} | {} |\n", escaped(class), families.iter().map(cell).collect::<Vec<_>>().join(" | "));
+    }
+    text
+}
+
+/// A ratio, bold where it is above its limit.
+fn marked(row: &Row) -> String {
+    let bold = if row.above() { "**" } else { "" };
+    format!("{}{:.2}{}", bold, row.ratio(), bold)
+}
+
+/// Every row.
+fn lines(rows: &[Row]) -> String {
+    let mut text = String::from("\n## Every line\n\nMedians in nanoseconds per byte, then ours over each of the others.\n\n");
+    text += "| | context | class | ours | crate | crate + utf8 | memcpy | over crate | over crate + utf8 | over memcpy |\n";
+    text += "|---|---|---|---|---|---|---|---|---|---|\n";
+    for row in rows {
+        let place = format!("{} | {} | {}", row.case.family(), CONTEXTS[row.case.context], escaped(row.case.class));
+        let medians = format!("{:.3} | {:.3} | {:.3} | {:.3}", row.ours, row.alone, row.checked, row.copied);
+        let ratios = format!("{:.2} | {} | {:.1}", row.ours / row.alone, marked(row), row.ours / row.copied);
+        text += &format!("| {} | {} | {} |\n", place, medians, ratios);
+    }
+    text
+}
