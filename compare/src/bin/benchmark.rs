@@ -36,7 +36,7 @@ fn main() {
         println!("This processor is not the archive's own: the times are an emulator's and say nothing. What counts is that the bytes are the same.");
     }
     let rows = rows(&options);
-    println!("In all {} lines both sides gave the same bytes.", rows.len());
+    println!("Both sides gave the same bytes in every line ({}).", rows.len());
     if !options.emulated {
         println!("{}", report::summary(&rows));
     }
