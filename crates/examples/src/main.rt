@@ -77,158 +77,53 @@ fn long_texts() {
     io::write_all(STDOUT_FILENO, b"\n");
 }
 
+// Runs an example of encode with room enough.
+fn encoded(example: usize, context: u32, text: &[u8]) {
+    let mut output: [u8; 64] = [0; 64];
+    show(example, Operation::Encode, context, text, &mut output);
+}
+
+// Runs an example of decode with room enough.
+fn decoded(example: usize, context: u32, text: &[u8]) {
+    let mut output: [u8; 64] = [0; 64];
+    show(example, Operation::Decode, context, text, &mut output);
+}
+
 // Examples 1 to 7: what the encoders write.
 fn encoders() {
-    let mut of_64: [u8; 64] = [0; 64];
-    show(
-        1,
-        Operation::Encode,
-        lintelrye::TEXT_MINIMAL,
-        b"a<b>&",
-        &mut of_64,
-    );
-    show(2, Operation::Encode, lintelrye::SAFE, b"'/\"", &mut of_64);
-    show(
-        3,
-        Operation::Encode,
-        lintelrye::SCRIPT_SINGLE,
-        b"it's \"x\"\\",
-        &mut of_64,
-    );
-    show(
-        4,
-        Operation::Encode,
-        lintelrye::SCRIPT_DOUBLE,
-        b"\x0a<",
-        &mut of_64,
-    );
-    show(
-        5,
-        Operation::Encode,
-        lintelrye::STYLE_QUOTED,
-        b"\x0a<\x00",
-        &mut of_64,
-    );
-    show(
-        6,
-        Operation::Encode,
-        lintelrye::SCRIPT_QUOTED,
-        b"\xe2\x80\xa8",
-        &mut of_64,
-    );
-    show(
-        6,
-        Operation::Encode,
-        lintelrye::SCRIPT_QUOTED,
-        b"\xe2\x80\xaa",
-        &mut of_64,
-    );
-    show(
-        7,
-        Operation::Encode,
-        lintelrye::SCRIPT_RAW,
-        b"<</script",
-        &mut of_64,
-    );
-    show(
-        7,
-        Operation::Encode,
-        lintelrye::SCRIPT_RAW,
-        b"</scripts>",
-        &mut of_64,
-    );
+    encoded(1, lintelrye::TEXT_MINIMAL, b"a<b>&");
+    encoded(2, lintelrye::SAFE, b"'/\"");
+    encoded(3, lintelrye::SCRIPT_SINGLE, b"it's \"x\"\\");
+    encoded(4, lintelrye::SCRIPT_DOUBLE, b"\x0a<");
+    encoded(5, lintelrye::STYLE_QUOTED, b"\x0a<\x00");
+    encoded(6, lintelrye::SCRIPT_QUOTED, b"\xe2\x80\xa8");
+    encoded(6, lintelrye::SCRIPT_QUOTED, b"\xe2\x80\xaa");
+    encoded(7, lintelrye::SCRIPT_RAW, b"<</script");
+    encoded(7, lintelrye::SCRIPT_RAW, b"</scripts>");
 }
 
 // Examples 8 and 9: decode of references.
 fn references() {
-    let mut of_64: [u8; 64] = [0; 64];
-    show(8, Operation::Decode, lintelrye::TEXT, b"&&lt;", &mut of_64);
-    show(
-        8,
-        Operation::Decode,
-        lintelrye::TEXT,
-        b"&amp;lt;",
-        &mut of_64,
-    );
-    show(9, Operation::Decode, lintelrye::TEXT, b"&#9;", &mut of_64);
-    show(9, Operation::Decode, lintelrye::TEXT, b"&#11;", &mut of_64);
-    show(9, Operation::Decode, lintelrye::TEXT, b"&#0;", &mut of_64);
-    show(9, Operation::Decode, lintelrye::TEXT, b"&#+65;", &mut of_64);
-    show(
-        9,
-        Operation::Decode,
-        lintelrye::TEXT,
-        b"&#xD800;",
-        &mut of_64,
-    );
-    show(
-        9,
-        Operation::Decode,
-        lintelrye::TEXT,
-        b"&#4294967296;",
-        &mut of_64,
-    );
+    decoded(8, lintelrye::TEXT, b"&&lt;");
+    decoded(8, lintelrye::TEXT, b"&amp;lt;");
+    decoded(9, lintelrye::TEXT, b"&#9;");
+    decoded(9, lintelrye::TEXT, b"&#11;");
+    decoded(9, lintelrye::TEXT, b"&#0;");
+    decoded(9, lintelrye::TEXT, b"&#+65;");
+    decoded(9, lintelrye::TEXT, b"&#xD800;");
+    decoded(9, lintelrye::TEXT, b"&#4294967296;");
 }
 
 // Examples 10, 11 and 13: decode of string escapes.
 fn escapes() {
-    let mut of_64: [u8; 64] = [0; 64];
-    show(
-        10,
-        Operation::Decode,
-        lintelrye::SCRIPT_QUOTED,
-        b"\\\\x3C",
-        &mut of_64,
-    );
-    show(
-        10,
-        Operation::Decode,
-        lintelrye::SCRIPT_QUOTED,
-        b"\\x3c",
-        &mut of_64,
-    );
-    show(
-        10,
-        Operation::Decode,
-        lintelrye::SCRIPT_QUOTED,
-        b"\\x20",
-        &mut of_64,
-    );
-    show(
-        11,
-        Operation::Decode,
-        lintelrye::STYLE_QUOTED,
-        b"\\3C ",
-        &mut of_64,
-    );
-    show(
-        11,
-        Operation::Decode,
-        lintelrye::STYLE_QUOTED,
-        b"\\3C",
-        &mut of_64,
-    );
-    show(
-        11,
-        Operation::Decode,
-        lintelrye::STYLE_QUOTED,
-        b"\\00 ",
-        &mut of_64,
-    );
-    show(
-        13,
-        Operation::Decode,
-        lintelrye::SCRIPT_QUOTED,
-        b"<\\/SCRIPT ",
-        &mut of_64,
-    );
-    show(
-        13,
-        Operation::Decode,
-        lintelrye::SCRIPT_QUOTED,
-        b"<\\/script",
-        &mut of_64,
-    );
+    decoded(10, lintelrye::SCRIPT_QUOTED, b"\\\\x3C");
+    decoded(10, lintelrye::SCRIPT_QUOTED, b"\\x3c");
+    decoded(10, lintelrye::SCRIPT_QUOTED, b"\\x20");
+    decoded(11, lintelrye::STYLE_QUOTED, b"\\3C ");
+    decoded(11, lintelrye::STYLE_QUOTED, b"\\3C");
+    decoded(11, lintelrye::STYLE_QUOTED, b"\\00 ");
+    decoded(13, lintelrye::SCRIPT_QUOTED, b"<\\/SCRIPT ");
+    decoded(13, lintelrye::SCRIPT_QUOTED, b"<\\/script");
 }
 
 // Examples 12, 14, 15 and 16: places, and outputs that are too short or just long enough.
@@ -267,6 +162,7 @@ fn others() {
     show(18, Operation::Browse, lintelrye::TEXT, b"", &mut of_64);
 }
 
+// Runs them all.
 fn main() {
     encoders();
     references();
