@@ -1,0 +1,138 @@
+/* Checks from C what the header says: all eight calls, every status, null pointers of length 0, what is left in the output, and lintelrye_view.
+ * Compiles as C99 and as C++. Prints each check that fails; ends with 0 where none does. */
+#include <stdio.h>
+#include <string.h>
+
+#include "lintelrye.h"
+
+typedef lintelrye_answer (*call)(uint32_t, const uint8_t *, size_t, uint8_t *, size_t);
+
+static const call calls[8] = {lintelrye_encode, lintelrye_encode_borrowing, lintelrye_decode, lintelrye_decode_borrowing,
+                              lintelrye_read,   lintelrye_read_borrowing,   lintelrye_browse, lintelrye_browse_borrowing};
+
+/* How many contexts each call has. */
+static const uint32_t contexts[8] = {14, 14, 13, 13, 13, 13, 7, 7};
+
+enum { OUTPUT = 32, UNTOUCHED = 0xEE };
+
+static uint8_t output[OUTPUT];
+static uint8_t letters[LINTELRYE_TEXT_LIMIT + 1];
+static int failed;
+
+static void check(int holds, const char *what, uint32_t which)
+{
+    if (!holds) {
+        failed += 1;
+        printf("c/check: %s does not hold (call or context %u)\n", what, (unsigned)which);
+    }
+}
+
+/* Whether the answer is these four numbers. */
+static int is(lintelrye_answer answer, uint64_t status, uint64_t length, uint64_t same, uint64_t place)
+{
+    return answer.status == status && answer.length == length && answer.same == same && answer.place == place;
+}
+
+/* Whether the output holds these bytes at its front and nothing new past them. */
+static int holds(const char *front)
+{
+    size_t n = strlen(front);
+    size_t i;
+    for (i = n; i < OUTPUT; i++) {
+        if (output[i] != UNTOUCHED) {
+            return 0;
+        }
+    }
+    return memcmp(output, front, n) == 0;
+}
+
+/* One call on a string, with the whole output or its first bytes, freshly filled. */
+static lintelrye_answer of(uint32_t which, uint32_t context, const char *text, size_t room)
+{
+    memset(output, UNTOUCHED, OUTPUT);
+    return calls[which](context, (const uint8_t *)text, strlen(text), output, room);
+}
+
+/* Null pointers of length 0, for the text, for the output, and for both. */
+static void check_null(uint32_t which)
+{
+    uint32_t context;
+    memset(output, UNTOUCHED, OUTPUT);
+    for (context = 0; context < contexts[which]; context++) {
+        check(is(calls[which](context, NULL, 0, NULL, 0), LINTELRYE_PASSED, 0, 1, 0), "null text, null output", which);
+        check(is(calls[which](context, NULL, 0, output, OUTPUT), LINTELRYE_PASSED, 0, 1, 0), "null text", which);
+        if (which % 2 == 1) {
+            check(is(calls[which](context, letters, 3, NULL, 0), LINTELRYE_PASSED, 3, 1, 0), "null output, nothing replaced", which);
+        } else {
+            check(is(calls[which](context, letters, 3, NULL, 0), LINTELRYE_NO_ROOM, 3, 0, 0), "null output", which);
+        }
+    }
+    check(holds(""), "null pointers leave the output", which);
+}
+
+/* The refusals that every call has. */
+static void check_refusals(uint32_t which)
+{
+    check(is(of(which, contexts[which], "a", OUTPUT), LINTELRYE_BAD_CONTEXT, 0, 0, 0) && holds(""), "bad context", which);
+    check(is(of(which, UINT32_MAX, "a", OUTPUT), LINTELRYE_BAD_CONTEXT, 0, 0, 0) && holds(""), "worst context", which);
+    check(is(of(which, 1, "a\xC3(", OUTPUT), LINTELRYE_NOT_UTF8, 0, 0, 1) && holds(""), "not UTF-8", which);
+    check(is(calls[which](1, letters, sizeof letters, output, OUTPUT), LINTELRYE_TOO_LONG, 0, 0, 0) && holds(""), "too long", which);
+    if (which % 2 == 0) {
+        check(is(of(which, 1, "abc", 2), LINTELRYE_NO_ROOM, 3, 0, 0) && holds(""), "no room to copy", which);
+        check(is(of(which, 1, "abc", 3), LINTELRYE_PASSED, 3, 1, 0) && holds("abc"), "room to copy", which);
+    } else {
+        check(is(of(which, 1, "abc", 0), LINTELRYE_PASSED, 3, 1, 0) && holds(""), "nothing to replace", which);
+    }
+}
+
+/* What an operation writes, and what it needs. */
+static void check_written(uint32_t which, uint32_t context, const char *text, const char *result)
+{
+    size_t n = strlen(result);
+    check(is(of(which, context, text, OUTPUT), LINTELRYE_PASSED, n, 0, 0) && holds(result), "the result", which);
+    check(is(of(which, context, text, n), LINTELRYE_PASSED, n, 0, 0) && holds(result), "the result in exact room", which);
+    check(is(of(which, context, text, n - 1), LINTELRYE_NO_ROOM, n, 0, 0) && holds(""), "one byte too few", which);
+}
+
+/* lintelrye_view: the text, the front of the output, or none. */
+static void check_view(void)
+{
+    const uint8_t *text = letters;
+    lintelrye_answer answer = {LINTELRYE_PASSED, 3, 1, 0};
+    size_t n = 99;
+    check(lintelrye_view(text, 7, output, 2, answer, &n) == text && n == 7, "view of the text", 0);
+    answer.same = 0;
+    check(lintelrye_view(text, 7, output, 3, answer, &n) == output && n == 3, "view of the output", 0);
+    lintelrye_view(text, 7, output, 2, answer, &n);
+    check(n == 0, "view of an output that is shorter", 0);
+    answer.length = UINT64_MAX;
+    lintelrye_view(text, 7, output, OUTPUT, answer, &n);
+    check(n == 0, "view of the longest length", 0);
+    answer.same = 2;
+    answer.length = 1;
+    check(lintelrye_view(text, 7, output, OUTPUT, answer, &n) == output && n == 1, "view of a same that is neither", 0);
+    check(lintelrye_view(NULL, 0, NULL, 0, answer, &n) == NULL && n == 0, "view of nothing", 0);
+}
+
+int main(void)
+{
+    uint32_t which;
+    memset(letters, 'a', sizeof letters);
+    check(sizeof(lintelrye_answer) == 32, "the answer's size", 0);
+    for (which = 0; which < 8; which++) {
+        check_null(which);
+        check_refusals(which);
+    }
+    for (which = 0; which < 2; which++) {
+        check_written(which, LINTELRYE_TEXT, "a<", "a&lt;");
+        check_written(which, LINTELRYE_SCRIPT_RAW, "</script>", "<\\/script>");
+        check_written(2 + which, LINTELRYE_TEXT, "&nGt;", "\xE2\x89\xAB\xE2\x83\x92");
+        check_written(2 + which, LINTELRYE_SCRIPT_SINGLE, "it\\'s", "it's");
+        check_written(4 + which, LINTELRYE_QUOTED, "Mum &amp; Dad&#x27;s", "Mum & Dad's");
+        check_written(6 + which, LINTELRYE_TEXT, "&#0;", "\xEF\xBF\xBD");
+        check(is(of(4 + which, LINTELRYE_TEXT_MINIMAL, "a&lt;&gt;", OUTPUT), LINTELRYE_NOT_A_FORM, 0, 0, 5) && holds(""), "no form", 4 + which);
+    }
+    check_view();
+    printf("c/check: %s\n", failed ? "FAILED" : "what the header says holds");
+    return failed != 0;
+}

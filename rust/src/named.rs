@@ -1,0 +1,74 @@
+//! The operations in one context each, under the names of html-escape 0.3.0.
+use crate::{Context, Refusal, Written};
+
+macro_rules! named {
+    ($operation:ident $operation_borrowing:ident: $($does:literal $borrowing:ident $copying:ident $context:ident, $text:literal gives $result:literal;)*) => {$(
+        #[doc = $does]
+        ///
+        /// A borrowing call: where nothing is replaced, the result is the text itself.
+        ///
+        /// ```
+        /// let mut line = [0; 64];
+        #[doc = concat!("assert_eq!(lintelrye::", stringify!($borrowing), "(", stringify!($text), ", &mut line)?, ", stringify!($result), ");")]
+        /// # Ok::<(), lintelrye::Refusal>(())
+        /// ```
+        pub fn $borrowing<'a, T: ?Sized + AsRef<[u8]>>(text: &'a T, output: &'a mut [u8]) -> Result<Written<'a>, Refusal> {
+            crate::$operation_borrowing(Context::$context, text, output)
+        }
+
+        #[doc = concat!("[`", stringify!($borrowing), "`] as a copying call: the result always stands at the front of the buffer.")]
+        pub fn $copying<'a, T: ?Sized + AsRef<[u8]>>(text: &T, output: &'a mut [u8]) -> Result<Written<'a>, Refusal> {
+            crate::$operation(Context::$context, text, output)
+        }
+    )*};
+}
+
+named! {
+    encode encode_borrowing:
+    "Encodes text between tags: `&` and `<`."
+        encode_text_minimal encode_text_minimal_to_slice TextMinimal, "a<b>&" gives "a&lt;b>&amp;";
+    "Encodes text between tags: `&`, `<` and `>`."
+        encode_text encode_text_to_slice Text, "a<b>&" gives "a&lt;b&gt;&amp;";
+    "Encodes an attribute between double quotes."
+        encode_double_quoted_attribute encode_double_quoted_attribute_to_slice DoubleQuoted, "'a' \"b\"" gives "'a' &quot;b&quot;";
+    "Encodes an attribute between single quotes."
+        encode_single_quoted_attribute encode_single_quoted_attribute_to_slice SingleQuoted, "'a' \"b\"" gives "&#x27;a&#x27; \"b\"";
+    "Encodes an attribute between quotes of either kind."
+        encode_quoted_attribute encode_quoted_attribute_to_slice Quoted, "'a' \"b\"" gives "&#x27;a&#x27; &quot;b&quot;";
+    "Encodes as [`encode_quoted_attribute`] does, and `/` too."
+        encode_safe encode_safe_to_slice Safe, "'/\"" gives "&#x27;&#x2F;&quot;";
+    "Encodes an attribute without quotes: every ASCII character that is no letter or digit."
+        encode_unquoted_attribute encode_unquoted_attribute_to_slice Unquoted, "a b" gives "a&#x20;b";
+    "Encodes a string of a script element, between single quotes."
+        encode_script_single_quoted_text encode_script_single_quoted_text_to_slice ScriptSingle, "it's </script>" gives "it\\'s \\x3C/script>";
+    "Encodes a string of a script element, between double quotes."
+        encode_script_double_quoted_text encode_script_double_quoted_text_to_slice ScriptDouble, "\n\"" gives "\\x0A\\\"";
+    "Encodes a string of a script element, between quotes of either kind."
+        encode_script_quoted_text encode_script_quoted_text_to_slice ScriptQuoted, "'\"" gives "\\'\\\"";
+    "Encodes a string of a style element, between single quotes."
+        encode_style_single_quoted_text encode_style_single_quoted_text_to_slice StyleSingle, "it's" gives "it\\'s";
+    "Encodes a string of a style element, between double quotes."
+        encode_style_double_quoted_text encode_style_double_quoted_text_to_slice StyleDouble, "\n\"" gives "\\0A \\\"";
+    "Encodes a string of a style element, between quotes of either kind."
+        encode_style_quoted_text encode_style_quoted_text_to_slice StyleQuoted, "\n<\0" gives "\\0A \\3C \u{FFFD}";
+    "Encodes the whole text of a script element: a backslash after each `<` that could close it or open a comment."
+        encode_script encode_script_to_slice ScriptRaw, "<</script" gives "<<\\/script";
+}
+
+named! {
+    decode decode_borrowing:
+    "Decodes references, named and numeric."
+        decode_html_entities decode_html_entities_to_slice Text, "Hello&#x20;world&excl;" gives "Hello world!";
+    "Decodes a string of a script element, between single quotes."
+        decode_script_single_quoted_text decode_script_single_quoted_text_to_slice ScriptSingle, "it\\'s \\x3C" gives "it's <";
+    "Decodes a string of a script element, between double quotes."
+        decode_script_double_quoted_text decode_script_double_quoted_text_to_slice ScriptDouble, "\\x0A\\\"" gives "\n\"";
+    "Decodes a string of a script element, between quotes of either kind."
+        decode_script_quoted_text decode_script_quoted_text_to_slice ScriptQuoted, "\\\\x3C" gives "\\x3C";
+    "Decodes a string of a style element, between single quotes."
+        decode_style_single_quoted_text decode_style_single_quoted_text_to_slice StyleSingle, "it\\'s" gives "it's";
+    "Decodes a string of a style element, between double quotes."
+        decode_style_double_quoted_text decode_style_double_quoted_text_to_slice StyleDouble, "\\0A \\\"" gives "\n\"";
+    "Decodes a string of a style element, between quotes of either kind."
+        decode_style_quoted_text decode_style_quoted_text_to_slice StyleQuoted, "\\3C \\00 " gives "<\\00 ";
+}

@@ -1,0 +1,81 @@
+//! The calls as the archive exports them, over numbers: any context number goes in, the four numbers of the answer come out. The safe calls of this
+//! crate are made of these.
+
+/// The answer of a call, as include/lintelrye.h lays it out.
+#[repr(C)]
+#[derive(Clone, Copy, Debug, PartialEq, Eq)]
+pub struct Answer {
+    /// [`PASSED`], or the refusal.
+    pub status: u64,
+    /// The result's length; after [`NO_ROOM`] the length needed; after any other refusal 0.
+    pub length: u64,
+    /// 1 exactly if nothing was replaced, so that the result is the text; after a refusal 0.
+    pub same: u64,
+    /// After [`NOT_UTF8`] and [`NOT_A_FORM`] how far the text is right; otherwise 0.
+    pub place: u64,
+}
+
+/// The call passed.
+pub const PASSED: u64 = 0;
+/// The text is longer than [`TEXT_LIMIT`](crate::TEXT_LIMIT).
+pub const TOO_LONG: u64 = 1;
+/// The text is not valid UTF-8.
+pub const NOT_UTF8: u64 = 2;
+/// The output is shorter than the result.
+pub const NO_ROOM: u64 = 3;
+/// `read` only: encode writes no such text.
+pub const NOT_A_FORM: u64 = 4;
+/// The operation has no such context.
+pub const BAD_CONTEXT: u64 = 5;
+
+macro_rules! exported {
+    ($($name:ident is $symbol:ident: $does:literal;)*) => {
+        #[link(name = "lintelrye_c", kind = "static")]
+        extern "C" {
+            $(fn $symbol(context: u32, text: *const u8, text_length: usize, output: *mut u8, output_length: usize) -> Answer;)*
+        }
+        $(
+            #[doc = $does]
+            pub fn $name(context: u32, text: &[u8], output: &mut [u8]) -> Answer {
+                // SAFETY: the text can be read and the output read and written for their lengths, and what is borrowed mutably overlaps nothing
+                // else that is borrowed. That is all that the call wants.
+                unsafe { $symbol(context, text.as_ptr(), text.len(), output.as_mut_ptr(), output.len()) }
+            }
+        )*
+    };
+}
+
+exported! {
+    encode is lintelrye_encode: "`lintelrye_encode`, see [`crate::encode`].";
+    encode_borrowing is lintelrye_encode_borrowing: "`lintelrye_encode_borrowing`, see [`crate::encode_borrowing`].";
+    decode is lintelrye_decode: "`lintelrye_decode`, see [`crate::decode`].";
+    decode_borrowing is lintelrye_decode_borrowing: "`lintelrye_decode_borrowing`, see [`crate::decode_borrowing`].";
+    read is lintelrye_read: "`lintelrye_read`, see [`crate::read`].";
+    read_borrowing is lintelrye_read_borrowing: "`lintelrye_read_borrowing`, see [`crate::read_borrowing`].";
+    browse is lintelrye_browse: "`lintelrye_browse`, see [`crate::browse`].";
+    browse_borrowing is lintelrye_browse_borrowing: "`lintelrye_browse_borrowing`, see [`crate::browse_borrowing`].";
+}
+
+/// The result of a call: the whole text where `same` is 1, otherwise the first `length` bytes of the output, or none where the output is shorter.
+///
+/// ```
+/// use lintelrye::raw;
+/// let mut line = [0; 8];
+/// let answer = raw::encode_borrowing(1, b"a<b", &mut line);
+/// assert_eq!(raw::view(b"a<b", &line, answer), b"a&lt;b");
+/// ```
+pub fn view<'a>(text: &'a [u8], output: &'a [u8], answer: Answer) -> &'a [u8] {
+    if answer.same == 1 {
+        return text;
+    }
+    front(output, answer.length).unwrap_or(&[])
+}
+
+/// The first bytes of a slice, if it has so many.
+pub(crate) fn front(output: &[u8], length: u64) -> Option<&[u8]> {
+    if length <= output.len() as u64 {
+        output.get(..length as usize)
+    } else {
+        None
+    }
+}

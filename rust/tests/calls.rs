@@ -1,0 +1,218 @@
+//! What this crate makes of the archive's answers: results that borrow the text or the buffer, refusals with an untouched buffer, texts of several
+//! types, and the names of html-escape.
+use lintelrye::raw::{self, Answer};
+use lintelrye::{Context, Refusal, Written};
+
+type Operation = for<'a> fn(Context, &'a [u8], &'a mut [u8]) -> Result<Written<'a>, Refusal>;
+
+const OPERATIONS: [(Operation, Operation, usize); 4] = [
+    (|c, t, o| lintelrye::encode(c, t, o), |c, t, o| lintelrye::encode_borrowing(c, t, o), 14),
+    (|c, t, o| lintelrye::decode(c, t, o), |c, t, o| lintelrye::decode_borrowing(c, t, o), 13),
+    (|c, t, o| lintelrye::read(c, t, o), |c, t, o| lintelrye::read_borrowing(c, t, o), 13),
+    (|c, t, o| lintelrye::browse(c, t, o), |c, t, o| lintelrye::browse_borrowing(c, t, o), 7),
+];
+
+#[test]
+fn a_borrowing_call_gives_the_text_itself() {
+    let text = "Hall";
+    let mut output = [0xEE; 8];
+    let written = lintelrye::encode_text(text, &mut output).unwrap();
+    assert_eq!(written, Written::Same("Hall"));
+    assert_eq!(written.as_str().as_ptr(), text.as_ptr());
+    assert!(written.is_same());
+    assert_eq!(output, [0xEE; 8]);
+    assert_eq!(lintelrye::encode_text(text, &mut []), Ok(Written::Same("Hall")));
+}
+
+#[test]
+fn a_copying_call_gives_the_front_of_the_buffer() {
+    let text = "Hall";
+    let mut output = [0xEE; 8];
+    let start = output.as_ptr();
+    let written = lintelrye::encode_text_to_slice(text, &mut output).unwrap();
+    assert_eq!(written, Written::Same("Hall"));
+    assert_eq!(written.as_ptr(), start);
+    assert_eq!(&output, b"Hall\xEE\xEE\xEE\xEE");
+    assert_eq!(lintelrye::encode_text_to_slice(text, &mut output[..3]), Err(Refusal::NoRoom { needed: 4 }));
+}
+
+#[test]
+fn what_is_replaced_stands_in_the_buffer() {
+    for borrowing in [false, true] {
+        let mut output = [0xEE; 8];
+        let start = output.as_ptr();
+        let written = match borrowing {
+            false => lintelrye::encode(Context::Text, "a<", &mut output),
+            true => lintelrye::encode_borrowing(Context::Text, "a<", &mut output),
+        };
+        let written = written.unwrap();
+        assert_eq!(written, Written::Replaced("a&lt;"));
+        assert_eq!(written.as_ptr(), start);
+        assert_eq!((written.len(), written.is_same()), (5, false));
+        assert_eq!(&output, b"a&lt;\xEE\xEE\xEE");
+    }
+}
+
+#[test]
+fn refusals_leave_the_buffer() {
+    let long = vec![b'<'; lintelrye::TEXT_LIMIT + 1];
+    for (copying, borrowing, contexts) in OPERATIONS {
+        for call in [copying, borrowing] {
+            let mut output = [0xEE; 32];
+            for (number, context) in Context::ALL.iter().enumerate() {
+                let refused = |refusal| if number < contexts { refusal } else { Refusal::BadContext };
+                assert_eq!(call(*context, &long, &mut output), Err(refused(Refusal::TooLong)));
+                assert_eq!(call(*context, b"ab\xED\xA0\x80", &mut output), Err(refused(Refusal::NotUtf8 { place: 2 })));
+            }
+            assert_eq!(output, [0xEE; 32]);
+        }
+    }
+    let mut output = [0xEE; 3];
+    assert_eq!(lintelrye::encode_quoted_attribute("'", &mut output), Err(Refusal::NoRoom { needed: 6 }));
+    assert_eq!(lintelrye::decode_html_entities("&nGt;", &mut output), Err(Refusal::NoRoom { needed: 6 }));
+    assert_eq!(lintelrye::read(Context::Text, "ab<", &mut output), Err(Refusal::NotAForm { place: 2 }));
+    assert_eq!(output, [0xEE; 3]);
+}
+
+#[test]
+fn texts_of_several_types() {
+    let mut output = [0; 16];
+    assert_eq!(lintelrye::encode_text(&String::from("<"), &mut output).unwrap(), "&lt;");
+    assert_eq!(lintelrye::encode_text(&vec![b'<'], &mut output).unwrap(), "&lt;");
+    assert_eq!(lintelrye::encode_text(b"<", &mut output).unwrap(), "&lt;");
+    assert_eq!(lintelrye::encode_text(&b"a<"[1..], &mut output).unwrap(), "&lt;");
+    assert_eq!(lintelrye::encode_text(&"<", &mut output).unwrap(), "&lt;");
+    assert_eq!(lintelrye::encode_text("\u{E9}<", &mut output).unwrap(), "\u{E9}&lt;");
+}
+
+#[test]
+fn results_and_refusals_in_words() {
+    let mut output = [0; 16];
+    assert_eq!(format!("[{:>6}]", lintelrye::encode_text("<", &mut output).unwrap()), "[  &lt;]");
+    assert_eq!(lintelrye::encode_text("<", &mut []).unwrap_err().to_string(), "the result needs 4 bytes of room");
+    assert_eq!(lintelrye::encode_text(b"a\xFF", &mut []).unwrap_err().to_string(), "the text is not valid UTF-8 from byte 1 on");
+}
+
+#[test]
+fn the_empty_text_and_the_empty_buffer() {
+    for (copying, borrowing, contexts) in OPERATIONS {
+        for context in &Context::ALL[..contexts] {
+            assert_eq!(copying(*context, b"", &mut []), Ok(Written::Same("")));
+            assert_eq!(borrowing(*context, b"", &mut []), Ok(Written::Same("")));
+        }
+    }
+}
+
+/// A text of which no two contexts write the same, and texts of which the decoders give different results.
+const TEXTS: [&str; 4] = ["&<>\"'/ \\\n\0</script>\u{2028}", "&amp;\\'\\\"\\x3C\\3C ", "<\\/script>", "<\\/style>"];
+
+macro_rules! are_named {
+    ($operation:ident: $($named:ident $copying:ident $context:ident;)*) => {$(
+        for text in TEXTS {
+            let (mut named, mut copied, mut plain) = ([0; 256], [0; 256], [0; 256]);
+            let result = lintelrye::$operation(Context::$context, text, &mut plain).unwrap();
+            assert_eq!(lintelrye::$named(text, &mut named), Ok(result));
+            assert_eq!(lintelrye::$copying(text, &mut copied), Ok(result));
+            assert_eq!(&copied[..result.len()], result.as_bytes());
+        }
+    )*};
+}
+
+#[test]
+fn names_and_contexts() {
+    are_named! { encode:
+        encode_text_minimal encode_text_minimal_to_slice TextMinimal;
+        encode_text encode_text_to_slice Text;
+        encode_double_quoted_attribute encode_double_quoted_attribute_to_slice DoubleQuoted;
+        encode_single_quoted_attribute encode_single_quoted_attribute_to_slice SingleQuoted;
+        encode_quoted_attribute encode_quoted_attribute_to_slice Quoted;
+        encode_safe encode_safe_to_slice Safe;
+        encode_unquoted_attribute encode_unquoted_attribute_to_slice Unquoted;
+        encode_script_single_quoted_text encode_script_single_quoted_text_to_slice ScriptSingle;
+        encode_script_double_quoted_text encode_script_double_quoted_text_to_slice ScriptDouble;
+        encode_script_quoted_text encode_script_quoted_text_to_slice ScriptQuoted;
+        encode_style_single_quoted_text encode_style_single_quoted_text_to_slice StyleSingle;
+        encode_style_double_quoted_text encode_style_double_quoted_text_to_slice StyleDouble;
+        encode_style_quoted_text encode_style_quoted_text_to_slice StyleQuoted;
+        encode_script encode_script_to_slice ScriptRaw;
+    }
+    are_named! { decode:
+        decode_html_entities decode_html_entities_to_slice Text;
+        decode_script_single_quoted_text decode_script_single_quoted_text_to_slice ScriptSingle;
+        decode_script_double_quoted_text decode_script_double_quoted_text_to_slice ScriptDouble;
+        decode_script_quoted_text decode_script_quoted_text_to_slice ScriptQuoted;
+        decode_style_single_quoted_text decode_style_single_quoted_text_to_slice StyleSingle;
+        decode_style_double_quoted_text decode_style_double_quoted_text_to_slice StyleDouble;
+        decode_style_quoted_text decode_style_quoted_text_to_slice StyleQuoted;
+    }
+}
+
+#[test]
+fn the_texts_tell_contexts_apart() {
+    let results = |decoding: bool, contexts: &[Context]| {
+        let mut seen = std::collections::BTreeSet::new();
+        for context in contexts {
+            let mut all = String::new();
+            for text in TEXTS {
+                let mut output = [0; 256];
+                let result = if decoding { lintelrye::decode(*context, text, &mut output) } else { lintelrye::encode(*context, text, &mut output) };
+                all.push_str(&result.unwrap());
+                all.push('|');
+            }
+            seen.insert(all);
+        }
+        seen.len()
+    };
+    assert_eq!(results(false, &Context::ALL), 14);
+    assert_eq!(results(true, &Context::ALL[6..13]), 7);
+}
+
+mod exported {
+    use super::Answer;
+    extern "C" {
+        pub fn lintelrye_encode(c: u32, t: *const u8, n: usize, o: *mut u8, m: usize) -> Answer;
+        pub fn lintelrye_encode_borrowing(c: u32, t: *const u8, n: usize, o: *mut u8, m: usize) -> Answer;
+        pub fn lintelrye_decode(c: u32, t: *const u8, n: usize, o: *mut u8, m: usize) -> Answer;
+        pub fn lintelrye_decode_borrowing(c: u32, t: *const u8, n: usize, o: *mut u8, m: usize) -> Answer;
+        pub fn lintelrye_read(c: u32, t: *const u8, n: usize, o: *mut u8, m: usize) -> Answer;
+        pub fn lintelrye_read_borrowing(c: u32, t: *const u8, n: usize, o: *mut u8, m: usize) -> Answer;
+        pub fn lintelrye_browse(c: u32, t: *const u8, n: usize, o: *mut u8, m: usize) -> Answer;
+        pub fn lintelrye_browse_borrowing(c: u32, t: *const u8, n: usize, o: *mut u8, m: usize) -> Answer;
+    }
+}
+
+/// A null pointer of length 0, as the header allows it.
+#[test]
+fn null_pointers_of_length_0() {
+    use exported::*;
+    let calls = [
+        lintelrye_encode,
+        lintelrye_encode_borrowing,
+        lintelrye_decode,
+        lintelrye_decode_borrowing,
+        lintelrye_read,
+        lintelrye_read_borrowing,
+        lintelrye_browse,
+        lintelrye_browse_borrowing,
+    ];
+    let passed = Answer { status: 0, length: 0, same: 1, place: 0 };
+    let text = b"a&lt;";
+    for call in calls {
+        let mut output = [0xEE; 8];
+        let mut empty = [0; 0];
+        for context in 0..7 {
+            // SAFETY: what is not null is valid for its length, and the text and the output do not overlap.
+            let answers = unsafe {
+                [
+                    call(context, std::ptr::null(), 0, std::ptr::null_mut(), 0),
+                    call(context, std::ptr::null(), 0, output.as_mut_ptr(), 8),
+                    call(context, text.as_ptr(), 5, std::ptr::null_mut(), 0),
+                    call(context, text.as_ptr(), 5, empty.as_mut_ptr(), 0),
+                ]
+            };
+            assert_eq!(answers[..2], [passed, passed]);
+            assert_eq!((answers[2], answers[2].status), (answers[3], raw::NO_ROOM));
+        }
+        assert_eq!(output, [0xEE; 8]);
+    }
+}

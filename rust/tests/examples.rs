@@ -1,0 +1,134 @@
+//! The examples of document 01 through the archive's calls: the answer, the bytes, and the bytes past them, copying and borrowing.
+use lintelrye::raw::{self, Answer};
+
+type Call = fn(u32, &[u8], &mut [u8]) -> Answer;
+
+const ENCODE: [Call; 2] = [raw::encode, raw::encode_borrowing];
+const DECODE: [Call; 2] = [raw::decode, raw::decode_borrowing];
+const READ: [Call; 2] = [raw::read, raw::read_borrowing];
+const BROWSE: [Call; 2] = [raw::browse, raw::browse_borrowing];
+
+const TEXT_MINIMAL: u32 = 0;
+const TEXT: u32 = 1;
+const SAFE: u32 = 5;
+const SCRIPT_SINGLE: u32 = 7;
+const SCRIPT_DOUBLE: u32 = 8;
+const SCRIPT_QUOTED: u32 = 9;
+const STYLE_QUOTED: u32 = 12;
+const SCRIPT_RAW: u32 = 13;
+
+/// Both calls pass with this result, into a buffer of 64 bytes.
+fn passes(calls: [Call; 2], context: u32, text: &[u8], result: &[u8]) {
+    let same = text == result;
+    let answer = Answer { status: 0, length: result.len() as u64, same: same as u64, place: 0 };
+    for (borrowing, call) in calls.iter().enumerate() {
+        let mut output = [0xEE; 64];
+        assert_eq!(call(context, text, &mut output), answer, "of {:?}", text);
+        assert_eq!(raw::view(text, &output, answer), result);
+        let written = if borrowing == 1 && same { 0 } else { result.len() };
+        assert_eq!(output[..written], result[..written]);
+        assert!(output[written..].iter().all(|&b| b == 0xEE));
+    }
+}
+
+/// Both calls refuse with this answer and leave a buffer of so many bytes as it was.
+fn refuses(calls: [Call; 2], context: u32, text: &[u8], room: usize, answer: Answer) {
+    for call in calls {
+        let mut output = [0xEE; 64];
+        assert_eq!(call(context, text, &mut output[..room]), answer, "of {} bytes", text.len());
+        assert_eq!(output, [0xEE; 64]);
+        assert_eq!(raw::view(text, &output[..room], answer), b"");
+    }
+}
+
+/// Texts that stay as they are.
+fn stay(calls: [Call; 2], context: u32, texts: &[&[u8]]) {
+    for text in texts {
+        passes(calls, context, text, text);
+    }
+}
+
+#[test]
+fn encoding_1_to_7() {
+    passes(ENCODE, TEXT_MINIMAL, b"a<b>&", b"a&lt;b>&amp;");
+    passes(ENCODE, SAFE, b"'/\"", b"&#x27;&#x2F;&quot;");
+    passes(ENCODE, SCRIPT_SINGLE, b"it's \"x\"\\", b"it\\'s \"x\"\\\\");
+    passes(ENCODE, SCRIPT_DOUBLE, b"\x0A\x3C", b"\\x0A\\x3C");
+    passes(ENCODE, STYLE_QUOTED, b"\x0A\x3C\x00", b"\\0A \\3C \xEF\xBF\xBD");
+    passes(ENCODE, SCRIPT_QUOTED, b"\xE2\x80\xA8", b"\\u2028");
+    stay(ENCODE, SCRIPT_QUOTED, &[b"\xE2\x80\xAA"]);
+    passes(ENCODE, SCRIPT_RAW, b"<</script", b"<<\\/script");
+    stay(ENCODE, SCRIPT_RAW, &[b"</scripts>"]);
+}
+
+#[test]
+fn decoding_8_to_11() {
+    passes(DECODE, TEXT, b"&&lt;", b"&<");
+    passes(DECODE, TEXT, b"&amp;lt;", b"&lt;");
+    passes(DECODE, TEXT, b"&#9;", b"\x09");
+    stay(DECODE, TEXT, &[b"&#11;", b"&#0;", b"&#+65;", b"&#xD800;", b"&#4294967296;"]);
+    passes(DECODE, SCRIPT_QUOTED, b"\\\\x3C", b"\\x3C");
+    stay(DECODE, SCRIPT_QUOTED, &[b"\\x3c", b"\\x20"]);
+    passes(DECODE, STYLE_QUOTED, b"\\3C ", b"<");
+    stay(DECODE, STYLE_QUOTED, &[b"\\3C", b"\\00 "]);
+}
+
+#[test]
+fn reading_12() {
+    refuses(READ, TEXT_MINIMAL, b"a&lt;&gt;", 64, Answer { status: 4, length: 0, same: 0, place: 5 });
+}
+
+#[test]
+fn decoding_13_and_14() {
+    passes(DECODE, SCRIPT_QUOTED, b"<\\/SCRIPT ", b"</SCRIPT ");
+    stay(DECODE, SCRIPT_QUOTED, &[b"<\\/script"]);
+    passes(DECODE, TEXT, b"&nGt;", b"\xE2\x89\xAB\xE2\x83\x92");
+    refuses(DECODE, TEXT, b"&nGt;", 5, Answer { status: 3, length: 6, same: 0, place: 0 });
+}
+
+#[test]
+fn limits_15() {
+    let letters = vec![b'a'; 65_537];
+    for calls in [ENCODE, DECODE, READ, BROWSE] {
+        refuses(calls, TEXT, b"\x61\xC3\x28", 64, Answer { status: 2, length: 0, same: 0, place: 1 });
+        refuses(calls, TEXT, &letters, 64, Answer { status: 1, length: 0, same: 0, place: 0 });
+        let mut output = vec![0xEE; 65_540];
+        let passed = Answer { status: 0, length: 65_536, same: 1, place: 0 };
+        assert_eq!(calls[1](TEXT, &letters[..65_536], &mut []), passed);
+        assert_eq!(calls[0](TEXT, &letters[..65_536], &mut output), passed);
+        assert_eq!(output[..65_536], letters[..65_536]);
+        assert_eq!(output[65_536..], [0xEE; 4]);
+    }
+}
+
+#[test]
+fn room_16() {
+    refuses(ENCODE, TEXT, b"<", 3, Answer { status: 3, length: 4, same: 0, place: 0 });
+    let mut output = [0; 4];
+    assert_eq!(raw::encode(TEXT, b"<", &mut output).status, 0);
+    assert_eq!(&output, b"&lt;");
+}
+
+#[test]
+fn browsing_17() {
+    passes(BROWSE, TEXT, b"&#0;", b"\xEF\xBF\xBD");
+}
+
+#[test]
+fn the_empty_text_18() {
+    for calls in [ENCODE, DECODE, READ, BROWSE] {
+        stay(calls, TEXT, &[b""]);
+    }
+}
+
+#[test]
+fn contexts_of_the_operations() {
+    for (calls, contexts) in [(ENCODE, 14), (DECODE, 13), (READ, 13), (BROWSE, 7)] {
+        for context in 0..contexts {
+            stay(calls, context, &[b"Hall"]);
+        }
+        for context in [contexts, 14, 255, 256, u32::MAX] {
+            refuses(calls, context, b"\xFF", 0, Answer { status: 5, length: 0, same: 0, place: 0 });
+        }
+    }
+}
