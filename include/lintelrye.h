@@ -1,7 +1,7 @@
 /* Lintelrye for C and C++: HTML escaping with proofs. Link liblintelrye_c.a (x86-64, System V calls); nothing else is needed.
  *
  * Four operations, each as a copying and as a borrowing call. Every call takes a context by its number, a text, and an output that the caller
- * lends, and returns four numbers. No call allocates, keeps a pointer, uses a global or fails to end.
+ * lends, and returns four numbers. No call allocates, keeps a pointer, writes to a global or fails to end.
  *
  * What a caller owes, and all that is owed:
  *   - `text` can be read for `text_length` bytes, and `output` read and written for `output_length` bytes, during the call;
