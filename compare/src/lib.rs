@@ -1,10 +1,6 @@
 //! What the programs beside the crate share: the library's calls as its archive exports them, the crate's functions by context, and a
 //! generator of numbers with a fixed seed.
 
-pub mod heap;
-pub mod pages;
-pub mod plot;
-
 /// The answer record, as include/lintelrye.h lays it out.
 #[repr(C)]
 #[derive(Clone, Copy, Debug, PartialEq, Eq)]

@@ -24,9 +24,8 @@ pub struct Request {
     pub asked: usize,
     pub longest: usize,
     pub free: usize,
-    /// How many free blocks there were, and how many bytes were taken.
+    /// How many free blocks there were.
     pub blocks: usize,
-    pub taken: usize,
     /// Whether no block was long enough.
     pub short: bool,
 }
@@ -163,7 +162,7 @@ static HEAP: Heap = Heap(UnsafeCell::new(State {
     arena: Arena { first: NONE, taken: 0, most_taken: 0 },
     lent: false,
     counts: Counts { calls: 0, bytes: 0, alive: 0, most: 0 },
-    request: Request { asked: 0, longest: 0, free: 0, blocks: 0, taken: 0, short: false },
+    request: Request { asked: 0, longest: 0, free: 0, blocks: 0, short: false },
 }));
 
 /// Works on the state. Nothing that it calls allocates, so it is never entered twice.
@@ -184,7 +183,7 @@ impl State {
     /// Notes a request, and what is free when it comes.
     fn note(&mut self, asked: usize, short: bool) {
         let (longest, free, blocks) = self.arena.free();
-        self.request = Request { asked, longest, free, blocks, taken: self.arena.taken, short };
+        self.request = Request { asked, longest, free, blocks, short };
     }
 
     /// A place of the controller's heap while that is lent; none where it is short.

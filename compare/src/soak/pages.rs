@@ -1,6 +1,6 @@
 //! Pages of a journey log, the same from run to run, and three ways of filling one: by the library into an array, by html-escape with a fresh String a
 //! line, and by html-escape into a String that is kept.
-use crate::{call, Numbers, Operation};
+use compare::{call, Numbers, Operation};
 
 pub const LINES: usize = 40;
 pub const ROOM: usize = 16_384;
