@@ -1,0 +1,134 @@
+"""Makes the pages, has Chromium load them, and compares. Started by browser/run, which says what the words are:
+    check.py WORK SCREENSHOT COMMAND...    the folder for the pages, the image to write (or nothing), and how calls.c is run"""
+import os
+import re
+import sys
+
+import chromium
+import journey
+import references
+from library import CONTEXTS, Library
+from places import PLACES, Place
+from tally import Tally
+from texts import texts
+
+HERE = os.path.dirname(os.path.abspath(__file__))
+ELEMENTS = 6  # of a page: html, head, meta, title, script, body
+
+
+def progress(words):
+    """Says on the terminal what is under way."""
+    print(words, file=sys.stderr, flush=True)
+
+
+def write_page(work, name, head, body):
+    """Writes a page, and returns its path."""
+    path = os.path.join(work, name + '.html')
+    with open(path, 'wb') as file:
+        file.write(('<!doctype html><html lang=en><head><meta charset=utf-8><title>%s</title>%s</head><body>' % (name, head)).encode() + body
+                   + b'</body></html>\n')
+    return path
+
+
+def seen(work, name, places, count, body, head=''):
+    """What Chromium holds in each place of a page: a list of texts for each place, None where it found nothing; and how many elements there are."""
+    with open(os.path.join(HERE, 'page.js'), encoding='utf-8') as file:
+        script = '<script>%s\nreportAll([%s], %d);</script>' % (file.read(), ', '.join('i => ' + place.reader for place in places), count)
+    page = write_page(work, name, script + head, body)
+    found = re.search('<pre id="result">([^<]*)</pre>', chromium.dom(work, page))
+    lines = found.group(1).split('\n') if found else []
+    if len(lines) != len(places) + 1:
+        return [[None] * count for _ in places], None
+    columns = [[None if word == '-' else bytes.fromhex(word).decode('utf-16-be', 'surrogatepass') for word in line.split(' ')] for line in lines[1:]]
+    return [[None if text is None else place.undo(text) for text in column] for place, column in zip(places, columns)], int(lines[0])
+
+
+def predict(place, expected):
+    """What a browser should hold for an expected text, and the kinds by which it differs."""
+    kinds = []
+    for kind in place.kinds:
+        changed = kind.change(expected)
+        if changed != expected:
+            kinds.append(kind.name)
+        expected = changed
+    return expected, kinds
+
+
+def check_context(tally, library, work, context, typed):
+    """Encodes texts in one context, shows each in all of the context's places, and compares."""
+    places = [place for place in PLACES if place.context == context]
+    written = [library.call('encode', context, [place.source(text).encode() for text in typed]) for place in places]
+    body = b''.join(place.write(i, column[i] or b'') for i in range(len(typed)) for place, column in zip(places, written))
+    columns, elements = seen(work, context, places, len(typed), body)
+    for place, column, held in zip(places, written, columns):
+        for i, text in enumerate(typed):
+            expected = None if column[i] is None else place.expected(text, column[i].decode())
+            predicted, kinds = predict(place, expected) if expected is not None else ('a result', [])
+            tally.compare((context, place.name), text, held[i], predicted, kinds)
+    wanted = ELEMENTS + len(typed) * sum(place.elements() for place in places)
+    tally.compare((context, 'number of elements'), '', str(elements), str(wanted), [])
+
+
+def check_references(tally, library, work):
+    """Shows every reference in element text and in an attribute, and compares what Chromium reads with what browse and decode give."""
+    every = references.references()
+    places = [Place('text', 'element text', '<div id=a{i}>{e}</div>', "textAt('a', i)", []),
+              Place('double_quoted', 'attribute', '<div id=d{i} title="{e}"></div>', "titleAt('d', i)", [])]
+    body = b''.join(place.write(i, text.encode()) for i, text in enumerate(every) for place in places)
+    columns, _ = seen(work, 'references', places, len(every), body)
+    for operation, switches in references.SWITCHES.items():
+        for place, column in zip(places, columns):
+            results = [result and result.decode() for result in library.call(operation, place.context, [text.encode() for text in every])]
+            for text, held, given in zip(every, column, results):
+                compare_reference(tally, (operation, 'in ' + place.name), text, held, given, switches)
+            list_differences(tally, operation + ' in ' + place.name, every, column, results)
+
+
+def list_differences(tally, where, every, column, results):
+    """Notes which numbers with `;` and which names with and without it Chromium reads in another way."""
+    other = [text[1:] for text, held, given in zip(every, column, results) if held != given]
+    numbers = sorted({int(text[1:-1]) for text in other if re.fullmatch('#(0|[1-9][0-9]{0,6});', text)})
+    named = [text for text in other if text in references.NAMES]
+    bare = [name for name in named if name[-1] != ';']
+    tally.notes.append('%s: Chromium reads in another way, of the numbers with `;`, %d (%s); of the names with `;`, %d; of the names without, %d' % (
+        where, len(numbers), ' '.join(map(str, numbers)), len(named) - len(bare), len(bare)))
+
+
+def compare_reference(tally, row, text, held, given, switches):
+    """One reference: the browser and the call must each give what the reader says; where these differ, the switches that mattered explain it."""
+    attribute = row[1] == 'in attribute'
+    browser, used = references.reading(text, attribute, references.BROWSER)
+    own, _ = references.reading(text, attribute, switches)
+    if given == own and held == browser:
+        tally.compare(row, text, held, browser, sorted(used - switches) if browser != own else [])
+    else:
+        tally.compare(row, text, held, given if given != held else own, [])
+
+
+def check_journey(tally, library, work, image):
+    """Compares the texts on the page of the journey log, and where an image is wanted, writes it."""
+    head, body, shown = journey.journey(library)
+    (held,), _ = seen(work, 'journey', [Place('text', 'cells', '', "textAt('a', i)", [])], len(shown), body.encode(), head)
+    for text, value in zip(shown, held):
+        tally.compare(('journey log', 'its texts'), text, value, text, [])
+    if image:
+        chromium.picture(work, write_page(work, 'journey-log', head, body.encode()), image, *journey.SIZE)
+
+
+def main():
+    work, image, command = sys.argv[1], sys.argv[2], sys.argv[3:]
+    library, tally, typed = Library(command), Tally(), texts()
+    progress('%s; %d texts in each context' % (chromium.version(), len(typed)))
+    for k, context in enumerate(CONTEXTS):
+        progress('%d of %d: %s' % (k + 1, len(CONTEXTS) + 2, context))
+        size = 1200 if context.startswith('style') else len(typed)
+        for at in range(0, len(typed), size):
+            check_context(tally, library, work, context, typed[at:at + size])
+    progress('%d of %d: references' % (len(CONTEXTS) + 1, len(CONTEXTS) + 2))
+    check_references(tally, library, work)
+    progress('%d of %d: journey log' % (len(CONTEXTS) + 2, len(CONTEXTS) + 2))
+    check_journey(tally, library, work, image)
+    sys.exit(1 if tally.show() else 0)
+
+
+main()

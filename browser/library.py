@@ -1,0 +1,26 @@
+"""The library's calls, made through the program calls.c."""
+import struct
+import subprocess
+
+CONTEXTS = ['text_minimal', 'text', 'double_quoted', 'single_quoted', 'quoted', 'safe', 'unquoted', 'script_single', 'script_double', 'script_quoted',
+            'style_single', 'style_double', 'style_quoted', 'script_raw']
+OPERATIONS = ['encode', 'decode', 'read', 'browse']
+
+
+class Library:
+    def __init__(self, command):
+        self.command = command
+
+    def call(self, operation, context, texts):
+        """The results of one operation in one context for a list of byte strings; None for each that is refused."""
+        head = bytes([OPERATIONS.index(operation), CONTEXTS.index(context)])
+        requests = b''.join(head + struct.pack('<I', len(text)) + text for text in texts)
+        ran = subprocess.run(self.command, input=requests, stdout=subprocess.PIPE, check=False)
+        results, at = [], 0
+        while at + 5 <= len(ran.stdout):
+            status, length = struct.unpack_from('<BI', ran.stdout, at)
+            results.append(None if status else ran.stdout[at + 5:at + 5 + length])
+            at += 5 + length
+        if ran.returncode != 0 or at != len(ran.stdout) or len(results) != len(texts):
+            raise SystemExit('%s ended with status %d after %d of %d answers' % (self.command[-1], ran.returncode, len(results), len(texts)))
+        return results
