@@ -31,7 +31,8 @@ def write_page(work, name, head, body):
 
 
 def seen(work, name, places, count, body, head=''):
-    """What Chromium holds in each place of a page: a list of texts for each place, None where it found nothing; and how many elements there are."""
+    """What Chromium holds in each place of a page: a list of texts for each place, None where it found nothing; and a line of the numbers of elements and of
+    texts that were run."""
     with open(os.path.join(HERE, 'page.js'), encoding='utf-8') as file:
         script = '<script>%s\nreportAll([%s], %d);</script>' % (file.read(), ', '.join('i => ' + place.reader for place in places), count)
     page = write_page(work, name, script + head, body)
@@ -40,7 +41,7 @@ def seen(work, name, places, count, body, head=''):
     if len(lines) != len(places) + 1:
         return [[None] * count for _ in places], None
     columns = [[None if word == '-' else bytes.fromhex(word).decode('utf-16-be', 'surrogatepass') for word in line.split(' ')] for line in lines[1:]]
-    return [[None if text is None else place.undo(text) for text in column] for place, column in zip(places, columns)], int(lines[0])
+    return [[None if text is None else place.undo(text) for text in column] for place, column in zip(places, columns)], lines[0]
 
 
 def predict(place, expected):
@@ -59,14 +60,14 @@ def check_context(tally, library, work, context, typed):
     places = [place for place in PLACES if place.context == context]
     written = [library.call('encode', context, [place.source(text).encode() for text in typed]) for place in places]
     body = b''.join(place.write(i, column[i] or b'') for i in range(len(typed)) for place, column in zip(places, written))
-    columns, elements = seen(work, context, places, len(typed), body)
+    columns, counts = seen(work, context, places, len(typed), body)
     for place, column, held in zip(places, written, columns):
         for i, text in enumerate(typed):
-            expected = None if column[i] is None else place.expected(text, column[i].decode())
+            expected = None if column[i] is None else place.expected(text, column[i].decode(errors='replace'))
             predicted, kinds = predict(place, expected) if expected is not None else ('a result', [])
             tally.compare((context, place.name), text, held[i], predicted, kinds)
     wanted = ELEMENTS + len(typed) * sum(place.elements() for place in places)
-    tally.compare((context, 'number of elements'), '', str(elements), str(wanted), [])
+    tally.compare((context, 'elements, texts run'), '', counts, '%d 0' % wanted, [])
 
 
 def check_references(tally, library, work):
@@ -74,35 +75,27 @@ def check_references(tally, library, work):
     every = references.references()
     places = [Place('text', 'element text', '<div id=a{i}>{e}</div>', "textAt('a', i)", []),
               Place('double_quoted', 'attribute', '<div id=d{i} title="{e}"></div>', "titleAt('d', i)", [])]
-    body = b''.join(place.write(i, text.encode()) for i, text in enumerate(every) for place in places)
+    typed = [text.encode() for text in every]
+    body = b''.join(place.write(i, text) for i, text in enumerate(typed) for place in places)
     columns, _ = seen(work, 'references', places, len(every), body)
     for operation, switches in references.SWITCHES.items():
         for place, column in zip(places, columns):
-            results = [result and result.decode() for result in library.call(operation, place.context, [text.encode() for text in every])]
-            for text, held, given in zip(every, column, results):
-                compare_reference(tally, (operation, 'in ' + place.name), text, held, given, switches)
-            list_differences(tally, operation + ' in ' + place.name, every, column, results)
-
-
-def list_differences(tally, where, every, column, results):
-    """Notes which numbers with `;` and which names with and without it Chromium reads in another way."""
-    other = [text[1:] for text, held, given in zip(every, column, results) if held != given]
-    numbers = sorted({int(text[1:-1]) for text in other if re.fullmatch('#(0|[1-9][0-9]{0,6});', text)})
-    named = [text for text in other if text in references.NAMES]
-    bare = [name for name in named if name[-1] != ';']
-    tally.notes.append('%s: Chromium reads in another way, of the numbers with `;`, %d (%s); of the names with `;`, %d; of the names without, %d' % (
-        where, len(numbers), ' '.join(map(str, numbers)), len(named) - len(bare), len(bare)))
+            row = (operation, 'in ' + place.name)
+            given = [None if result is None else result.decode(errors='replace') for result in library.call(operation, place.context, typed)]
+            for text, held, result in zip(every, column, given):
+                compare_reference(tally, row, text, held, result, switches)
+            tally.notes.append('%s %s: %s' % (*row, references.listed([text for text, held, result in zip(every, column, given) if held != result])))
 
 
 def compare_reference(tally, row, text, held, given, switches):
-    """One reference: the browser and the call must each give what the reader says; where these differ, the switches that mattered explain it."""
+    """One reference. A difference is explained if the browser and the call each give what the reader says, by the switches that mattered."""
     attribute = row[1] == 'in attribute'
     browser, used = references.reading(text, attribute, references.BROWSER)
     own, _ = references.reading(text, attribute, switches)
-    if given == own and held == browser:
-        tally.compare(row, text, held, browser, sorted(used - switches) if browser != own else [])
+    if given == own and held == browser and own != browser:
+        tally.compare(row, text, held, browser, sorted(used - switches))
     else:
-        tally.compare(row, text, held, given if given != held else own, [])
+        tally.compare(row, text, held, given, [])
 
 
 def check_journey(tally, library, work, image):
@@ -111,14 +104,15 @@ def check_journey(tally, library, work, image):
     (held,), _ = seen(work, 'journey', [Place('text', 'cells', '', "textAt('a', i)", [])], len(shown), body.encode(), head)
     for text, value in zip(shown, held):
         tally.compare(('journey log', 'its texts'), text, value, text, [])
-    if image:
-        chromium.picture(work, write_page(work, 'journey-log', head, body.encode()), image, *journey.SIZE)
+    if image and not chromium.picture(work, write_page(work, 'journey-log', head, body.encode()), image, *journey.SIZE):
+        progress('Chromium wrote no image')
+        sys.exit(2)
 
 
 def main():
     work, image, command = sys.argv[1], sys.argv[2], sys.argv[3:]
     library, tally, typed = Library(command), Tally(), texts()
-    progress('%s; %d texts in each context' % (chromium.version(), len(typed)))
+    progress('%s; %d texts in each context' % (chromium.version(work), len(typed)))
     for k, context in enumerate(CONTEXTS):
         progress('%d of %d: %s' % (k + 1, len(CONTEXTS) + 2, context))
         size = 1200 if context.startswith('style') else len(typed)

@@ -37,7 +37,7 @@ footer { padding: 0 28px; font-size: 14px; color: #5b6470 }
 def journey(library):
     """The page's head and body, and the texts of its elements a0, a1 and so on."""
     def write(context, text):
-        return library.call('encode', context, [text.encode()])[0].decode()
+        return (library.call('encode', context, [text.encode()])[0] or b'').decode(errors='replace')
 
     texts, body = ['Journey log'], '<header><h1 id=a0>%s</h1><div></div></header><table><tr>' % write('text', 'Journey log')
     for column in COLUMNS:

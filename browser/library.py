@@ -1,6 +1,7 @@
 """The library's calls, made through the program calls.c."""
 import struct
 import subprocess
+import sys
 
 CONTEXTS = ['text_minimal', 'text', 'double_quoted', 'single_quoted', 'quoted', 'safe', 'unquoted', 'script_single', 'script_double', 'script_quoted',
             'style_single', 'style_double', 'style_quoted', 'script_raw']
@@ -22,5 +23,6 @@ class Library:
             results.append(None if status else ran.stdout[at + 5:at + 5 + length])
             at += 5 + length
         if ran.returncode != 0 or at != len(ran.stdout) or len(results) != len(texts):
-            raise SystemExit('%s ended with status %d after %d of %d answers' % (self.command[-1], ran.returncode, len(results), len(texts)))
+            print('%s ended with status %d after %d of %d answers' % (self.command[-1], ran.returncode, len(results), len(texts)), file=sys.stderr)
+            sys.exit(2)
         return results

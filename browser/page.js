@@ -1,6 +1,11 @@
 // Stands first in every page. `readers` (set by the page) reads the text in place number i; what it gives is reported as the numbers of its UTF-16
 // units, four hex digits each, so that nothing is escaped on the way back; `-` where there is nothing to read.
 const V = [];
+
+// Some texts call `alert`. No text may be run; one that is does no harm, and is counted.
+let run = 0;
+window.alert = () => { run += 1; };
+
 const at = (letter, i) => document.getElementById(letter + i);
 
 // The text of an element that holds nothing but text.
@@ -26,10 +31,11 @@ const report = (reader, i) => {
     }
 };
 
-// When the page is read to its end: reports every place, a line for each reader, and the number of elements; nothing else is left of the page.
+// When the page is read to its end: reports the number of elements and of texts that were run, and every place, a line for each reader. Nothing else is
+// left of the page.
 const reportAll = (readers, count) => addEventListener('DOMContentLoaded', () => {
     const elements = document.getElementsByTagName('*').length;
     const lines = readers.map(reader => Array.from({length: count}, (_, i) => report(reader, i)).join(' '));
     document.documentElement.innerHTML = '<pre id="result"></pre>';
-    document.getElementById('result').textContent = [elements, ...lines].join('\n');
+    document.getElementById('result').textContent = [elements + ' ' + run, ...lines].join('\n');
 });

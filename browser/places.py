@@ -15,7 +15,7 @@ class Kind:
 LINE_ENDS = Kind('a carriage return, copied into the page, is read as a line feed, and so is one with the line feed after it',
                  lambda text: text.replace('\r\n', '\n').replace('\r', '\n'))
 NUL_DROPPED = Kind('a NUL, copied into element text, is dropped', lambda text: text.replace('\0', ''))
-NUL_REPLACED = Kind('a NUL, copied into an attribute, a script or a textarea, is read as U+FFFD', lambda text: text.replace('\0', '\ufffd'))
+NUL_REPLACED = Kind('a NUL, copied into an attribute, a script, a title or a textarea, is read as U+FFFD', lambda text: text.replace('\0', '\ufffd'))
 NUL_NUMBER = Kind('a NUL, written &#x00; in an unquoted attribute, is read as U+FFFD', lambda text: text.replace('\0', '\ufffd'))
 NUL_STYLE = Kind('a NUL, for which a style string has U+FFFD, is U+FFFD', lambda text: text.replace('\0', '\ufffd'))
 FIRST_LINE_FEED = Kind('a line feed that stands first in a pre or a textarea is dropped', lambda text: text[1:] if text[:1] == '\n' else text)
@@ -83,6 +83,7 @@ PLACES = [
     Place('text', 'as shown, pre-wrap', '<div id=w{i} style=white-space:pre-wrap>{e}</div>', "at('w', i).innerText", [LINE_ENDS, NUL_DROPPED]),
     Place('text', 'as shown', '<div id=n{i}>{e}</div>', "at('n', i).innerText", [LINE_ENDS, NUL_DROPPED, FEEDS, ZERO_WIDTH, BLANKS]),
     Place('text', 'textarea', '<textarea id=t{i}>{e}</textarea>', "textAt('t', i)", [LINE_ENDS, FIRST_LINE_FEED, NUL_REPLACED]),
+    Place('text', 'title', '<title id=h{i}>{e}</title>', "textAt('h', i)", [LINE_ENDS, NUL_REPLACED]),
     in_attribute('double_quoted', '"'),
     Place('double_quoted', 'text field', '<input id=f{i} value="{e}">', "at('f', i).value", [LINE_ENDS, NUL_REPLACED, FIELD]),
     in_attribute('single_quoted', "'"),

@@ -55,6 +55,27 @@ def reading(text, attribute, switches):
     return result, used
 
 
+def ranges(values):
+    """Numbers in words: `1-8 11`."""
+    words, rising = [], sorted(values)
+    for k, n in enumerate(rising):
+        if k and rising[k - 1] == n - 1:
+            words[-1] = '%s-%d' % (words[-1].split('-')[0], n)
+        else:
+            words.append(str(n))
+    return ' '.join(words)
+
+
+def listed(different):
+    """Says which of the references that are read in another way are plain names and decimal numbers."""
+    decimal = {int(text[2:-1]) for text in different if re.fullmatch('&#(0|[1-9][0-9]{0,6});', text)}
+    named = [text for text in different if text[1:] in NAMES]
+    bare = [text for text in named if text[-1] != ';']
+    return ('Chromium reads in another way %d of the %d names that end in `;`, %d of the %d names that need none, and %d of the decimal numbers with `;`: %s'
+            % (len(named) - len(bare), sum(name[-1] == ';' for name in NAMES), len(bare), sum(name[-1] != ';' for name in NAMES), len(decimal),
+               ranges(decimal)))
+
+
 def numbers():
     """0 to 120 hex and what lies at the edges, in decimal and hex, with leading zeros, with many digits; also without `;`."""
     edges = [0x17F, 0x2028, 0xD7FF, 0xD800, 0xDBFF, 0xDC00, 0xDFFF, 0xE000, 0xFDD0, 0xFEFF, 0xFFFD, 0xFFFE, 0xFFFF, 0x10000, 0x1FFFE, 0x10FFFD, 0x10FFFF,

@@ -52,9 +52,9 @@ class Tally:
         return totals[3]
 
     def show_unexplained(self):
-        """Prints the shortest differences that nothing explains, five for each place."""
+        """Prints differences that nothing explains, five for each place: those where the browser holds something first, the shortest first."""
         for row in self.rows:
-            found = sorted((item for item in self.unexplained if item[0] == row), key=lambda item: len(item[1]))
+            found = sorted((item for item in self.unexplained if item[0] == row), key=lambda item: (item[2] is None, len(item[1])))
             if found:
                 print('\nUNEXPLAINED in %s, %s: %d' % (*row, len(found)))
             for _, text, held, predicted in found[:5]:
