@@ -9,6 +9,7 @@ OPERATIONS = ['encode', 'decode', 'read', 'browse']
 
 
 class Library:
+    """`command` is the program with the words before it that run it here."""
     def __init__(self, command):
         self.command = command
 

@@ -8,6 +8,7 @@ import re
 
 
 class Kind:
+    """An explained difference: its name, and the change of the text that a browser makes."""
     def __init__(self, name, change):
         self.name, self.change = name, change
 
@@ -20,7 +21,7 @@ NUL_NUMBER = Kind('a NUL, written &#x00; in an unquoted attribute, is read as U+
 NUL_STYLE = Kind('a NUL, for which a style string has U+FFFD, is U+FFFD', lambda text: text.replace('\0', '\ufffd'))
 FIRST_LINE_FEED = Kind('a line feed that stands first in a pre or a textarea is dropped', lambda text: text[1:] if text[:1] == '\n' else text)
 FIELD = Kind('line breaks are dropped by a text field that takes its value from the attribute', lambda text: text.replace('\n', '').replace('\r', ''))
-FEEDS = Kind('U+000B or U+000C with nothing but blanks beside it is not shown', lambda text: text if text.strip('\t\n\v\f ') else text.strip('\v\f'))
+FEEDS = Kind('U+000B or U+000C with nothing but blanks beside it is not shown', lambda text: text if text.strip('\t\n\v\f ') else re.sub('[\v\f]', '', text))
 ZERO_WIDTH = Kind('a line break beside U+200B is not shown', lambda text: re.sub('(?<=\u200b)[ \t]*\n[ \t\n]*|[ \t\n]*\n[ \t]*(?=\u200b)', '', text))
 BLANKS = Kind('blanks, tabs and line breaks in a row are shown as one blank, at either end as none', lambda text: re.sub('[ \t\n]+', ' ', text).strip(' '))
 NOTHING = Kind('the empty text, of which an unquoted attribute has nothing, takes the next attribute for its value',
@@ -28,6 +29,7 @@ NOTHING = Kind('the empty text, of which an unquoted attribute has nothing, take
 
 
 def same(text, _written):
+    """What most places should hold: the text."""
     return text
 
 
@@ -42,6 +44,7 @@ class Place:
         return self.markup.encode().replace(b'{i}', b'%d' % i).replace(b'{e}', written)
 
     def elements(self):
+        """How many elements the markup has."""
         return len(re.findall('<[a-z]', self.markup))
 
 
@@ -53,16 +56,19 @@ def style_string(serialized):
 
 
 def in_text(context):
+    """The text of an element."""
     return Place(context, 'element text', '<div id=a{i}>{e}</div>', "textAt('a', i)", [LINE_ENDS, NUL_DROPPED])
 
 
 def in_attribute(context, quote):
+    """An attribute in quotes."""
     letter = 'd' if quote == '"' else 's'
     return Place(context, 'attribute in ' + quote, '<div id=%s{i} title=%s{e}%s></div>' % (letter, quote, quote), "titleAt('%s', i)" % letter,
                  [LINE_ENDS, NUL_REPLACED])
 
 
 def in_script(context, quote):
+    """A string in a script, which the script keeps when it is run."""
     number = 0 if quote == '"' else 1
     return Place(context, 'script string in ' + quote, '<script>V[2 * {i} + %d] = %s{e}%s;</script>' % (number, quote, quote), 'V[2 * i + %d]' % number, [])
 

@@ -1,5 +1,4 @@
 """What was compared: counts for each place, the explained kinds with their smallest input, and the first differences that nothing explains."""
-
 import textwrap
 
 
@@ -12,6 +11,7 @@ def shown(text, limit=48):
 
 
 class Tally:
+    """A row is a pair of words, the context (or operation) and the place; its counts are compared, same, explained, unexplained."""
     def __init__(self):
         self.rows, self.kinds, self.notes, self.unexplained = {}, {}, [], []
 
@@ -57,5 +57,6 @@ class Tally:
             found = sorted((item for item in self.unexplained if item[0] == row), key=lambda item: (item[2] is None, len(item[1])))
             if found:
                 print('\nUNEXPLAINED in %s, %s: %d' % (*row, len(found)))
+            other = row[0] + ' gives' if row[0] in ('browse', 'decode') else 'expected'
             for _, text, held, predicted in found[:5]:
-                print('  text %s: the browser holds %s, expected %s' % (shown(text), shown(held), shown(predicted)))
+                print('  text %s: the browser holds %s, %s %s' % (shown(text), shown(held), other, shown(predicted)))

@@ -12,7 +12,7 @@ MARKUP = ['</script>', '</SCRIPT >', '</script', '</script/', '</script\n', '</s
           '<img src=x onerror=alert(1)>', '" onclick="x', "' onclick='x", ' onclick=x', '>', '/>', 'javascript:alert(1)', '${x}', '{{x}}', '*/', '/*', '//',
           'url(x)', '}', ';', '\\\n', '\n', '\n\n', '\r', '\r\n', '\r\r', '\n\r', '\r\0\n', '\0\n', '\n\0', '\0', '\0\0', '\u2028', '\u2029', 'a\u2028b\u2029c',
           '\u2027\u202a', '\ufeff', '\ufeffa', '\ufffd', '\ufffe', '\uffff', '\U0001fffe', '\U0010ffff', '\U00010000', '\ud7ff', '\ue000', '\x7f', '\x80', '\x85',
-          '\x9f', '\xa0', '\u200b', '\u200b\n', '\n\u200b', '\u2060', '\u3000', '\x0c ']
+          '\x9f', '\xa0', '\u200b', '\u200b\n', '\n\u200b', '\u2060', '\u3000', ' \x0b ']
 LONG = ['<', '>', '&', '"', "'", '/', '\\', '\n', '\t', ' ', 'é', '\u2028', '😀', '</script>', '<!--', '&lt;', '&amp', "Mum & Dad's "]
 
 
