@@ -3,22 +3,16 @@
  *                                  the text's length, four bytes, the lowest first; the text
  *   its answer on standard output: the status, a byte; the result's length, four bytes, the lowest first; the result
  * After a refusal the result is empty. It ends with status 0 at the end of input, with 2 where a request is cut off or wrong. */
-#include <stdint.h>
+#include "lintelrye.h"
 #include <stdio.h>
 
-struct answer {
-    uint64_t status, length, same, place;
-};
-
-typedef struct answer call(uint32_t context, const uint8_t *text, size_t text_length, uint8_t *output, size_t output_length);
-
-extern call lintelrye_encode, lintelrye_decode, lintelrye_read, lintelrye_browse;
+typedef lintelrye_answer call(uint32_t context, const uint8_t *text, size_t text_length, uint8_t *output, size_t output_length);
 
 static call *const calls[4] = {lintelrye_encode, lintelrye_decode, lintelrye_read, lintelrye_browse};
 
 /* No text is longer than the limit and one byte, no result longer than six times the limit. */
-static uint8_t text[65537];
-static uint8_t output[6 * 65536];
+static uint8_t text[LINTELRYE_TEXT_LIMIT + 1];
+static uint8_t output[LINTELRYE_ENCODED_AT_MOST(LINTELRYE_TEXT_LIMIT)];
 
 int main(void)
 {
@@ -28,7 +22,7 @@ int main(void)
         size_t length = head[2] | head[3] << 8 | (size_t)head[4] << 16 | (size_t)head[5] << 24;
         if (head[0] > 3 || length > sizeof text || fread(text, 1, length, stdin) != length)
             return 2;
-        struct answer a = calls[head[0]](head[1], text, length, output, sizeof output);
+        lintelrye_answer a = calls[head[0]](head[1], text, length, output, sizeof output);
         size_t n = a.status ? 0 : (size_t)a.length;
         uint8_t back[5] = {(uint8_t)a.status, (uint8_t)n, (uint8_t)(n >> 8), (uint8_t)(n >> 16), (uint8_t)(n >> 24)};
         if (fwrite(back, 1, sizeof back, stdout) != sizeof back || fwrite(output, 1, n, stdout) != n)
