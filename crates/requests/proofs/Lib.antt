@@ -1,0 +1,6 @@
+pub mod Header
+pub mod Digits
+pub mod Limit
+pub mod Parted
+pub mod Viewed
+pub mod Enough

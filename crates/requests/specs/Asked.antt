@@ -1,0 +1,40 @@
+-- The call that a request asks for, as the refusal table takes it, and what is printed for it.
+-- Assumes nothing.
+use mathlib.Core.Bool.{false, cond}
+use mathlib.Core.Option.{Option, none, some}
+use mathlib.Core.Path.{_≡_}
+use mathlib.Core.List.{List, []}
+use Prim.Native.Nat.{ℕ}
+use lib.Dec.{eqb}
+use lib.ListN.{length as size}
+use Rattle.rules.specs.Bytes.{over}
+use Rattle.rules.specs.Contexts.{contextOf}
+use Rattle.rules.specs.Refusals.{Call, answer, answerAt, outAt, caseOf, movesIn}
+use Rattle.rules.specs.Program.{printed, printedCall}
+use Rattle.rules.specs.declared.Answer.{Answer}
+use Rattle.rules.specs.declared.Operation.{Operation}
+
+-- A copying call of an operation in the context of a number, on a text of at most 8,192 bytes, with an output of room bytes.
+abbrev pub asked : Operation → ℕ → List ℕ → ℕ → Call
+asked op number t room = record { operation = op; context = contextOf number; borrows = false; limit = 8192; text = t; room = room }
+
+-- What the table answers to a call.
+abbrev pub answerTo : Call → Answer
+answerTo k = answerAt (caseOf k) (k .text) (movesIn k)
+
+-- What the call leaves in an output.
+abbrev pub outputOf : Call → List ℕ → List ℕ
+outputOf k out = outAt (caseOf k) (movesIn k) out
+
+-- What is answered where the text is too long, if `empty` is the answer for the empty text.
+abbrev pub refused : Answer → Answer
+refused empty = cond (eqb (empty .status) 5) empty (answer 1 0 0 0)
+
+-- What is printed for a request, if it is one.
+abbrev pub printedBy : Option Call → List ℕ
+printedBy none = printed (answer 6 0 0 0) []
+printedBy (some k) = printedCall k
+
+-- The bytes w are written to the start of an output, and r is their number; the rest keeps its values.
+abbrev pub Prints : List ℕ → ℕ → List ℕ → List ℕ → Type 0
+Prints w r out₀ out = (r ≡ size w) × (out ≡ over w out₀)
