@@ -10,7 +10,7 @@ ghost use Prim.Native.Nat.{_≤_};
 ghost use lib.ListN.{length};
 ghost use Rattle.rules.specs.Bytes.{over};
 ghost use Rattle.rules.specs.Contexts.{contextOf};
-ghost use Rattle.rules.specs.Refusals.{answerOf, outOf};
+ghost use Rattle.rules.specs.Refusals.{answer, answerOf, outOf};
 ghost use Rattle.rules.specs.Program.{entityOf, requestOf, contextLine, textOf, printedCall};
 ghost use Rattle.requests.specs.Asked.{asked, answerTo, outputOf, refused, printedBy, Prints};
 use crate::lines::ContextLine;
@@ -37,6 +37,18 @@ fn copying(operation: Operation, context: u32, text: &[u8], output: &mut [u8]) -
     }
 }
 
+// A refusal that names no length and no place.
+fn refusal(status: usize) -> Answer
+    ensures { λ r. ⌜ r ≡ answer status 0 0 0 ⌝ }
+{
+    Answer {
+        status,
+        length: 0,
+        same: 0,
+        place: 0,
+    }
+}
+
 // What a call answers whose text is too long, where `empty` is its answer for the empty text: that tells whether the operation has the context.
 fn too_long(empty: Answer) -> Answer
     ensures { λ r. ⌜ r ≡ refused empty ⌝ }
@@ -44,12 +56,7 @@ fn too_long(empty: Answer) -> Answer
     if empty.status == lintelrye::BAD_CONTEXT {
         return empty;
     }
-    Answer {
-        status: lintelrye::TOO_LONG,
-        length: 0,
-        same: 0,
-        place: 0,
-    }
+    refusal(lintelrye::TOO_LONG)
 }
 
 // The call that a request asks for: the copying one, with the program's limit of 8,192 bytes.
@@ -85,15 +92,7 @@ fn refuse(output: &mut [u8]) -> usize
     requires { ⌜ 65536 ≤ length (now output) ⌝ }
     ensures { λ r. ⌜ Prints (printedBy none) r (now (output .entry)) (now (output .exit)) ⌝ }
 {
-    page::put_answer(
-        Answer {
-            status: BAD_REQUEST,
-            length: 0,
-            same: 0,
-            place: 0,
-        },
-        output,
-    )
+    page::put_answer(refusal(BAD_REQUEST), output)
 }
 
 // What is left of a request after the line of the context: `text=`, and the text.
