@@ -1,27 +1,16 @@
 // The character writer of functions.rs: a character, by its number, as the bytes of UTF-8.
-ghost use mathlib.Core.Bool.{cond};
 ghost use mathlib.Core.Path.{_≡_};
 ghost use Prim.Native.Nat.{_≤_};
-ghost use lib.Dec.{leb};
 ghost use lib.ListN.{length};
 ghost use Rattle.rules.specs.Bytes.{over};
 ghost use Rattle.rules.specs.Utf8.{utf8};
-
-// 1 if a number is at least `least`, 0 if not.
-fn reaches(number: u32, least: u32) -> usize
-    ensures { λ r. ⌜ (r ≡ cond (leb least number) 1 0) × (r ≤ 1) ⌝ }
-{
-    if least <= number {
-        return 1;
-    }
-    0
-}
 
 // How many bytes the character of a number has.
 pub fn char_length(number: u32) -> usize
     ensures { λ r. ⌜ (r ≡ length (utf8 number)) × (r ≤ 4) ⌝ }
 {
-    1 + reaches(number, 0x80) + reaches(number, 0x800) + reaches(number, 0x10000)
+    let n = number as u64;
+    1 + parts::reaches(n, 0x80) + parts::reaches(n, 0x800) + parts::reaches(n, 0x10000)
 }
 
 // Writes the character of a number to the start of `output` and returns how many bytes it has; what lies past them keeps its values.

@@ -1,7 +1,7 @@
 // What stands at the head of a text: given bytes, or the name of a closing tag with what ends it.
 ghost use mathlib.Core.Bool.{_&&_, _||_};
 ghost use mathlib.Core.Path.{_≡_};
-ghost use Rattle.rules.specs.Bytes.{stands, inside, oneOf};
+ghost use Rattle.rules.specs.Bytes.{stands, oneOf};
 ghost use Rattle.rules.specs.Encoding.{anyCase, terminators, closes, closesAtEnd};
 
 // Whether the bytes of `pattern` stand at the head of `rest`.
@@ -19,16 +19,6 @@ pub fn starts(pattern: &[u8], rest: &[u8]) -> bool
         i += 1;
     }
     true
-}
-
-// Whether a byte is from `lo` to `hi`.
-pub fn is_within(lo: u8, hi: u8, b: u8) -> bool
-    ensures { λ r. ⌜ r ≡ inside (lo, hi) b ⌝ }
-{
-    if b < lo {
-        return false;
-    }
-    b <= hi
 }
 
 // Whether `b` is the byte `a`, or the other case of the lower-case letter `a`.
@@ -57,10 +47,10 @@ fn is_terminator(b: u8) -> bool
     if b == b'>' {
         return true;
     }
-    if is_within(9, 13, b) {
+    if parts::is_within(9, 13, b) {
         return true;
     }
-    is_within(28, 32, b)
+    parts::is_within(28, 32, b)
 }
 
 // Whether the bytes of `name`, its letters in either case, stand at the head of `rest`, and then a terminator, or the end of the text where

@@ -1,12 +1,8 @@
 // By how much a byte grows, as a sum of comparisons.
 use rules::Html;
 ghost use mathlib.Core.Path.{_≡_};
-ghost use mathlib.Core.Bool.{cond};
 ghost use Prim.Native.Nat.{_+_, _*_, _≤_};
-ghost use lib.Dec.{eqb};
 ghost use lib.ListN.{length};
-ghost use Rattle.rules.specs.Bytes.{inside};
-ghost use Rattle.rules.specs.Tables.{letterOrDigit};
 ghost use Rattle.rules.specs.declared.Html.the-variants.{Unquoted};
 ghost use Rattle.html.specs.Written.{written};
 ghost use Rattle.html.specs.Gains.{gainOf, gainsOf, Grows};
@@ -52,36 +48,6 @@ pub fn weigh(h: Html) -> Gains
     }
 }
 
-// `weight` where the byte is the key, else 0.
-fn when(b: u8, key: u8, weight: u8) -> u8
-    ensures { λ r. ⌜ (r ≡ cond (eqb b key) weight 0) × (r ≤ weight) ⌝ }
-{
-    if b == key { weight } else { 0 }
-}
-
-// Whether a byte is in a range, both ends in it.
-fn is_inside(from: u8, to: u8, b: u8) -> bool
-    ensures { λ r. ⌜ r ≡ inside (from, to) b ⌝ }
-{
-    if b < from {
-        return false;
-    }
-    b <= to
-}
-
-// Whether a byte is an ASCII letter or digit.
-pub fn is_letter_or_digit(b: u8) -> bool
-    ensures { λ r. ⌜ r ≡ letterOrDigit b ⌝ }
-{
-    if is_inside(b'0', b'9', b) {
-        return true;
-    }
-    if is_inside(b'A', b'Z', b) {
-        return true;
-    }
-    is_inside(b'a', b'z', b)
-}
-
 // By how much a byte grows in an unquoted attribute.
 fn gain_unquoted(b: u8) -> u8
     ensures { λ r. ⌜ r ≡ gainOf Unquoted b ⌝ }
@@ -89,10 +55,10 @@ fn gain_unquoted(b: u8) -> u8
     if 127 < b {
         return 0;
     }
-    if is_letter_or_digit(b) {
+    if parts::is_letter_or_digit(b) {
         return 0;
     }
-    5 - when(b, b'&', 1) - when(b, b'<', 2) - when(b, b'>', 2)
+    5 - parts::when(b, b'&', 1) - parts::when(b, b'<', 2) - parts::when(b, b'>', 2)
 }
 
 // By how much a byte grows.
@@ -103,11 +69,14 @@ pub fn gain(h: Html, g: Gains, b: u8) -> u8
     if g.unquoted {
         return gain_unquoted(b);
     }
-    let n = when(b, b'&', 4) + when(b, b'<', 3) + when(b, b'>', g.gt);
+    let n = parts::when(b, b'&', 4) + parts::when(b, b'<', 3) + parts::when(b, b'>', g.gt);
     if g.few {
         return n;
     }
-    n + when(b, b'"', g.double) + when(b, b'\'', g.single) + when(b, b'/', g.slash)
+    n
+        + parts::when(b, b'"', g.double)
+        + parts::when(b, b'\'', g.single)
+        + parts::when(b, b'/', g.slash)
 }
 
 // By how much a part grows. Its bytes are so few that the count fits a byte.

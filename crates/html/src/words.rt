@@ -1,13 +1,11 @@
 // What is written for a byte, as one word: up to six bytes, the first the lowest, and in the highest byte how many they are.
 // html-escape's `write_html_entity` and `write_hex`.
-use super::gains::is_letter_or_digit;
 use rules::Html;
 ghost use mathlib.Core.Path.{_≡_};
 ghost use mathlib.Core.Bool.{cond};
 ghost use mathlib.Core.List.{[], _∷_};
-ghost use Prim.Native.Nat.{_<_};
 ghost use lib.Dec.{eqb};
-ghost use Rattle.rules.specs.Tables.{value, reference, hexDigit};
+ghost use Rattle.rules.specs.Tables.{value, reference};
 ghost use Rattle.rules.specs.declared.Html.the-variants.{Unquoted};
 ghost use Rattle.html.specs.Written.{written};
 ghost use Rattle.html.specs.Words.{wordOf, wordsOf};
@@ -90,20 +88,12 @@ pub fn choose(h: Html) -> Words
     }
 }
 
-// An upper-case hex digit.
-fn hex_digit(n: u8) -> u8
-    requires { ⌜ n < 16 ⌝ }
-    ensures { λ r. ⌜ (r ≡ hexDigit n) × (r < 128) ⌝ }
-{
-    if n < 10 { b'0' + n } else { b'A' + (n - 10) }
-}
-
 // The word of a byte that is written as `&#xHH;`.
 fn hex(b: u8) -> u64
     ensures { λ r. ⌜ r ≡ wordOf (value (reference b)) ⌝ }
 {
-    let first = hex_digit(b / 16) as u64;
-    let second = hex_digit(b % 16) as u64;
+    let first = parts::hex_digit(b / 16) as u64;
+    let second = parts::hex_digit(b % 16) as u64;
     HEX + first * 0x100_0000 + second * 0x1_0000_0000
 }
 
@@ -121,7 +111,7 @@ fn word_unquoted(b: u8) -> u64
     if 127 < b {
         return plain(b);
     }
-    if is_letter_or_digit(b) {
+    if parts::is_letter_or_digit(b) {
         return plain(b);
     }
     let x = select(b, b'"', QUOT, hex(b));

@@ -1,9 +1,7 @@
 // What a named reference stands for, and the texts of the table of names, each packed into one number.
-ghost use mathlib.Core.Bool.{cond};
 ghost use mathlib.Core.Option.{some};
 ghost use mathlib.Core.Path.{_≡_};
 ghost use Prim.Native.Nat.{_≤_, _<_};
-ghost use lib.Dec.{leb};
 ghost use lib.ListN.{length, getD};
 ghost use Rattle.rules.specs.Bytes.{over};
 ghost use Rattle.rules.specs.Names.{names};
@@ -87,26 +85,16 @@ pub fn decode_named_entity(name: &[u8]) -> Meaning
     find(name)
 }
 
-// 1 if `value` is at least `least`, 0 if not.
-fn reaches(value: u64, least: u64) -> usize
-    ensures { λ r. ⌜ (r ≡ cond (leb least value) 1 0) × (r ≤ 1) ⌝ }
-{
-    if least <= value {
-        return 1;
-    }
-    0
-}
-
 // How many bytes are packed into `value`: its number has a byte for each power of 256 that it reaches, and at most six are read.
 pub fn value_length(value: u64) -> usize
     ensures { λ r. ⌜ (r ≡ length (valueBytes (Named value))) × (r ≤ 6) ⌝ }
 {
-    let a = reaches(value, 0x1);
-    let b = reaches(value, 0x100);
-    let c = reaches(value, 0x10000);
-    let d = reaches(value, 0x1000000);
-    let e = reaches(value, 0x100000000);
-    let f = reaches(value, 0x10000000000);
+    let a = parts::reaches(value, 0x1);
+    let b = parts::reaches(value, 0x100);
+    let c = parts::reaches(value, 0x10000);
+    let d = parts::reaches(value, 0x1000000);
+    let e = parts::reaches(value, 0x100000000);
+    let f = parts::reaches(value, 0x10000000000);
     a + b + c + d + e + f
 }
 

@@ -1,6 +1,6 @@
 -- An output that is being filled, for every writing loop: `whole` is what is to be written, `rest` what is left of it, `out₀` the output at the
 -- start, `out` the output now and `at` the fill position. What is written so far, with what is left, is the whole. Assumes nothing.
-use mathlib.Core.Path.{_≡_, refl, sym, ap, _∙_, subst}
+use mathlib.Core.Path.{_≡_, refl, sym, ap, _∙_}
 use mathlib.Core.List.{List, [], _∷_, _++_, append-assoc, append-nil}
 use Prim.Native.Nat.{ℕ, zero, suc, _+_, _-_, _≤_, _<_}
 use native.Mathlib.Omega.{arith}
@@ -65,7 +65,3 @@ filled-end {whole} {out₀} {out} {at} f =
     let n : at ≡ length whole = omega (arith, f .sum) in
     let d : f .done ≡ whole = sym (append-nil (f .done)) ∙ f .goes in
     f .holds ∙ rw (n, d)
-
--- Where nothing is left, all is written.
-pub filled-all : {whole rest out₀ out : List ℕ} {at : ℕ} → Filled whole rest out₀ out at → rest ≡ [] → (at ≡ length whole) × (out ≡ whole ++ drop (length whole) out₀)
-filled-all {whole} {rest} {out₀} {out} {at} f e = (omega (arith, f .sum, ap length e), filled-end (subst (λ (r : List ℕ). Filled whole r out₀ out at) e f))

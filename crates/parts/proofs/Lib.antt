@@ -1,3 +1,4 @@
 pub mod Filled
 pub mod Part
 pub mod Counted
+pub mod Firsts

@@ -1,1 +1,2 @@
--- No definitions of its own: its contracts cite those of `rules`.
+-- What its contracts do not cite of `rules`.
+pub mod First

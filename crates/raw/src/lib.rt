@@ -1,12 +1,14 @@
 // Raw script text, as script.rs and encode_impl.rs have it: a backslash goes in after each `<` that could open a comment or close the element.
-// Only `<` can do so; what lies between is found by the byte search and copied.
+// Only a `<` before `!` or `/` can do so: where sixteen bytes have none, they are passed at once, and all that lies between is copied.
+ghost use mathlib.Core.Bool.{false};
 ghost use mathlib.Core.Path.{_≡_};
-ghost use Prim.Native.Nat.{_*_, _≤_};
+ghost use Prim.Native.Nat.{_+_, _≤_};
 ghost use lib.ListN.{length};
 ghost use Rattle.rules.specs.Bytes.{over};
 ghost use Rattle.rules.specs.Encoding.{parted};
 ghost use Rattle.rules.specs.Operations.{rawOf};
-ghost use Rattle.raw.specs.Less.{lessOf};
+ghost use Rattle.parts.specs.First.{Free, First};
+ghost use Rattle.raw.specs.Cuts.{suspect, cutAt};
 
 // Whether what follows a `<` is to be parted from it.
 fn is_parted(rest: &[u8]) -> bool
@@ -18,25 +20,60 @@ fn is_parted(rest: &[u8]) -> bool
     heads::closes_with(b"/script", true, rest)
 }
 
-// How many bytes are written for a `<` that `rest` follows.
-fn width(rest: &[u8]) -> usize
-    ensures { λ r. ⌜ (r ≡ length (lessOf (parted (now (rest .entry))))) × (r ≤ 2) ⌝ }
+// Whether the byte `b` after a byte `a` lets a backslash go between: false only where it does not.
+fn is_suspect(a: u8, b: u8) -> bool
+    ensures { λ r. ⌜ r ≡ suspect a b ⌝ }
 {
-    if is_parted(rest) {
-        return 2;
-    }
-    1
+    (a == b'<') & ((b == b'!') | (b == b'/'))
 }
 
-// Writes a `<` that `rest` follows, with a backslash where they are to be parted.
-fn put_less(rest: &[u8], output: &mut [u8]) -> usize
-    requires { ⌜ length (lessOf (parted (now rest))) ≤ length (now output) ⌝ }
-    ensures { λ r. ⌜ (r ≡ length (lessOf (parted (now (rest .entry))))) × (now (output .exit) ≡ over (lessOf (parted (now (rest .entry)))) (now (output .entry))) ⌝ }
+// Whether a backslash may have to go in after one of the sixteen bytes from a place on: false only where none does. The loop has no way out
+// but its end, so that the sixteen are one vector.
+fn among(text: &[u8], at: usize) -> bool
+    requires { ⌜ at + 17 ≤ length (now text) ⌝ }
+    ensures { λ r. ⌜ (r ≡ false → Free (cutAt (now (text .entry))) at (at + 16)) ⌝ }
 {
-    if is_parted(rest) {
-        return parts::put(b"<\\", output);
+    let mut hit = false;
+    let mut j: usize = 0;
+    while j < 16 {
+        hit = hit | is_suspect(text[at + j], text[at + j + 1]);
+        j += 1;
     }
-    parts::put(b"<", output)
+    hit
+}
+
+// Passes sixteen bytes at a time, up to those that `among` does not let pass, or until fewer are left.
+fn pass(text: &[u8], from: usize) -> usize
+    requires { ⌜ from ≤ length (now text) ⌝ }
+    ensures { λ r. ⌜ (from ≤ r) × (r ≤ length (now (text .entry))) × Free (cutAt (now (text .entry))) from r ⌝ }
+{
+    let mut i = from;
+    while 17 <= text.len() - i {
+        if among(text, i) {
+            return i;
+        }
+        i += 16;
+    }
+    i
+}
+
+// The first place at or after `from` of a `<` that a backslash goes in after, or the text's length.
+fn next_cut(text: &[u8], from: usize) -> usize
+    requires { ⌜ from ≤ length (now text) ⌝ }
+    ensures { λ r. ⌜ First (cutAt (now (text .entry))) (length (now (text .entry))) from r ⌝ }
+{
+    let mut i = pass(text, from);
+    while i < text.len() {
+        if text[i] != b'<' {
+            i += 1;
+            continue;
+        }
+        if is_parted(&text[i + 1..]) {
+            return i;
+        }
+        i = pass(text, i + 1);
+    }
+    i
 }
 
 // The length of the encoding of a text.
@@ -47,13 +84,13 @@ pub fn measure(text: &[u8]) -> usize
     let mut n: usize = 0;
     let mut i: usize = 0;
     while i < text.len() {
-        let e = seek::find_byte(text, i, b'<');
+        let e = next_cut(text, i);
         n += e - i;
         if e == text.len() {
             return n;
         }
+        n += 2;
         i = e + 1;
-        n += width(&text[i..]);
     }
     n
 }
@@ -66,13 +103,13 @@ pub fn write(text: &[u8], output: &mut [u8]) -> usize
     let mut at: usize = 0;
     let mut i: usize = 0;
     while i < text.len() {
-        let e = seek::find_byte(text, i, b'<');
+        let e = next_cut(text, i);
         at += parts::put(&text[i..e], &mut output[at..]);
         if e == text.len() {
             return at;
         }
+        at += parts::put(b"<\\", &mut output[at..]);
         i = e + 1;
-        at += put_less(&text[i..], &mut output[at..]);
     }
     at
 }

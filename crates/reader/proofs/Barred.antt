@@ -1,4 +1,4 @@
--- A replaced character stands at a place exactly if the byte there is in the ranges, and where it is E2, U+2028 or U+2029 stands there. Where
+-- A replaced character stands at a place exactly if one begins with the byte there, and where it is E2, U+2028 or U+2029 stands there. Where
 -- none does, the reader keeps the byte; where one does, it takes a unit or stops.
 -- Assumes nothing.
 use mathlib.Core.Bool.{Bool, true, false, not, _&&_, _||_, and-true, and-false, or-false, or-true, or-assoc}
@@ -26,9 +26,10 @@ use Rattle.rules.proofs.EveryByte.{every-byte}
 use Rattle.rules.proofs.Loops.{drop-next}
 use Rattle.rules.proofs.Quiet.{Keeps}
 use Rattle.parts.proofs.Filled.{lent-rest}
+use Rattle.parts.specs.First.{First}
 use Rattle.escapes.specs.Finds.{Finds}
 use Rattle.heads.proofs.Standing.{agree, agreed}
-use Rattle.reader.specs.Bars.{htmlBars, barsOf, isBar, isWhole, Clear}
+use Rattle.reader.specs.Bars.{htmlBars, barsOf, isBar, isWhole, barAt}
 use Rattle.reader.specs.Units.{byteStep}
 
 -- ---- replaced characters of one byte, and the longer ones
@@ -107,7 +108,7 @@ module _ (c : Context) where
   unfolding isBar
   ranged b = agree (isBar (barsOf c) b) (oneOf (ones (replacedChars c)) b || (eqb b 0xE2 && separates c))
 
--- The six ranges hold the bytes that are replaced characters, and E2 where U+2028 and U+2029 are.
+-- The bars are the bytes that are replaced characters, and E2 where U+2028 and U+2029 are.
 ranges : (c : Context) (b : ℕ) → b < 256 → isBar (barsOf c) b ≡ (oneOf (ones (replacedChars c)) b || (eqb b 0xE2 && separates c))
 unfolding isBar
 ranges c b h =
@@ -120,7 +121,7 @@ alone ([] ∷ ks) b = alone ks b
 alone ((y ∷ []) ∷ ks) b = λ i. and-true (eqb b y) i || alone ks b i
 alone ((y ∷ z ∷ k) ∷ ks) b = λ i. and-false (eqb b y) i || alone ks b i
 
--- In an HTML context they hold the replaced characters.
+-- In an HTML context they are the replaced characters.
 pub bar-alone : (h : Html) (b : ℕ) → b < 256 → isBar (htmlBars h) b ≡ any (sameBytes (b ∷ [])) (replacedChars (InHtml h))
 bar-alone h b l =
     ranges (InHtml h) b l
@@ -189,7 +190,7 @@ module _ (c : Context) (t : List ℕ) (bytes : (k : ℕ) → getD t k 0 < 256) w
   bar-at k h = rw (drop-next t k h) (bar-here c (getD t k 0) (drop (k + 1) t) (bytes k))
 
   -- Up to the next replaced character each byte is kept.
-  pub clear-keeps : (i r : ℕ) → Clear (barsOf c) t i r → Keeps (byteStep c) t i r
+  pub clear-keeps : (i r : ℕ) → First (barAt (barsOf c) t) (length t) i r → Keeps (byteStep c) t i r
   clear-keeps i r f k h l =
       let b : k < length t = omega (arith, f .within) in
       let d = drop-next t k b in
@@ -201,6 +202,6 @@ pub unit-here : (c : Context) (t : List ℕ) (e n ch : ℕ) → Finds (rows c) (
 unit-here c t e n ch f = takes-unit c (before t e) (drop e t) n ch (rw lent-rest at f)
 
 -- or nothing can be taken.
-pub no-unit-here : (c : Context) (t : List ℕ) (bytes : (k : ℕ) → getD t k 0 < 256) (i e : ℕ) → Clear (barsOf c) t i e → e < length t
+pub no-unit-here : (c : Context) (t : List ℕ) (bytes : (k : ℕ) → getD t k 0 < 256) (i e : ℕ) → First (barAt (barsOf c) t) (length t) i e → e < length t
     → Finds (rows c) (take (length t - e) (drop e t)) Nothing → byteStep c (before t e) (drop e t) ≡ stop
 no-unit-here c t bytes i e g h f = stops-there c (before t e) (drop e t) (sym (bar-at c t bytes e h) ∙ g .here h) (rw lent-rest at f)

@@ -36,13 +36,7 @@ fn is_other(v: u32) -> bool
         return false;
     }
     let b = v as u8;
-    if heads::is_within(b'0', b'9', b) {
-        return false;
-    }
-    if heads::is_within(b'A', b'Z', b) {
-        return false;
-    }
-    if heads::is_within(b'a', b'z', b) {
+    if parts::is_letter_or_digit(b) {
         return false;
     }
     !is_named(b)

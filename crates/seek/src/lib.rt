@@ -1,7 +1,6 @@
 // The byte search of functions.rs: the next place of a byte from a place on. Sixteen bytes at a time are passed where the byte is not among
 // them, by one test that the compiler turns into vector code; only in the sixteen that have it is the place looked for.
 ghost use mathlib.Core.Bool.{false};
-ghost use mathlib.Core.Logic.{_⊎_};
 ghost use mathlib.Core.Path.{_≡_};
 ghost use Prim.Native.Nat.{_+_, _≤_};
 ghost use lib.ListN.{length};
@@ -37,40 +36,6 @@ fn pass(text: &[u8], from: usize, byte: u8) -> usize
     i
 }
 
-// The place j where two bytes are the same, else 255.
-fn mark(x: u8, byte: u8, j: u8) -> u8
-    ensures { λ r. ⌜ ((x ≡ byte) × (r ≡ j)) ⊎ ((x ≡ byte → ⊥) × (r ≡ 255)) ⌝ }
-{
-    if x == byte {
-        return j;
-    }
-    255
-}
-
-// The lesser of two places.
-fn lesser(a: u8, b: u8) -> u8
-    ensures { λ r. ⌜ (r ≤ a) × (r ≤ b) × ((r ≡ a) ⊎ (r ≡ b)) ⌝ }
-{
-    if a < b {
-        return a;
-    }
-    b
-}
-
-// The first place of a byte in a part, or the part's length: the least of its marks, so that the loop has no way out but its end.
-fn least(part: &[u8], byte: u8) -> u8
-    requires { ⌜ length (now part) ≤ 16 ⌝ }
-    ensures { λ r. ⌜ Nearest (now (part .entry)) 0 byte r ⌝ }
-{
-    let mut m: u8 = part.len() as u8;
-    let mut j: usize = 0;
-    while j < part.len() {
-        m = lesser(mark(part[j], byte, j as u8), m);
-        j += 1;
-    }
-    m
-}
-
 // The first place of a byte at or after `from`, or the text's length: byte by byte.
 fn walk(text: &[u8], from: usize, byte: u8) -> usize
     requires { ⌜ from ≤ length (now text) ⌝ }
@@ -87,7 +52,7 @@ fn walk(text: &[u8], from: usize, byte: u8) -> usize
 }
 
 // The first place of a byte at or after `from`, or the text's length. In dense text it is often `from` itself; else sixteen at a time are
-// passed, and the place is the least one of the sixteen that have it. What is left where fewer remain is gone through byte by byte.
+// passed, and the sixteen that have it, or what is left where fewer remain, are gone through byte by byte.
 pub fn find_byte(text: &[u8], from: usize, byte: u8) -> usize
     requires { ⌜ from ≤ length (now text) ⌝ }
     ensures { λ r. ⌜ Nearest (now (text .entry)) from byte r ⌝ }
@@ -98,14 +63,5 @@ pub fn find_byte(text: &[u8], from: usize, byte: u8) -> usize
     if text[from] == byte {
         return from;
     }
-    let i = pass(text, from, byte);
-    if text.len() - i < 16 {
-        return walk(text, i, byte);
-    }
-    let e = parts::clip(i, text.len(), 16);
-    let k = i + (least(&text[i..e], byte) as usize);
-    if k < e {
-        return k;
-    }
-    walk(text, k, byte)
+    walk(text, pass(text, from, byte), byte)
 }

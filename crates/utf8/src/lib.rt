@@ -16,13 +16,6 @@ fn is_start(d: u8) -> bool
     (d < 128) | ((194 <= d) & (d <= 244))
 }
 
-// Whether a byte is from `lo` to `hi`.
-fn is_within(lo: u8, hi: u8, d: u8) -> bool
-    ensures { λ r. ⌜ r ≡ inside (lo, hi) d ⌝ }
-{
-    (lo <= d) & (d <= hi)
-}
-
 // The least byte that goes on after the byte `c` of a character.
 fn low(c: u8) -> u8
     ensures { λ r. ⌜ r ≡ onward c .0 ⌝ }
@@ -49,7 +42,7 @@ fn high(c: u8) -> u8
 fn goes_on(c: u8, d: u8) -> bool
     ensures { λ r. ⌜ r ≡ inside (onward c) d ⌝ }
 {
-    is_within(low(c), high(c), d)
+    parts::is_within(low(c), high(c), d)
 }
 
 // How many bytes the character of a first byte above ASCII has: as many as the one-bits that the byte starts with.
@@ -69,11 +62,11 @@ fn has_tails(rest: &[u8], n: usize) -> bool
     if n == 2 {
         return two;
     }
-    let three = two & is_within(128, 191, rest[2]);
+    let three = two & parts::is_within(128, 191, rest[2]);
     if n == 3 {
         return three;
     }
-    three & is_within(128, 191, rest[3])
+    three & parts::is_within(128, 191, rest[3])
 }
 
 // How many bytes the character at the head of `rest` has, 0 where none stands there.

@@ -5,12 +5,15 @@ use Prim.Native.Nat.{_-_, _≤_}
 use native.Mathlib.Omega.{arith}
 use borrow.Author.Needs.{needs}
 use lib.ListN.{length}
-use Rattle.reader.proofs.Scanning.{Each, IsOut, each-more, sum-zero}
+use Rattle.reader.specs.Bars.{beginsAt}
+use Rattle.parts.specs.First.{Free}
+use Rattle.parts.proofs.Firsts.{free-step}
+use Rattle.reader.proofs.Scanning.{sum-zero}
 use Rattle.reader.proofs.bars.count.Tie as tie
 use Rattle.reader.proofs.bars.count.Statement.{statement}
 
 abbrev Inv-loop : tie.InvT-loop
-Inv-loop bars part n₀ j₀ n j = (j ≤ length part) × (n ≤ j) × (n ≡ 0 → Each (IsOut bars part) 0 j)
+Inv-loop bars part n₀ j₀ n j = (j ≤ length part) × (n ≤ j) × (n ≡ 0 → Free (beginsAt bars part) 0 j)
 
 abbrev μ-loop : tie.MeasureT-loop
 μ-loop bars part n₀ j₀ n j = length part - j
@@ -34,10 +37,10 @@ loop-less : tie.Need-loop-less Inv-loop μ-loop
 loop-less c = search needs
 
 loop-again : tie.Need-loop-again Inv-loop μ-loop
-loop-again c = (search needs, omega (arith, c .hit .ensures .0), λ z. let w = sum-zero (c .before .before .before .loop .n) (c .hit .result) z in each-more (IsOut (c .before .before .before .before .before .args .bars .now) (c .before .before .before .before .before .args .part .now)) 0 (c .before .before .before .loop .j) (c .before .before .before .loop .inv .2 (w .0)) (c .hit .ensures .1 (w .1)))
+loop-again c = (search needs, omega (arith, c .hit .ensures .0), λ z. let w = sum-zero (c .before .before .before .loop .n) (c .hit .result) z in free-step (beginsAt (c .before .before .before .before .before .args .bars .now) (c .before .before .before .before .before .args .part .now)) 0 (c .before .before .before .loop .j) (c .before .before .before .loop .inv .2 (w .0)) (c .hit .ensures .1 (w .1)))
 
 returns : tie.Need-returns Inv-loop μ-loop
-returns c = λ z k h. c .before .loop .inv .2 z k (omega arith) (omega arith)
+returns c = λ z k h l. c .before .loop .inv .2 z k h (omega arith)
 
 pub count-spec : {M : Type 1} → statement M
 count-spec =

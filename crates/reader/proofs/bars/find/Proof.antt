@@ -5,12 +5,14 @@ use Prim.Native.Nat.{_-_, _≤_}
 use native.Mathlib.Omega.{arith}
 use borrow.Author.Needs.{needs}
 use lib.ListN.{length}
-use Rattle.reader.proofs.Scanning.{Each, IsOut, each-more}
+use Rattle.reader.specs.Bars.{beginsAt}
+use Rattle.parts.specs.First.{Free}
+use Rattle.parts.proofs.Firsts.{free-step}
 use Rattle.reader.proofs.bars.find.Tie as tie
 use Rattle.reader.proofs.bars.find.Statement.{statement}
 
 abbrev Inv-loop : tie.InvT-loop
-Inv-loop bars text from i₀ i = (from ≤ i) × (i ≤ length text) × Each (IsOut bars text) from i
+Inv-loop bars text from i₀ i = (from ≤ i) × (i ≤ length text) × Free (beginsAt bars text) from i
 
 abbrev μ-loop : tie.MeasureT-loop
 μ-loop bars text from i₀ i = length text - i
@@ -37,7 +39,7 @@ loop-less : tie.Need-loop-less Inv-loop μ-loop
 loop-less c = search needs
 
 loop-again : tie.Need-loop-again Inv-loop μ-loop
-loop-again c = (search needs, search needs, each-more (IsOut (c .before .before .before .before .before .before .before .args .bars .now) (c .before .before .before .before .before .before .before .args .text .now)) (c .before .before .before .before .before .before .before .args .from) (c .before .before .before .before .loop .i) (c .before .before .before .before .loop .inv .2) (sym (c .before .is-bar .ensures) ∙ c .if1 .left))
+loop-again c = (search needs, search needs, free-step (beginsAt (c .before .before .before .before .before .before .before .args .bars .now) (c .before .before .before .before .before .before .before .args .text .now)) (c .before .before .before .before .before .before .before .args .from) (c .before .before .before .before .loop .i) (c .before .before .before .before .loop .inv .2) (sym (c .before .is-bar .ensures) ∙ c .if1 .left))
 
 returns-2 : tie.Need-returns-2 Inv-loop μ-loop
 returns-2 c = record { after = c .before .loop .inv .0; within = c .before .loop .inv .1; none = c .before .loop .inv .2; here = λ h. absurd (omega arith) }

@@ -6,14 +6,16 @@ use Prim.Native.Nat.{_+_, _-_, _≤_, _<_}
 use native.Mathlib.Omega.{arith}
 use borrow.Author.Needs.{needs}
 use lib.ListN.{length, getD, length-drop}
-use Rattle.reader.specs.Bars.{isBar}
+use Rattle.reader.specs.Bars.{barAt, isBar}
 use Rattle.parts.proofs.Filled.{lent-rest}
-use Rattle.reader.proofs.Scanning.{Each, IsPlain, each-join, each-more, out-plain, part-plain, bar-whole}
+use Rattle.parts.specs.First.{Free}
+use Rattle.parts.proofs.Firsts.{free-join, free-step}
+use Rattle.reader.proofs.Scanning.{out-plain, part-plain, bar-whole}
 use Rattle.reader.proofs.bars.next_bar.Tie as tie
 use Rattle.reader.proofs.bars.next_bar.Statement.{statement}
 
 abbrev Inv-loop : tie.InvT-loop
-Inv-loop bars text from i₀ i = (from ≤ i) × (i ≤ length text) × Each (IsPlain bars text) from i × (i < length text → isBar bars (getD text i 0) ≡ true)
+Inv-loop bars text from i₀ i = (from ≤ i) × (i ≤ length text) × Free (barAt bars text) from i × (i < length text → isBar bars (getD text i 0) ≡ true)
 
 abbrev μ-loop : tie.MeasureT-loop
 μ-loop bars text from i₀ i = length text - i
@@ -49,7 +51,7 @@ loop-less : tie.Need-loop-less Inv-loop μ-loop
 loop-less c = search needs
 
 loop-again : tie.Need-loop-again Inv-loop μ-loop
-loop-again c = (search needs, c .find2 .ensures .within, each-join (IsPlain (c .before .before .before .before .before .before .before .before .args .bars .now) (c .before .before .before .before .before .before .before .before .args .text .now)) (c .before .before .before .before .before .before .before .before .args .from) ((c .before .before .before .before .before .loop .i) + 1) (c .find2 .result) (each-more (IsPlain (c .before .before .before .before .before .before .before .before .args .bars .now) (c .before .before .before .before .before .before .before .before .args .text .now)) (c .before .before .before .before .before .before .before .before .args .from) (c .before .before .before .before .before .loop .i) (c .before .before .before .before .before .loop .inv .2) (part-plain (c .before .before .before .before .before .before .before .before .args .bars .now) (c .before .before .before .before .before .before .before .before .args .text .now) (c .before .before .before .before .before .loop .i) (rw (← lent-rest (c .before .before .before .before .before .loop .i) (c .before .before .before .before .before .before .before .before .args .text .now)) (sym (c .before .before .is-whole .ensures) ∙ c .before .if1 .left)))) (out-plain (c .before .before .before .before .before .before .before .before .args .bars .now) (c .before .before .before .before .before .before .before .before .args .text .now) ((c .before .before .before .before .before .loop .i) + 1) (c .find2 .result) (c .find2 .ensures .none)), c .find2 .ensures .here)
+loop-again c = (search needs, c .find2 .ensures .within, free-join (barAt (c .before .before .before .before .before .before .before .before .args .bars .now) (c .before .before .before .before .before .before .before .before .args .text .now)) (c .before .before .before .before .before .before .before .before .args .from) ((c .before .before .before .before .before .loop .i) + 1) (c .find2 .result) (free-step (barAt (c .before .before .before .before .before .before .before .before .args .bars .now) (c .before .before .before .before .before .before .before .before .args .text .now)) (c .before .before .before .before .before .before .before .before .args .from) (c .before .before .before .before .before .loop .i) (c .before .before .before .before .before .loop .inv .2) (part-plain (c .before .before .before .before .before .before .before .before .args .bars .now) (c .before .before .before .before .before .before .before .before .args .text .now) (c .before .before .before .before .before .loop .i) (rw (← lent-rest (c .before .before .before .before .before .loop .i) (c .before .before .before .before .before .before .before .before .args .text .now)) (sym (c .before .before .is-whole .ensures) ∙ c .before .if1 .left)))) (out-plain (c .before .before .before .before .before .before .before .before .args .bars .now) (c .before .before .before .before .before .before .before .before .args .text .now) ((c .before .before .before .before .before .loop .i) + 1) (c .find2 .result) (c .find2 .ensures .none)), c .find2 .ensures .here)
 
 returns-2 : tie.Need-returns-2 Inv-loop μ-loop
 returns-2 c = record { after = c .before .loop .inv .0; within = c .before .loop .inv .1; none = c .before .loop .inv .2; here = λ h. absurd (omega arith) }

@@ -5,12 +5,15 @@ use native.Mathlib.Omega.{arith}
 use borrow.Author.Needs.{needs}
 use lib.ListN.{length}
 use Rattle.parts.proofs.Part.{part-length}
-use Rattle.reader.proofs.Scanning.{Each, IsOut, each-join, out-part}
+use Rattle.reader.specs.Bars.{beginsAt}
+use Rattle.parts.specs.First.{Free}
+use Rattle.parts.proofs.Firsts.{free-join}
+use Rattle.reader.proofs.Scanning.{out-part}
 use Rattle.reader.proofs.bars.pass.Tie as tie
 use Rattle.reader.proofs.bars.pass.Statement.{statement}
 
 abbrev Inv-loop : tie.InvT-loop
-Inv-loop bars text from i₀ i = (from ≤ i) × (i ≤ length text) × Each (IsOut bars text) from i
+Inv-loop bars text from i₀ i = (from ≤ i) × (i ≤ length text) × Free (beginsAt bars text) from i
 
 abbrev μ-loop : tie.MeasureT-loop
 μ-loop bars text from i₀ i = length text - i
@@ -40,7 +43,7 @@ loop-less : tie.Need-loop-less Inv-loop μ-loop
 loop-less c = search needs
 
 loop-again : tie.Need-loop-again Inv-loop μ-loop
-loop-again c = (search needs, search needs, each-join (IsOut (c .before .before .before .before .before .before .before .args .bars .now) (c .before .before .before .before .before .before .before .args .text .now)) (c .before .before .before .before .before .before .before .args .from) (c .before .before .before .before .before .loop .i) (c .before .before .before .clip .result) (c .before .before .before .before .before .loop .inv .2) (out-part (c .before .before .before .before .before .before .before .args .bars .now) (c .before .before .before .before .before .before .before .args .text .now) (c .before .before .before .before .before .loop .i) (c .before .before .before .clip .result) (omega arith) (omega arith) (c .before .count .ensures (c .if1 .left))))
+loop-again c = (search needs, search needs, free-join (beginsAt (c .before .before .before .before .before .before .before .args .bars .now) (c .before .before .before .before .before .before .before .args .text .now)) (c .before .before .before .before .before .before .before .args .from) (c .before .before .before .before .before .loop .i) (c .before .before .before .clip .result) (c .before .before .before .before .before .loop .inv .2) (out-part (c .before .before .before .before .before .before .before .args .bars .now) (c .before .before .before .before .before .before .before .args .text .now) (c .before .before .before .before .before .loop .i) (c .before .before .before .clip .result) (omega arith) (omega arith) (c .before .count .ensures (c .if1 .left))))
 
 returns-2 : tie.Need-returns-2 Inv-loop μ-loop
 returns-2 c = c .before .loop .inv

@@ -1,9 +1,9 @@
--- The test of the key, both ways.
+-- `parts::when` meets its contract, by the test of the key, both ways.
 -- Assumes nothing.
 use borrow.Author.Needs.{needs}
 use borrow.Author.Tests.{eq-eqb, ne-eqb}
-use Rattle.html.proofs.gains.when.Statement.{statement}
-use Rattle.html.proofs.gains.when.Tie as tie
+use Rattle.parts.proofs.when.Statement.{statement}
+use Rattle.parts.proofs.when.Tie as tie
 
 returns : tie.Need-returns
 returns c = (rw (eq-eqb _ _ (c .if1 .taken)), search needs)

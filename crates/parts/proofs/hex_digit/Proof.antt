@@ -1,10 +1,10 @@
--- The test of ten, both ways.
+-- `parts::hex_digit` meets its contract, by the test of ten, both ways.
 -- Assumes nothing.
 use native.Mathlib.Omega.{arith}
 use borrow.Author.Needs.{needs}
 use borrow.Author.Tests.{lt-ltb, le-ltb}
-use Rattle.html.proofs.words.hex_digit.Statement.{statement}
-use Rattle.html.proofs.words.hex_digit.Tie as tie
+use Rattle.parts.proofs.hex_digit.Statement.{statement}
+use Rattle.parts.proofs.hex_digit.Tie as tie
 
 add-result : tie.Need-add-result
 add-result c = search needs

@@ -1,9 +1,9 @@
--- `names::reaches` meets its contract: the test is the one that the contract computes.
+-- `parts::reaches` meets its contract: its test is the definition's.
 -- Assumes nothing.
 use borrow.Author.Needs.{needs}
 use borrow.Author.Tests.{le-leb, lt-leb}
-use Rattle.names.proofs.reaches.Statement.{statement}
-use Rattle.names.proofs.reaches.Tie as tie
+use Rattle.parts.proofs.reaches.Statement.{statement}
+use Rattle.parts.proofs.reaches.Tie as tie
 
 returns : tie.Need-returns
 returns c = (rw (le-leb _ _ (c .if1 .taken)), search needs)
