@@ -7,7 +7,6 @@ ghost use Prim.Native.Nat.{ℕ, _≤_, _<_};
 ghost use lib.ListN.{length};
 ghost use Rattle.rules.specs.Bytes.{over};
 ghost use Rattle.rules.specs.Moves.{gives};
-ghost use Rattle.rules.specs.Tables.{hexDigit};
 ghost use Rattle.rules.specs.Encoding.{encodeStep};
 ghost use Rattle.rules.specs.Operations.{encodeOf};
 ghost use Rattle.rules.specs.Answers.{replacementMove};
@@ -70,24 +69,13 @@ fn taken(found: Replacement) -> usize
     }
 }
 
-// An upper-case hex digit.
-fn digit(n: u8) -> u8
-    requires { ⌜ n < 16 ⌝ }
-    ensures { λ r. ⌜ r ≡ hexDigit n ⌝ }
-{
-    if n < 10 {
-        return 48 + n;
-    }
-    55 + n
-}
-
 // Writes a byte as its two hex digits, escaped.
 fn put_hex(style: bool, b: u8, output: &mut [u8]) -> usize
     requires { ⌜ length (hexIn style b) ≤ length (now output) ⌝ }
     ensures { λ r. ⌜ (r ≡ length (hexIn style b)) × (now (output .exit) ≡ over (hexIn style b) (now (output .entry))) ⌝ }
 {
-    let high = digit(b / 16);
-    let low = digit(b % 16);
+    let high = parts::hex_digit(b / 16);
+    let low = parts::hex_digit(b % 16);
     if style {
         return parts::put(&[92, high, low, 32], output);
     }

@@ -49,16 +49,6 @@ fn gain(single: u8, double: u8, b: u8) -> u8
     0
 }
 
-// 1 where the two bytes are the same.
-fn same(a: u8, b: u8) -> u8
-    ensures { λ r. ⌜ (r ≡ sameOf a b) × (r ≤ 1) ⌝ }
-{
-    if a == b {
-        return 1;
-    }
-    0
-}
-
 // The growth of the bytes of a part, and how often the byte `odd` stands in it. Short parts keep the sums in a byte, and the loop has no branch, so
 // that it is made vector code.
 fn weigh(single: u8, double: u8, odd: u8, part: &[u8]) -> Tally
@@ -71,7 +61,7 @@ fn weigh(single: u8, double: u8, odd: u8, part: &[u8]) -> Tally
     while i < part.len() {
         let b = part[i];
         growth += gain(single, double, b);
-        n += same(odd, b);
+        n += parts::when(odd, b, 1);
         i += 1;
     }
     Tally { growth, odd: n }

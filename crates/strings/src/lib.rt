@@ -61,16 +61,12 @@ fn write_part(strings: Strings, flags: &[u8; 256], part: &[u8], output: &mut [u8
     escapes::write_bytes(strings, flags, part, output)
 }
 
-// Writes the encoding of a text to the start of `output` and returns its length; what lies past it keeps its values. A short text goes byte by byte,
-// a longer one part by part.
+// Writes the encoding of a text to the start of `output` and returns its length; what lies past it keeps its values. It goes part by part.
 pub fn write(strings: Strings, text: &[u8], output: &mut [u8]) -> usize
     requires { ⌜ length (encodeOf (contextIn strings) (now text)) ≤ length (now output) ⌝ }
     ensures { λ r. ⌜ (r ≡ length (encodeOf (contextIn strings) (now (text .entry)))) × (now (output .exit) ≡ over (encodeOf (contextIn strings) (now (text .entry))) (now (output .entry))) ⌝ }
 {
     let flags = flags::ESCAPE_FLAGS;
-    if text.len() < 48 {
-        return escapes::write_bytes(strings, &flags, text, output);
-    }
     let mut at: usize = 0;
     let mut i: usize = 0;
     while i < text.len() {

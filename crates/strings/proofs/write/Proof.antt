@@ -22,20 +22,8 @@ Inv-loop strings text output₀ flags at₀ i₀ output at i =
 abbrev μ-loop : tie.MeasureT-loop
 μ-loop strings text output₀ flags at₀ i₀ output at i = length text - i
 
-write-bytes-requires : tie.Need-write-bytes-requires Inv-loop μ-loop
-unfolding escapeFlags
-write-bytes-requires c κs =
-    let c₁ = c .before .before .before .before .before in
-    (refl, c₁ .pre)
-
-same-length : tie.Need-same-length Inv-loop μ-loop
-same-length c = search needs
-
-returns : tie.Need-returns Inv-loop μ-loop
-returns c = c .before .before .write-bytes .ensures
-
 loop-holds : tie.Need-loop-holds Inv-loop μ-loop
-loop-holds c = (search needs, filled-start _ _ (c .before .before .before .pre))
+loop-holds c = (search needs, filled-start _ _ (c .before .before .pre))
 
 cut-requires : tie.Need-cut-requires Inv-loop μ-loop
 cut-requires c κs = search needs
@@ -62,7 +50,7 @@ write-part-requires : tie.Need-write-part-requires Inv-loop μ-loop
 unfolding escapeFlags
 write-part-requires c κs =
     let c₁ = c .before .before .before in
-    let c₂ = c₁ .before .before .before .before .before .before in
+    let c₂ = c₁ .before .before .before .before .before in
     let a = c₂ .args in
     let t = a .text .now in
     let l = c₁ .before .before .loop in
@@ -73,7 +61,7 @@ write-part-requires c κs =
 add-at : tie.Need-add-at Inv-loop μ-loop
 add-at c =
     let c₁ = c .before .before .before .before .before .before in
-    let c₂ = c₁ .before .before .before .before .before .before in
+    let c₂ = c₁ .before .before .before .before .before in
     let a = c₂ .args in
     let t = a .text .now in
     let l = c₁ .before .before .loop in
@@ -89,7 +77,7 @@ loop-less c =
 loop-again : tie.Need-loop-again Inv-loop μ-loop
 loop-again c =
     let c₁ = c .before .before .before .before .before .before in
-    let c₂ = c₁ .before .before .before .before .before .before in
+    let c₂ = c₁ .before .before .before .before .before in
     let a = c₂ .args in
     let t = a .text .now in
     let l = c₁ .before .before .loop in
@@ -98,12 +86,12 @@ loop-again c =
     let p = c .before .before .write-part in
     (e .1, filled-put (l .inv .1) x (p .last .1 .1 .1 .0) (p .result) (p .ensures .0) (p .ensures .1))
 
-same-length-2 : tie.Need-same-length-2 Inv-loop μ-loop
-same-length-2 c = search needs
+same-length : tie.Need-same-length Inv-loop μ-loop
+same-length c = search needs
 
-returns-2 : tie.Need-returns-2 Inv-loop μ-loop
-returns-2 c =
-    let c₁ = c .before .before .before .before .before in
+returns : tie.Need-returns Inv-loop μ-loop
+returns c =
+    let c₁ = c .before .before .before .before in
     let a = c₁ .args in
     let f = rw (encode-end (contextIn (a .strings)) (a .text .now) (c .before .loop .i) (c .loop-test .left)) at (c .before .loop .inv .1) in
     (omega (arith, f .sum), filled-end f)
@@ -114,9 +102,6 @@ write-spec =
     (tie.spec
     Inv-loop
     μ-loop
-    write-bytes-requires
-    same-length
-    returns
     loop-holds
     cut-requires
     sub-write-part
@@ -129,5 +114,5 @@ write-spec =
     add-at
     loop-less
     loop-again
-    same-length-2
-    returns-2)
+    same-length
+    returns)

@@ -34,11 +34,11 @@ gain-requires c κs = search needs
 add-growth : tie.Need-add-growth Inv-loop μ-loop
 add-growth c = omega (arith, c .gain .ensures .1)
 
-same-requires : tie.Need-same-requires Inv-loop μ-loop
-same-requires c κs = search needs
+when-requires : tie.Need-when-requires Inv-loop μ-loop
+when-requires c κs = search needs
 
 add-n : tie.Need-add-n Inv-loop μ-loop
-add-n c = omega (arith, c .same .ensures .1)
+add-n c = omega (arith, c .when .ensures .1)
 
 add-i : tie.Need-add-i Inv-loop μ-loop
 add-i c = search needs
@@ -47,6 +47,7 @@ loop-less : tie.Need-loop-less Inv-loop μ-loop
 loop-less c = search needs
 
 loop-again : tie.Need-loop-again Inv-loop μ-loop
+unfolding sameOf
 loop-again c =
     let c₁ = c .before .before .before in
     let c₂ = c₁ .before .before .before in
@@ -56,9 +57,9 @@ loop-again c =
     let h = c₁ .loop-test .taken in (
       search needs,
       omega (arith, total-more (gainOf (a .single) (a .double)) s (l .i) h, c .before .gain .ensures .0),
-      omega (arith, total-more (sameOf (a .odd)) s (l .i) h, c .same .ensures .0),
+      omega (arith, total-more (sameOf (a .odd)) s (l .i) h, c .when .ensures .0),
       omega (arith, c .before .gain .ensures .1),
-      omega (arith, c .same .ensures .1),
+      omega (arith, c .when .ensures .1),
     )
 
 returns : tie.Need-returns Inv-loop μ-loop
@@ -82,7 +83,7 @@ weigh-spec =
     shared-slice-read-b
     gain-requires
     add-growth
-    same-requires
+    when-requires
     add-n
     add-i
     loop-less
