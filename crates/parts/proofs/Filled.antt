@@ -1,11 +1,11 @@
 -- An output that is being filled, for every writing loop: `whole` is what is to be written, `rest` what is left of it, `out₀` the output at the
 -- start, `out` the output now and `at` the fill position. What is written so far, with what is left, is the whole. Assumes nothing.
 use mathlib.Core.Path.{_≡_, refl, sym, ap, _∙_}
-use mathlib.Core.List.{List, [], _∷_, _++_, append-assoc, append-nil}
-use Prim.Native.Nat.{ℕ, zero, suc, _+_, _-_, _≤_, _<_}
+use mathlib.Core.List.{List, [], _++_, append-assoc, append-nil}
+use Prim.Native.Nat.{ℕ, _+_, _-_, _≤_}
 use native.Mathlib.Omega.{arith}
-use lib.ListN.{length, take, drop, length-append, length-take, length-drop, drop-of-length-le}
-use lib.Seq.{take-at, drop-at, drop-drop, length-take-le, take-all}
+use lib.ListN.{length, take, drop, length-append, length-drop, drop-of-length-le}
+use lib.Seq.{take-at, drop-at, drop-drop, take-all}
 
 -- `sum`, `kept` and `room` follow from the others, and stand here so that `omega` and `search needs` find them
 pub record Filled (whole rest out₀ out : List ℕ) (at : ℕ) : Type 0 where

@@ -1,12 +1,12 @@
--- How a search goes on: stretches where the test passes nowhere are joined, and what is first after one is first.
+-- How a search goes on: stretches where the test passes nowhere are joined, a place or a stretch at a time.
 -- Assumes nothing.
 use mathlib.Core.Bool.{Bool, true, false, _||_}
 use mathlib.Core.Path.{_≡_, refl, ap, _∙_}
-use Prim.Native.Nat.{ℕ, _+_, _≤_, _<_}
+use Prim.Native.Nat.{ℕ, _+_}
 use native.Mathlib.Omega.{arith}
 use borrow.Author.Tests.{ltb-true, ltb-false}
 use lib.Dec.{ltb}
-use Rattle.parts.specs.First.{Free, First}
+use Rattle.parts.specs.First.{Free}
 
 module _ (test : ℕ → Bool) where
   -- Of no places nothing is asked.
@@ -28,6 +28,3 @@ module _ (test : ℕ → Bool) where
   pub free-more : (a e : ℕ) (hit : Bool) → (hit ≡ false → Free test a e) → hit || test e ≡ false → Free test a (e + 1)
   free-more a e true f z = let never : _≡_ {A = ℕ} 0 1 = cc in absurd (omega arith)
   free-more a e false f z = free-step a e (f refl) z
-
-  pub first-after : (end a i r : ℕ) → a ≤ i → Free test a i → First test end i r → First test end a r
-  first-after end a i r h f p = record { after = omega (arith, p .after); within = p .within; none = free-join a i r f (p .none); here = p .here }

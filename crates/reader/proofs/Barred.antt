@@ -2,7 +2,7 @@
 -- none does, the reader keeps the byte; where one does, it takes a unit or stops.
 -- Assumes nothing.
 use mathlib.Core.Bool.{Bool, true, false, not, _&&_, _||_, and-true, and-false, or-false, or-true, or-assoc}
-use mathlib.Core.Option.{Option, none, some}
+use mathlib.Core.Option.{none}
 use mathlib.Core.Path.{_≡_, refl, sym, ap, _∙_, subst}
 use mathlib.Core.List.{List, [], _∷_, _++_, append-assoc}
 use Prim.Native.Nat.{ℕ, _+_, _-_, _<_}
@@ -10,7 +10,7 @@ use native.Mathlib.Omega.{arith}
 use lib.Dec.{T, eqb, eqb→eq, eqb-refl, T-not}
 use lib.ListN.{length, take, drop, getD}
 use Rattle.rules.specs.Bytes.{In, all, any, count, stands, sameBytes, oneOf}
-use Rattle.rules.specs.Moves.{Move, keep, swap, stop, before}
+use Rattle.rules.specs.Moves.{keep, swap, stop, before}
 use Rattle.rules.specs.Utf8.{utf8}
 use Rattle.rules.specs.Tables.{Row, rowAt, value, rows, replacedChars}
 use Rattle.rules.specs.Encoding.{keepByte}
