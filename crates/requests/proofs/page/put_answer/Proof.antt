@@ -7,7 +7,8 @@ use native.Mathlib.Omega.{arith}
 use borrow.Author.Needs.{needs}
 use lib.ListN.{length}
 use Rattle.rules.specs.Bytes.{over}
-use Rattle.parts.proofs.Filled.{filled-put, filled-all}
+use Rattle.parts.proofs.Filled.{filled-put}
+use Rattle.parts.proofs.Counted.{filled-all}
 use Rattle.requests.proofs.Parted.{filled-first, next-part, last-part, statusPart, lengthPart, samePart, placePart, textPart, parts-room, printed-parts}
 use Rattle.requests.proofs.page.put_answer.Tie as tie
 use Rattle.requests.proofs.page.put_answer.Statement.{statement}

@@ -5,7 +5,8 @@ use native.Mathlib.Omega.{arith}
 use borrow.Author.Needs.{needs}
 use lib.ListN.{length-append}
 use Rattle.rules.specs.Program.{decimal}
-use Rattle.parts.proofs.Filled.{filled-put, filled-all}
+use Rattle.parts.proofs.Filled.{filled-put}
+use Rattle.parts.proofs.Counted.{filled-all}
 use Rattle.requests.proofs.Digits.{digits-length}
 use Rattle.requests.proofs.Parted.{filled-first, last-part}
 use Rattle.requests.proofs.page.put_number.Tie as tie
