@@ -14,6 +14,7 @@ use Rattle.rules.specs.Tables.{hexDigit, hexPair}
 use Rattle.rules.proofs.Tests.{and-left, and-right, and-both, stands-split}
 use Rattle.rules.proofs.EveryByte.{every-byte}
 use Rattle.escapes.specs.Hex.{digitOf, pairOf, hexBefore, hexBetween}
+use Rattle.escapes.specs.Strings.{hexEscape}
 
 abbrev again : ℕ → Bool
 unfolding pairOf digitOf
@@ -101,3 +102,44 @@ pub before-long : (q s : List ℕ) → 2 ≤ length s → hexBefore q s ≡ cond
 before-long q [] h = absurd (omega arith)
 before-long q (a ∷ []) h = absurd (omega arith)
 before-long q (a ∷ b ∷ s) h = refl
+
+either : (b : Bool) → _≡_ {A = ℕ} (cond b 256 256) 256
+either true = refl
+either false = refl
+
+-- Under four bytes hold no hex escape.
+pub hex-short : (style : Bool) (s : List ℕ) → length s < 4 → hexEscape style s ≡ 256
+unfolding hexBetween
+hex-short true [] h = refl
+hex-short true (w ∷ []) h = either (eqb 92 w && true)
+hex-short true (w ∷ x ∷ []) h = either (eqb 92 w && true)
+hex-short true (w ∷ x ∷ y ∷ []) h = either (eqb 92 w && true)
+hex-short false [] h = refl
+hex-short false (w ∷ []) h = either (eqb 92 w && false)
+hex-short false (w ∷ x ∷ []) h = either (eqb 92 w && (eqb 120 x && true))
+hex-short false (w ∷ x ∷ y ∷ []) h = either (eqb 92 w && (eqb 120 x && true))
+hex-short style (w ∷ x ∷ y ∷ z ∷ s) h = absurd (omega arith)
+
+-- Four are read where they stand: `\HH ` in a style string, `\xHH` in a script string.
+pub hex-long : (style : Bool) (s : List ℕ) → (length s < 4 → ⊥)
+    → hexEscape style s
+    ≡ cond (eqb 92 (getD s 0 0))
+    (cond style (cond (eqb 32 (getD s 3 0)) (pairOf (getD s 1 0) (getD s 2 0)) 256) (cond (eqb 120 (getD s 1 0)) (pairOf (getD s 2 0) (getD s 3 0)) 256))
+    256
+unfolding hexBetween
+hex-long style [] h = absurd (h (omega arith))
+hex-long style (w ∷ []) h = absurd (h (omega arith))
+hex-long style (w ∷ x ∷ []) h = absurd (h (omega arith))
+hex-long style (w ∷ x ∷ y ∷ []) h = absurd (h (omega arith))
+hex-long true (w ∷ x ∷ y ∷ z ∷ s) h = go (eqb 92 w) (eqb 32 z)
+  where
+    go : (a b : Bool) → cond (a && true) (cond (b && true) (pairOf x y) 256) 256 ≡ cond a (cond b (pairOf x y) 256) 256
+    go true true = refl
+    go true false = refl
+    go false b = refl
+hex-long false (w ∷ x ∷ y ∷ z ∷ s) h = go (eqb 92 w) (eqb 120 x)
+  where
+    go : (a b : Bool) → cond (a && (b && true)) (pairOf y z) 256 ≡ cond a (cond b (pairOf y z) 256) 256
+    go true true = refl
+    go true false = refl
+    go false b = refl

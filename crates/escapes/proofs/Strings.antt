@@ -32,9 +32,10 @@ use Rattle.parts.proofs.Filled.{lent-rest}
 use Rattle.seek.specs.Places.{Nearest}
 use Rattle.escapes.specs.Finds.{Within, Finds}
 use Rattle.escapes.specs.Hex.{hexBetween}
-use Rattle.escapes.specs.Strings.{stringOf, nameOf, slashedBytes, afterSlash, hexEscape, isHexed, separators}
-use Rattle.escapes.proofs.Finding.{one-of-in, Coded, finds-byte, finds-no-byte, finds-first, finds-second}
+use Rattle.escapes.specs.Strings.{stringOf, nameOf, slashedBytes, afterSlash, hexEscape, isHexed, lineSeparator, paragraphSeparator, separators, escapeChar, escapeOf}
+use Rattle.escapes.proofs.Finding.{one-of-in, Coded, finds-byte, finds-no-byte, finds-first, finds-second, finds-later, finds-end}
 use Rattle.escapes.proofs.Hex.{pair-digits, stands-between}
+use Rattle.escapes.proofs.Standing.{stands-take}
 
 -- ---- what the code that looks behind a backslash meets
 
@@ -209,9 +210,19 @@ string-quiet style q t i e near k h l =
     go false = at-mark (InScript q)
 
 -- What the reader of escapes answers at place e, lent the rest of the text, is the move there.
-pub escape-here : (c : Context) (t : List ℕ) (e p : ℕ) (r : Escape) → p ≡ before t e
+escape-here : (c : Context) (t : List ℕ) (e p : ℕ) (r : Escape) → p ≡ before t e
     → escapeMove (take (length t - e) (drop e t)) r ≡ decodeStep c p (take (length t - e) (drop e t)) → decodeStep c (before t e) (drop e t) ≡ escapeMove (drop e t) r
 escape-here c t e p r h f = rw (← h, ← lent-rest e t) (sym f)
+
+-- The answer r, made of the length n that was found.
+pub told-here : (style : Bool) (q : Quotes) (t : List ℕ) (e p n : ℕ) (r : Escape) → p ≡ before t e → r ≡ escapeOf style n (take (length t - e) (drop e t))
+    → (escapeMove (take (length t - e) (drop e t)) (escapeOf style n (take (length t - e) (drop e t))) ≡ decodeStep (stringOf style q) p (take (length t - e) (drop e t)))
+    × Within (escapeOf style n (take (length t - e) (drop e t))) (take (length t - e) (drop e t))
+    → (decodeStep (stringOf style q) (before t e) (drop e t) ≡ escapeMove (drop e t) r) × Within r (take (length t - e) (drop e t))
+told-here style q t e p n r h told f = (
+  escape-here (stringOf style q) t e p r h (subst (λ (r : Escape). escapeMove (take (length t - e) (drop e t)) r ≡ decodeStep (stringOf style q) p (take (length t - e) (drop e t))) (sym told) (f .0)),
+  subst (λ (r : Escape). Within r (take (length t - e) (drop e t))) (sym told) (f .1),
+)
 
 -- And it stays within the text.
 pub within-rest : (t : List ℕ) (e n c : ℕ) → Within (Taken n c) (take (length t - e) (drop e t)) → (1 ≤ n) × (e + n ≤ length t) × (length (utf8 c) ≤ n) × (c < 0x10000)
@@ -221,3 +232,35 @@ within-rest t e n c w = (w .0, omega (arith, w .0, rw (lent-rest, length-drop) a
 pub before-at : (t : List ℕ) (i : ℕ) → (i ≡ 0 → ⊥) → getD t (i - 1) 0 ≡ before t i
 before-at t zero h = absurd (h refl)
 before-at t (suc i) h = let e : suc i - 1 ≡ i = omega arith in rw e
+
+-- ---- an escape by its length
+
+-- Some bytes are taken.
+pub escape-some : (style : Bool) (n : ℕ) (s : List ℕ) → (n ≡ 0 → ⊥) → escapeOf style n s ≡ Taken n (escapeChar style n s)
+escape-some style zero s h = absurd (h refl)
+escape-some style (suc n) s h = refl
+
+-- No more than there are.
+pub within-most : (style : Bool) (n : ℕ) (s : List ℕ) → Within (escapeOf style n s) s → n ≤ length s
+within-most style zero s w = omega arith
+within-most style (suc n) s w = w .1
+
+-- The byte after a backslash, by the first two bytes.
+pub slash-taken : (s : List ℕ) (b : ℕ) → take 2 s ≡ 0x5C ∷ b ∷ [] → afterSlash s ≡ b
+slash-taken s b e = two s ∙ ap afterSlash e
+  where
+    two : (s : List ℕ) → afterSlash s ≡ afterSlash (take 2 s)
+    two [] = refl
+    two (x ∷ []) = refl
+    two (x ∷ y ∷ s) = refl
+
+-- Where it is not `u`, neither separator stands.
+pub no-separator : (s : List ℕ) → (afterSlash s ≡ 0x75 → ⊥) → Finds (separators false) s Nothing
+no-separator s h = finds-later (none (value lineSeparator) (omega arith) refl) (finds-later (none (value paragraphSeparator) (omega arith) refl) finds-end)
+  where
+    none : (v : List ℕ) → 2 ≤ length v → take 2 v ≡ 0x5C ∷ 0x75 ∷ [] → stands v s ≡ false
+    none v l e = go (stands v s) refl
+      where
+        go : (b : Bool) → stands v s ≡ b → b ≡ false
+        go true t = absurd (h (slash-taken s 0x75 (stands-take v s 2 l t ∙ e)))
+        go false t = refl

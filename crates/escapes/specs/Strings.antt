@@ -2,7 +2,7 @@
 -- Assumes nothing.
 use mathlib.Core.Bool.{Bool, true, false, not, _&&_, _||_, cond}
 use mathlib.Core.List.{List, [], _∷_}
-use Prim.Native.Nat.{ℕ}
+use Prim.Native.Nat.{ℕ, zero, suc}
 use lib.Dec.{ltb, eqb}
 use lib.ListN.{getD}
 use Rattle.rules.specs.Bytes.{ascii}
@@ -11,6 +11,8 @@ use Rattle.rules.specs.declared.Quotes.the-variants.{Single, Double, Both}
 use Rattle.rules.specs.declared.Context.{Context}
 use Rattle.rules.specs.declared.Context.the-variants.{InScript, InStyle}
 use Rattle.rules.specs.Tables.{Row}
+use Rattle.rules.specs.declared.Escape.{Escape}
+use Rattle.rules.specs.declared.Escape.the-variants.{Taken, Nothing}
 use Rattle.escapes.specs.Hex.{hexBetween}
 
 -- A style string or a script string.
@@ -59,3 +61,12 @@ paragraphSeparator = (0xE2 ∷ 0x80 ∷ 0xA9 ∷ [], ascii "\\u2029")
 abbrev pub separators : Bool → List Row
 separators true = []
 separators false = lineSeparator ∷ paragraphSeparator ∷ []
+
+-- The number of the character that an escape of n bytes at the head of s stands for. `\u2028` and `\u2029` differ in their last byte.
+abbrev pub escapeChar : Bool → ℕ → List ℕ → ℕ
+escapeChar style n s = cond (eqb n 2) (afterSlash s) (cond (eqb n 6) (cond (eqb (getD s 5 0) 0x38) 0x2028 0x2029) (hexEscape style s))
+
+-- The escape of n bytes at the head of s, or nothing where n is 0.
+abbrev pub escapeOf : Bool → ℕ → List ℕ → Escape
+escapeOf style zero s = Nothing
+escapeOf style (suc n) s = Taken (suc n) (escapeChar style (suc n) s)

@@ -28,7 +28,7 @@ fn digit(b: u8) -> u32
 }
 
 // The value of two of them, 256 where one is none.
-fn pair(a: u8, b: u8) -> u32
+pub fn pair(a: u8, b: u8) -> u32
     ensures { λ r. ⌜ (r ≡ pairOf a b) × (r ≤ 256) ⌝ }
 {
     let high = digit(a);

@@ -9,38 +9,39 @@ ghost use Rattle.rules.specs.Answers.{escapeMove};
 ghost use Rattle.rules.specs.Escapes.{afterLess};
 ghost use Rattle.rules.specs.Operations.{decodeStep, decodeOf};
 ghost use Rattle.escapes.specs.Finds.{Within};
-ghost use Rattle.escapes.specs.Strings.{stringOf, nameOf};
+ghost use Rattle.escapes.specs.Strings.{stringOf, nameOf, escapeOf};
 use rules::Escape;
 use rules::Quotes;
 
 pub mod digits;
 pub mod rows;
 
-// The two escapes of older pages, where the byte before in the input is `<`: `\!--` yields `!` for the `\!`, and `\/` yields `/` before the
-// element's name and a terminator.
-fn after_less(style: bool, before: u8, rest: &[u8]) -> Escape
-    ensures { λ r. ⌜ (escapeMove (now (rest .entry)) r ≡ afterLess (nameOf style) before (now (rest .entry))) × Within r (now (rest .entry)) ⌝ }
+// How many bytes one of the two escapes of older pages has, where the byte before in the input is `<`, or 0: `\!--` yields `!` for the `\!`, and
+// `\/` yields `/` before the element's name and a terminator.
+fn after_less(style: bool, before: u8, rest: &[u8]) -> usize
+    ensures { λ r. ⌜ (escapeMove (now (rest .entry)) (escapeOf style r (now (rest .entry))) ≡ afterLess (nameOf style) before (now (rest .entry))) × Within (escapeOf style r (now (rest .entry))) (now (rest .entry)) ⌝ }
 {
     if before != b'<' {
-        return Escape::Nothing;
+        return 0;
     }
     if heads::starts(b"\\!--", rest) {
-        return Escape::Taken(2, 33);
+        return 2;
     }
     if digits::closes_element(style, rest) {
-        return Escape::Taken(2, 47);
+        return 2;
     }
-    Escape::Nothing
+    0
 }
 
-// The escape at the backslash that `rest` begins with: first match counts. `before` is the byte before it in the input.
-pub fn decode_escape(style: bool, quotes: Quotes, before: u8, rest: &[u8]) -> Escape
-    ensures { λ r. ⌜ (escapeMove (now (rest .entry)) r ≡ decodeStep (stringOf style quotes) before (now (rest .entry))) × Within r (now (rest .entry)) ⌝ }
+// How many bytes the escape at the backslash that `rest` begins with has, or 0: first match counts. `before` is the byte before it in the input.
+fn escape_length(style: bool, quotes: Quotes, before: u8, rest: &[u8]) -> usize
+    ensures { λ r. ⌜ (escapeMove (now (rest .entry)) (escapeOf style r (now (rest .entry))) ≡ decodeStep (stringOf style quotes) before (now (rest .entry))) × Within (escapeOf style r (now (rest .entry))) (now (rest .entry)) ⌝ }
 {
-    let Escape::Taken(n, c) = rows::row_at(style, quotes, rest) else {
+    let n = rows::row_length(style, quotes, rest);
+    if n == 0 {
         return after_less(style, before, rest);
-    };
-    Escape::Taken(n, c)
+    }
+    n
 }
 
 // The byte before place `i` of the text, 0 at its start.
@@ -54,7 +55,7 @@ fn byte_before(text: &[u8], i: usize) -> u8
     text[i - 1]
 }
 
-// What a measuring pass finds: the length of the result, and whether nothing is replaced.
+// What a pass finds: the length of the result, and whether nothing is replaced.
 pub struct Measured {
     pub length: usize,
     pub same: bool,
@@ -69,23 +70,21 @@ pub fn measure(style: bool, quotes: Quotes, text: &[u8]) -> Measured
     let mut escapes: usize = 0;
     let mut i: usize = 0;
     while i < text.len() {
-        let e = seek::find_byte(text, i, b'\\');
-        length += e - i;
-        if e == text.len() {
-            return Measured {
-                length,
-                same: escapes == 0,
-            };
+        if text[i] != b'\\' {
+            let e = seek::find_byte(text, i, b'\\');
+            length += e - i;
+            i = e;
+            continue;
         }
-        let Escape::Taken(n, c) = decode_escape(style, quotes, byte_before(text, e), &text[e..])
-        else {
+        let size = escape_length(style, quotes, byte_before(text, i), &text[i..]);
+        let Escape::Taken(n, c) = rows::escape_of(style, size, &text[i..]) else {
             length += 1;
-            i = e + 1;
+            i += 1;
             continue;
         };
         length += chars::char_length(c);
         escapes += 1;
-        i = e + n;
+        i += n;
     }
     Measured {
         length,
@@ -93,27 +92,34 @@ pub fn measure(style: bool, quotes: Quotes, text: &[u8]) -> Measured
     }
 }
 
-// Writes what decode makes of a text to the start of `output` and returns its length; what lies past it keeps its values.
-pub fn write(style: bool, quotes: Quotes, text: &[u8], output: &mut [u8]) -> usize
+// Writes what decode makes of a text to the start of `output`, and finds what `measure` does; what lies past it keeps its values.
+pub fn write(style: bool, quotes: Quotes, text: &[u8], output: &mut [u8]) -> Measured
     requires { ⌜ length (decodeOf (stringOf style quotes) (now text)) ≤ length (now output) ⌝ }
-    ensures { λ r. ⌜ (r ≡ length (decodeOf (stringOf style quotes) (now (text .entry)))) × (now (output .exit) ≡ over (decodeOf (stringOf style quotes) (now (text .entry))) (now (output .entry))) ⌝ }
+    ensures { λ r. ⌜ (r .length ≡ length (decodeOf (stringOf style quotes) (now (text .entry)))) × (r .same ≡ eqb (replaced (through (decodeStep (stringOf style quotes)) (now (text .entry)))) 0) × (now (output .exit) ≡ over (decodeOf (stringOf style quotes) (now (text .entry))) (now (output .entry))) ⌝ }
 {
     let mut at: usize = 0;
+    let mut escapes: usize = 0;
     let mut i: usize = 0;
     while i < text.len() {
-        let e = seek::find_byte(text, i, b'\\');
-        at += parts::put(&text[i..e], &mut output[at..]);
-        if e == text.len() {
-            return at;
+        if text[i] != b'\\' {
+            let e = seek::put_until(text, i, b'\\', &mut output[at..]);
+            at += e - i;
+            i = e;
+            continue;
         }
-        let Escape::Taken(n, c) = decode_escape(style, quotes, byte_before(text, e), &text[e..])
-        else {
-            i = e + 1;
-            at += parts::put(&text[e..i], &mut output[at..]);
+        let size = escape_length(style, quotes, byte_before(text, i), &text[i..]);
+        let Escape::Taken(n, c) = rows::escape_of(style, size, &text[i..]) else {
+            let past = i + 1;
+            at += parts::put(&text[i..past], &mut output[at..]);
+            i = past;
             continue;
         };
         at += chars::put_char(c, &mut output[at..]);
-        i = e + n;
+        escapes += 1;
+        i += n;
     }
-    at
+    Measured {
+        length: at,
+        same: escapes == 0,
+    }
 }

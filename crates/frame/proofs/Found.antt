@@ -24,7 +24,7 @@ use Rattle.references.specs.declared.Numbers.{Numbers}
 use Rattle.references.specs.declared.Numbers.the-variants.{Decoded, Browsed}
 use Rattle.frame.specs.Jobs.{ruleBy, Surveyed}
 use Rattle.frame.specs.declared.job.Job.the-variants.{Nothing}
-use Rattle.frame.specs.declared.work.Findings.{Findings}
+use Rattle.frame.specs.declared.findings.Findings.{Findings}
 
 -- Of a text that is not valid nothing more is asked.
 pub invalid-found : (found : Findings) (ms : List Move) (t : List ℕ) → found .valid ≡ validTo t → found .valid < size t → Surveyed found ms t

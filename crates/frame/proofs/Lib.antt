@@ -1,4 +1,5 @@
 -- The laws of the frame.
 pub mod Found
+pub mod Once
 pub mod Rows
 pub mod Seen

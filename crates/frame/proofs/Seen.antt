@@ -16,7 +16,7 @@ use Rattle.rules.specs.declared.Answer.{Answer}
 use Rattle.rules.proofs.Valid.{valid-within}
 use Rattle.frame.specs.Jobs.{known, ruleBy, ruleAt, Surveyed}
 use Rattle.frame.specs.declared.job.Job.{Job}
-use Rattle.frame.specs.declared.work.Findings.{Findings}
+use Rattle.frame.specs.declared.findings.Findings.{Findings}
 use Rattle.frame.proofs.Rows.{Leaves, bad-row, long-row, utf8-row, form-row, lent-row, room-row, written-row}
 
 module _ (job : Job) (borrows : Bool) (t out : List ℕ) where

@@ -15,7 +15,7 @@ use Rattle.rules.specs.References.{browseStep}
 use Rattle.rules.specs.Operations.{decodeStep}
 use Rattle.frame.specs.declared.job.Job.{Job}
 use Rattle.frame.specs.declared.job.Job.the-variants.{Encode, EncodeRaw, Decode, Read, Browse, Nothing}
-use Rattle.frame.specs.declared.work.Findings.{Findings}
+use Rattle.frame.specs.declared.findings.Findings.{Findings}
 
 -- There is something to do.
 abbrev pub known : Job → Bool

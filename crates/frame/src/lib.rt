@@ -1,13 +1,19 @@
 // The frame of every call: limit, validity, form, room and writing, in the refusal table's order, written once for all operations.
 // What an operation does in a context is a job; the rooms below measure and write it.
+pub mod decoding;
+pub mod encoding;
+pub mod findings;
 pub mod job;
+pub mod reading;
 pub mod work;
 
 ghost use mathlib.Core.Path.{_≡_};
-ghost use mathlib.Core.Bool.{_&&_, cond};
+ghost use mathlib.Core.Bool.{false, not, _&&_, cond};
+ghost use Prim.Native.Nat.{_≤_};
+ghost use lib.ListN.{length};
 ghost use Rattle.rules.specs.Refusals.{answer, answerBy, outBy, answerOf, outOf};
 ghost use Rattle.rules.specs.Contexts.{contextOf};
-ghost use Rattle.frame.specs.Jobs.{ruleAt};
+ghost use Rattle.frame.specs.Jobs.{known, ruleAt};
 use crate::job::Job;
 use rules::Answer;
 use rules::Operation;
@@ -38,8 +44,42 @@ fn same_bit(same: bool) -> usize
     if same { 1 } else { 0 }
 }
 
-// Every call of a job: the refusals in their order, and then the result. The output is written only where nothing is left to refuse;
-// a borrowing call leaves it alone where nothing is replaced.
+// The answer of a call that passed.
+fn passed(length: usize, same: bool) -> Answer
+    ensures { λ r. ⌜ r ≡ answer 0 length (cond same 1 0) 0 ⌝ }
+{
+    Answer {
+        status: 0,
+        length,
+        same: same_bit(same),
+        place: 0,
+    }
+}
+
+// A call of a job on a text that is not too long: surveyed first, and written only where nothing is left to refuse; a borrowing call leaves the
+// output alone where nothing is replaced.
+fn by_survey(job: Job, borrows: bool, text: &[u8], output: &mut [u8]) -> Answer
+    requires { ⌜ (not (known job) ≡ false) × (length (now text) ≤ 65536) ⌝ }
+    ensures { λ r. ⌜ (r ≡ answerBy (ruleAt job) borrows (now (text .entry)) (now (output .entry))) × (now (output .exit) ≡ outBy (ruleAt job) borrows (now (text .entry)) (now (output .entry))) ⌝ }
+{
+    let found = work::survey(job, text);
+    if found.valid < text.len() {
+        return refusal(2, 0, found.valid);
+    }
+    if found.place < text.len() {
+        return refusal(4, 0, found.place);
+    }
+    if lends(borrows, found.same) {
+        return passed(found.length, true);
+    }
+    if output.len() < found.length {
+        return refusal(3, found.length, 0);
+    }
+    work::fill(job, found.length, text, output);
+    passed(found.length, found.same)
+}
+
+// Every call of a job: the refusals in their order, and then the result. A copying call of decode or browse may need no survey.
 fn convert(job: Job, borrows: bool, text: &[u8], output: &mut [u8]) -> Answer
     ensures { λ r. ⌜ (r ≡ answerBy (ruleAt job) borrows (now (text .entry)) (now (output .entry))) × (now (output .exit) ≡ outBy (ruleAt job) borrows (now (text .entry)) (now (output .entry))) ⌝ }
 {
@@ -49,30 +89,16 @@ fn convert(job: Job, borrows: bool, text: &[u8], output: &mut [u8]) -> Answer
     if 65536 < text.len() {
         return refusal(1, 0, 0);
     }
-    let found = work::survey(job, text);
-    if found.valid < text.len() {
-        return refusal(2, 0, found.valid);
+    if borrows {
+        return by_survey(job, true, text, output);
     }
-    if found.place < text.len() {
-        return refusal(4, 0, found.place);
-    }
-    if lends(borrows, found.same) {
-        return Answer {
-            status: 0,
-            length: found.length,
-            same: 1,
-            place: 0,
-        };
-    }
-    if output.len() < found.length {
-        return refusal(3, found.length, 0);
-    }
-    work::fill(job, found.length, text, output);
-    Answer {
-        status: 0,
-        length: found.length,
-        same: same_bit(found.same),
-        place: 0,
+    match job {
+        Job::Decode(context) => decoding::copy_decoded(context, text, output),
+        Job::Browse => decoding::copy_browsed(text, output),
+        Job::Encode(_) => by_survey(job, false, text, output),
+        Job::EncodeRaw => by_survey(job, false, text, output),
+        Job::Read(_) => by_survey(job, false, text, output),
+        Job::Nothing => by_survey(job, false, text, output),
     }
 }
 

@@ -19,7 +19,12 @@ use Rattle.rules.proofs.Quiet.{Keeps, quiet-result, quiet-replaced}
 use Rattle.parts.proofs.Filled.{Next}
 use Rattle.parts.proofs.Part.{part-length}
 use Rattle.seek.specs.Places.{Nearest}
+use Rattle.rules.specs.Operations.{decodeStep}
+use Rattle.rules.specs.declared.Html.the-variants.{Text}
+use Rattle.rules.specs.declared.Context.the-variants.{InHtml}
+use Rattle.rules.proofs.Whole.{decode-fifth, browse-fifth}
 use Rattle.references.specs.declared.Numbers.{Numbers}
+use Rattle.references.specs.declared.Numbers.the-variants.{Decoded, Browsed}
 use Rattle.references.specs.Taking.{stepBy, Reads}
 use Rattle.references.proofs.Ceiling.{and-true}
 use Rattle.references.proofs.Readings.{step-quiet}
@@ -34,7 +39,7 @@ and-false false = refl
 module _ (numbers : Numbers) (t : List ℕ) where
   -- ---- the stretch
 
-  quiet : (i p : ℕ) → Nearest t i 38 p → Keeps (stepBy numbers) t i p
+  pub quiet : (i p : ℕ) → Nearest t i 38 p → Keeps (stepBy numbers) t i p
   quiet i p n k h l = let m : k < length t = omega (arith, n .within) in rw (drop-next t k m) (step-quiet numbers (before t k) (getD t k 0) (drop (k + 1) t) (n .none k h l))
 
   -- It is what is given next.
@@ -67,15 +72,23 @@ module _ (numbers : Numbers) (t : List ℕ) where
 
   -- ---- the count
 
+  -- The result is at most a fifth longer than the text.
+  pub at-most : 5 * length (result (through (stepBy numbers) t)) ≤ 6 * length t
+  unfolding decodeStep
+  at-most = go numbers
+    where
+      go : (numbers : Numbers) → 5 * length (result (through (stepBy numbers) t)) ≤ 6 * length t
+      go Decoded = decode-fifth (InHtml Text) t
+      go Browsed = browse-fifth t
+
   -- The bytes before place i give n bytes, and `same` says that nothing in them is replaced.
   pub record Counted (i n : ℕ) (same : Bool) : Type 0 where
     pub inside : i ≤ length t
-    pub most : n ≤ 6 * i
     pub long : n + length (result (from (stepBy numbers) t i)) ≡ length (result (through (stepBy numbers) t))
     pub told : eqb (replaced (through (stepBy numbers) t)) 0 ≡ (same && eqb (replaced (from (stepBy numbers) t i)) 0)
 
   pub counted-start : Counted 0 0 true
-  counted-start = record { inside = omega arith; most = omega arith; long = omega arith; told = refl }
+  counted-start = record { inside = omega arith; long = omega arith; told = refl }
 
   -- The stretch counts as it stands.
   pub counted-stretch : (i p n : ℕ) (same : Bool) → Counted i n same → Nearest t i 38 p → Counted p (n + (p - i)) same
@@ -84,20 +97,18 @@ module _ (numbers : Numbers) (t : List ℕ) where
       let h : i ≤ p = near .after in
       record {
         inside = near .within;
-        most = omega (arith, c .most);
         long = omega (arith, c .long, l);
         told = c .told ∙ rw (quiet-replaced (stepBy numbers) t i p (near .after) (near .within) (quiet i p near));
       }
 
   -- A reference counts as what it stands for, and something is replaced.
-  pub counted-found : (p n m : ℕ) (same : Bool) (e : DecodedEntity) → Counted p n same → p < length t → Reads numbers t p (Found e) → m ≡ length (valueBytes (e .value)) → m ≤ 6
+  pub counted-found : (p n m : ℕ) (same : Bool) (e : DecodedEntity) → Counted p n same → p < length t → Reads numbers t p (Found e) → m ≡ length (valueBytes (e .value))
       → Counted (e .end) (n + m) false
-  counted-found p n m same e c h reads size small =
+  counted-found p n m same e c h reads size =
       let l = reads .lies in
       let some : replaced (from (stepBy numbers) t p) ≡ suc (replaced (from (stepBy numbers) t (e .end))) = ap replaced (found p e h reads) in
       record {
         inside = l .2;
-        most = omega (arith, c .most, l .1);
         long = omega (arith, c .long, size, next-length (found-next p e h reads));
         told = c .told ∙ rw (some, ne-eqb (suc (replaced (from (stepBy numbers) t (e .end)))) 0 (λ z. suc-ne-zero (replaced (from (stepBy numbers) t (e .end))) z)) (and-false same);
       }
@@ -106,7 +117,6 @@ module _ (numbers : Numbers) (t : List ℕ) where
   pub counted-alone : (p n : ℕ) (same : Bool) → Counted p n same → p < length t → getD t p 0 ≡ 38 → Reads numbers t p Nothing → Counted (p + 1) (n + 1) same
   counted-alone p n same c h amp reads = record {
     inside = omega arith;
-    most = omega (arith, c .most);
     long = omega (arith, c .long, next-length (alone-next p h amp reads));
     told = c .told ∙ rw (alone p h amp reads);
   }

@@ -1,8 +1,9 @@
 // The reference reader: what stands at an `&`.
-ghost use mathlib.Core.Bool.{cond};
+ghost use mathlib.Core.Bool.{true, false, cond};
 ghost use mathlib.Core.Path.{_≡_};
 ghost use Prim.Native.Nat.{_+_, _≤_, _<_};
 ghost use lib.ListN.{length, getD};
+ghost use Rattle.rules.specs.declared.Reference.the-variants.{Nothing};
 ghost use Rattle.references.specs.declared.Numbers.{Numbers};
 ghost use Rattle.references.specs.Taking.{Reads};
 ghost use Rattle.references.specs.Bodies.{Ends, Known, knownValue};
@@ -112,22 +113,30 @@ fn find_name(text: &[u8], start: usize) -> Reference
     })
 }
 
-// The reference at the `&` at `start`, or nothing: then that byte stays.
-pub fn find_decoded_entity(numbers: Numbers, text: &[u8], start: usize) -> Reference
+// Whether the `&` at `start` begins no reference by the byte after it: there is none, or it is `&` or `;`.
+pub fn is_bare(text: &[u8], start: usize) -> bool
     requires { ⌜ (start < length (now text)) × (getD (now text) start 0 ≡ 38) ⌝ }
-    ensures { λ r. ⌜ Reads numbers (now (text .entry)) start r ⌝ }
+    ensures { λ r. ⌜ (r ≡ true → (numbers : Numbers) → Reads numbers (now (text .entry)) start Nothing) × (r ≡ false → start + 1 < length (now (text .entry))) ⌝ }
 {
     let first = start + 1;
     if first == text.len() {
-        return Reference::Nothing;
+        return true;
     }
-    let byte = text[first];
-    if byte == b'&' {
-        return Reference::Nothing;
+    if text[first] == b'&' {
+        return true;
     }
-    if byte == b';' {
-        return Reference::Nothing;
+    if text[first] == b';' {
+        return true;
     }
+    false
+}
+
+// The reference that begins with the `&` at `start`, or nothing: then that byte stays.
+pub fn find_decoded_entity(numbers: Numbers, text: &[u8], start: usize) -> Reference
+    requires { ⌜ (start + 1 < length (now text)) × (getD (now text) start 0 ≡ 38) ⌝ }
+    ensures { λ r. ⌜ Reads numbers (now (text .entry)) start r ⌝ }
+{
+    let byte = text[start + 1];
     if byte == b'#' {
         return find_number(numbers, text, start);
     }

@@ -19,7 +19,7 @@ pub enum Numbers {
     Browsed,
 }
 
-// The length of a result, and whether nothing is replaced in it.
+// What a pass finds: the length of the result, and whether nothing is replaced in it.
 pub struct Measured {
     pub length: usize,
     pub same: bool,
@@ -34,17 +34,20 @@ pub fn measure(numbers: Numbers, text: &[u8]) -> Measured
     let mut same = true;
     let mut i: usize = 0;
     while i < text.len() {
-        let p = seek::find_byte(text, i, b'&');
-        total += p - i;
-        if p == text.len() {
-            return Measured {
-                length: total,
-                same: same,
-            };
+        if text[i] != b'&' {
+            let e = seek::find_byte(text, i, b'&');
+            total += e - i;
+            i = e;
+            continue;
         }
-        let Reference::Found(found) = entity::find_decoded_entity(numbers, text, p) else {
+        if entity::is_bare(text, i) {
             total += 1;
-            i = p + 1;
+            i += 1;
+            continue;
+        }
+        let Reference::Found(found) = entity::find_decoded_entity(numbers, text, i) else {
+            total += 1;
+            i += 1;
             continue;
         };
         let value = found.value;
@@ -58,27 +61,38 @@ pub fn measure(numbers: Numbers, text: &[u8]) -> Measured
     }
 }
 
-// Writes the result to the start of `output` and returns its length; what lies past it keeps its values.
-pub fn write(numbers: Numbers, text: &[u8], output: &mut [u8]) -> usize
+// Writes the result to the start of `output`, and finds what `measure` does; what lies past it keeps its values.
+pub fn write(numbers: Numbers, text: &[u8], output: &mut [u8]) -> Measured
     requires { ⌜ length (result (through (stepBy numbers) (now text))) ≤ length (now output) ⌝ }
-    ensures { λ r. ⌜ (r ≡ length (result (through (stepBy numbers) (now (text .entry))))) × (now (output .exit) ≡ over (result (through (stepBy numbers) (now (text .entry)))) (now (output .entry))) ⌝ }
+    ensures { λ r. ⌜ (r .length ≡ length (result (through (stepBy numbers) (now (text .entry))))) × (r .same ≡ eqb (replaced (through (stepBy numbers) (now (text .entry)))) 0) × (now (output .exit) ≡ over (result (through (stepBy numbers) (now (text .entry)))) (now (output .entry))) ⌝ }
 {
     let mut at: usize = 0;
+    let mut same = true;
     let mut i: usize = 0;
     while i < text.len() {
-        let p = seek::find_byte(text, i, b'&');
-        at += parts::put(&text[i..p], &mut output[at..]);
-        if p == text.len() {
-            return at;
+        if text[i] != b'&' {
+            let e = seek::put_until(text, i, b'&', &mut output[at..]);
+            at += e - i;
+            i = e;
+            continue;
         }
-        let Reference::Found(found) = entity::find_decoded_entity(numbers, text, p) else {
+        if entity::is_bare(text, i) {
             at += parts::put(b"&", &mut output[at..]);
-            i = p + 1;
+            i += 1;
+            continue;
+        }
+        let Reference::Found(found) = entity::find_decoded_entity(numbers, text, i) else {
+            at += parts::put(b"&", &mut output[at..]);
+            i += 1;
             continue;
         };
         let value = found.value;
         at += characters::put_value(value, &mut output[at..]);
+        same = false;
         i = found.end;
     }
-    at
+    Measured {
+        length: at,
+        same: same,
+    }
 }

@@ -30,3 +30,8 @@ absent-more t a e byte false f z = absent-step t a e byte (f refl) (eqb-false (g
 -- What is first after a stretch that does not have the byte is first.
 pub nearest-after : (t : List ℕ) (a i byte r : ℕ) → a ≤ i → Absent t a i byte → Nearest t i byte r → Nearest t a byte r
 nearest-after t a i byte r h f p = record { after = omega (arith, p .after); within = p .within; none = absent-join t a i r byte f (p .none); here = p .here }
+
+-- Where the byte does not stand at the place itself, what is first is past it.
+pub nearest-past : (t : List ℕ) (a byte r : ℕ) → a < length t → (getD t a 0 ≡ byte → ⊥) → Nearest t a byte r → a < r
+nearest-past t a byte r h f p =
+    ⊎-elim (λ z. absurd (f (ap (λ (n : ℕ). getD t n 0) z ∙ p .here (subst (λ (n : ℕ). n < length t) z h)))) (λ l. l) (eq-or-lt-of-le (p .after))

@@ -1,9 +1,9 @@
 -- Where a byte stands in a text, said place by place.
 -- Assumes nothing.
 use mathlib.Core.Path.{_≡_}
-use mathlib.Core.List.{List}
-use Prim.Native.Nat.{ℕ, _≤_, _<_}
-use lib.ListN.{length, getD}
+use mathlib.Core.List.{List, _++_}
+use Prim.Native.Nat.{ℕ, _+_, _-_, _≤_, _<_}
+use lib.ListN.{length, take, drop, getD}
 
 -- The byte stands at no place from a on and before e.
 abbrev pub Absent : List ℕ → ℕ → ℕ → ℕ → Type 0
@@ -15,3 +15,11 @@ pub record Nearest (t : List ℕ) (a byte r : ℕ) : Type 0 where
   pub within : r ≤ length t
   pub none : Absent t a r byte
   pub here : r < length t → getD t r 0 ≡ byte
+
+-- There is room for n bytes from place a on up to the next place of the byte.
+abbrev pub Holds : List ℕ → ℕ → ℕ → ℕ → Type 0
+Holds t a byte n = (r : ℕ) → Nearest t a byte r → r ≤ a + n
+
+-- The bytes of the text from place a on and before e, over the start of what stood there.
+abbrev pub stretch : List ℕ → ℕ → ℕ → List ℕ → List ℕ
+stretch t a e out = take (e - a) (drop a t) ++ drop (length (take (e - a) (drop a t))) out

@@ -4,7 +4,7 @@ ghost use mathlib.Core.Bool.{false};
 ghost use mathlib.Core.Path.{_≡_};
 ghost use Prim.Native.Nat.{_+_, _≤_};
 ghost use lib.ListN.{length};
-ghost use Rattle.seek.specs.Places.{Absent, Nearest};
+ghost use Rattle.seek.specs.Places.{Absent, Nearest, Holds, stretch};
 
 // Whether a byte is among the sixteen from a place on: false only where it is not. The loop has no way out but its end, so that the sixteen
 // are one vector.
@@ -64,4 +64,16 @@ pub fn find_byte(text: &[u8], from: usize, byte: u8) -> usize
         return from;
     }
     walk(text, pass(text, from, byte), byte)
+}
+
+// Writes what stands from `from` on, before the next place of a byte or the end, to the start of `output` and returns that place; what lies past
+// it in the output keeps its values.
+pub fn put_until(text: &[u8], from: usize, byte: u8, output: &mut [u8]) -> usize
+    requires { ⌜ (from ≤ length (now text)) × Holds (now text) from byte (length (now output)) ⌝ }
+    ensures { λ r. ⌜ Nearest (now (text .entry)) from byte r × (now (output .exit) ≡ stretch (now (text .entry)) from r (now (output .entry))) ⌝ }
+{
+    let p = pass(text, from, byte);
+    let e = walk(text, p, byte);
+    parts::put(&text[from..e], output);
+    e
 }

@@ -1,4 +1,4 @@
--- `after_less` meets its contract: each return is one arm of the rule after `<`.
+-- `after_less` meets its contract: each way out by the tests that led there; what is written after the backslash is what it yields.
 -- Assumes nothing.
 use mathlib.Core.Path.{sym, _∙_}
 use native.Mathlib.Omega.{arith}
@@ -7,8 +7,9 @@ use borrow.Author.Needs.{needs}
 use Rattle.rules.specs.Bytes.{ascii}
 use Rattle.escapes.specs.Strings.{nameOf}
 use Rattle.escapes.proofs.Standing.{stands-within, stands-take, closes-slash}
-use Rattle.escapes.proofs.after_less.Tie as tie
+use Rattle.escapes.proofs.Strings.{slash-taken}
 use Rattle.escapes.proofs.after_less.Statement.{statement}
+use Rattle.escapes.proofs.after_less.Tie as tie
 
 returns : tie.Need-returns
 returns c = (rw (ne-eqb _ 60 (c .if1 .taken)), tt)
@@ -20,13 +21,23 @@ starts-requires : tie.Need-starts-requires
 starts-requires c κs = search needs
 
 returns-2 : tie.Need-returns-2
-returns-2 c = let h = sym (c .before .starts .ensures) ∙ c .if2 .taken in (rw (c .before .before .before .if1 .left, h, stands-take (ascii "\\!--") (c .before .before .before .before .before .args .rest .now) 2 (omega arith) h), (omega arith, omega (arith, stands-within (ascii "\\!--") (c .before .before .before .before .before .args .rest .now) h), omega arith, omega arith))
+returns-2 c =
+    let s = c .before .before .before .before .before .args .rest .now in
+    let h = sym (c .before .starts .ensures) ∙ c .if2 .taken in
+    let two = stands-take (ascii "\\!--") s 2 (omega arith) h in
+    let b = slash-taken s 33 two in
+    (rw (c .before .before .before .if1 .left, h, two, b), rw b (omega arith, omega (arith, stands-within (ascii "\\!--") s h), omega arith, omega arith))
 
 closes-element-requires : tie.Need-closes-element-requires
 closes-element-requires c κs = search needs
 
 returns-3 : tie.Need-returns-3
-returns-3 c = let h = sym (c .before .closes-element .ensures) ∙ c .if3 .taken in let k = closes-slash (nameOf (c .before .before .before .before .before .before .before .args .style)) (c .before .before .before .before .before .before .before .args .rest .now) h in (rw (c .before .before .before .before .before .if1 .left, ← c .before .before .before .starts .ensures, c .before .before .if2 .left, h, k .0), (omega arith, k .1, omega arith, omega arith))
+returns-3 c =
+    let s = c .before .before .before .before .before .before .before .args .rest .now in
+    let h = sym (c .before .closes-element .ensures) ∙ c .if3 .taken in
+    let two = closes-slash (nameOf (c .before .before .before .before .before .before .before .args .style)) s h in
+    let b = slash-taken s 47 (two .0) in
+    (rw (c .before .before .before .before .before .if1 .left, ← c .before .before .before .starts .ensures, c .before .before .if2 .left, h, two .0, b), rw b (omega arith, two .1, omega arith, omega arith))
 
 returns-4 : tie.Need-returns-4
 returns-4 c = (rw (c .before .before .before .before .before .if1 .left, ← c .before .before .before .starts .ensures, c .before .before .if2 .left, ← c .before .closes-element .ensures, c .if3 .left), tt)

@@ -1,6 +1,6 @@
 -- `measure` meets its contract: what is counted so far, with the length of what the rest gives, is the length of the whole, and so for the replaced places. The measure is what is left of the text.
 -- Assumes nothing.
-use mathlib.Core.Path.{ap}
+use mathlib.Core.Path.{sym, ap, _∙_}
 use Prim.Native.Nat.{ℕ, _-_}
 use native.Mathlib.Omega.{arith}
 use borrow.Author.Needs.{needs}
@@ -10,11 +10,12 @@ use Rattle.rules.proofs.Loops.{from-end}
 use Rattle.rules.specs.declared.Escape.the-variants.{Taken, Nothing}
 use Rattle.rules.specs.Operations.{decodeStep}
 use Rattle.rules.specs.Utf8.{utf8}
+use Rattle.seek.proofs.Laws.{nearest-past}
 use Rattle.parts.proofs.Counted.{Counted, counted-start, counted-quiet, counted-keep, counted-swap, counted-end}
 use Rattle.escapes.specs.Strings.{stringOf}
-use Rattle.escapes.proofs.Strings.{string-quiet, escape-here, within-rest}
-use Rattle.escapes.proofs.measure.Tie as tie
+use Rattle.escapes.proofs.Strings.{string-quiet, told-here, within-rest, within-most}
 use Rattle.escapes.proofs.measure.Statement.{statement}
+use Rattle.escapes.proofs.measure.Tie as tie
 
 abbrev Inv-loop : tie.InvT-loop
 Inv-loop style quotes text n₀ k₀ i₀ n k i = Counted (decodeStep (stringOf style quotes)) text i n k
@@ -25,6 +26,9 @@ abbrev μ-loop : tie.MeasureT-loop
 loop-holds : tie.Need-loop-holds Inv-loop μ-loop
 loop-holds c = counted-start (decodeStep (stringOf (c .before .args .style) (c .before .args .quotes))) (c .before .args .text .now)
 
+shared-slice-read-if1 : tie.Need-shared-slice-read-if1 Inv-loop μ-loop
+shared-slice-read-if1 c = search needs
+
 find-byte-requires : tie.Need-find-byte-requires Inv-loop μ-loop
 find-byte-requires c κs = search needs
 
@@ -34,23 +38,51 @@ sub-length c = search needs
 add-length : tie.Need-add-length Inv-loop μ-loop
 add-length c = search needs
 
-returns : tie.Need-returns Inv-loop μ-loop
-returns c = let x = counted-end (counted-quiet (c .before .before .before .loop .inv) (c .before .find-byte .result) (c .before .find-byte .ensures .after) (c .before .find-byte .ensures .within) (string-quiet (c .before .before .before .before .before .args .style) (c .before .before .before .before .before .args .quotes) (c .before .before .before .before .before .args .text .now) (c .before .before .before .loop .i) (c .before .find-byte .result) (c .before .find-byte .ensures))) (from-end (decodeStep (stringOf (c .before .before .before .before .before .args .style) (c .before .before .before .before .before .args .quotes))) (c .before .before .before .before .before .args .text .now) (c .before .find-byte .result) (omega arith)) in (x .0, ap (λ (k : ℕ). eqb k 0) (x .1))
+loop-less : tie.Need-loop-less Inv-loop μ-loop
+loop-less c =
+    let a = c .before .before .before .before .before .before .args in
+    let t = a .text .now in
+    let l = c .before .before .before .before .loop in
+    let e = c .find-byte .result in
+    let near = c .find-byte .ensures in
+    omega (arith, nearest-past t (l .i) 92 e (search needs) (c .before .if1 .taken) near, near .within)
+
+loop-again : tie.Need-loop-again Inv-loop μ-loop
+loop-again c =
+    let a = c .before .before .before .before .before .before .args in
+    let t = a .text .now in
+    let l = c .before .before .before .before .loop in
+    let e = c .find-byte .result in
+    let near = c .find-byte .ensures in
+    let quiet = string-quiet (a .style) (a .quotes) t (l .i) e near in
+    counted-quiet (l .inv) e (near .after) (near .within) quiet
 
 byte-before-requires : tie.Need-byte-before-requires Inv-loop μ-loop
 byte-before-requires c κs = search needs
 
-sub-decode-escape : tie.Need-sub-decode-escape Inv-loop μ-loop
-sub-decode-escape c = search needs
+sub-escape-length : tie.Need-sub-escape-length Inv-loop μ-loop
+sub-escape-length c = search needs
 
-part-decode-escape-start : tie.Need-part-decode-escape-start Inv-loop μ-loop
-part-decode-escape-start c = search needs
+part-escape-length-start : tie.Need-part-escape-length-start Inv-loop μ-loop
+part-escape-length-start c = search needs
 
-part-decode-escape-end : tie.Need-part-decode-escape-end Inv-loop μ-loop
-part-decode-escape-end c = search needs
+part-escape-length-end : tie.Need-part-escape-length-end Inv-loop μ-loop
+part-escape-length-end c = search needs
 
-decode-escape-requires : tie.Need-decode-escape-requires Inv-loop μ-loop
-decode-escape-requires c κs = search needs
+escape-length-requires : tie.Need-escape-length-requires Inv-loop μ-loop
+escape-length-requires c κs = search needs
+
+sub-escape-of : tie.Need-sub-escape-of Inv-loop μ-loop
+sub-escape-of c = search needs
+
+part-escape-of-start : tie.Need-part-escape-of-start Inv-loop μ-loop
+part-escape-of-start c = search needs
+
+part-escape-of-end : tie.Need-part-escape-of-end Inv-loop μ-loop
+part-escape-of-end c = search needs
+
+escape-of-requires : tie.Need-escape-of-requires Inv-loop μ-loop
+escape-of-requires c κs = within-most (c .before .before .before .before .before .before .before .before .before .args .style) (c .before .escape-length .result) _ (c .before .escape-length .ensures .1)
 
 enum-known-n : tie.Need-enum-known-n Inv-loop μ-loop
 enum-known-n c = search needs
@@ -64,32 +96,74 @@ add-length-2 c = search needs
 add-i : tie.Need-add-i Inv-loop μ-loop
 add-i c = search needs
 
-loop-less : tie.Need-loop-less Inv-loop μ-loop
-loop-less c = search needs
+loop-less-2 : tie.Need-loop-less-2 Inv-loop μ-loop
+loop-less-2 c = search needs
 
-loop-again : tie.Need-loop-again Inv-loop μ-loop
-loop-again c = counted-keep (counted-quiet (c .before .before .before .before .before .before .before .before .loop .inv) (c .before .before .before .before .before .before .find-byte .result) (c .before .before .before .before .before .before .find-byte .ensures .after) (c .before .before .before .before .before .before .find-byte .ensures .within) (string-quiet (c .before .before .before .before .before .before .before .before .before .before .args .style) (c .before .before .before .before .before .before .before .before .before .before .args .quotes) (c .before .before .before .before .before .before .before .before .before .before .args .text .now) (c .before .before .before .before .before .before .before .before .loop .i) (c .before .before .before .before .before .before .find-byte .result) (c .before .before .before .before .before .before .find-byte .ensures))) (omega arith) (escape-here (stringOf (c .before .before .before .before .before .before .before .before .before .before .args .style) (c .before .before .before .before .before .before .before .before .before .before .args .quotes)) (c .before .before .before .before .before .before .before .before .before .before .args .text .now) (c .before .before .before .before .before .before .find-byte .result) (c .before .before .before .before .byte-before .result) Nothing (c .before .before .before .before .byte-before .ensures) (rw (c .enum-told .given .1) at (c .before .before .decode-escape .ensures .0)))
+loop-again-2 : tie.Need-loop-again-2 Inv-loop μ-loop
+loop-again-2 c =
+    let a = c .before .before .before .before .before .before .before .before .before .before .before .before .args in
+    let t = a .text .now in
+    let l = c .before .before .before .before .before .before .before .before .before .before .loop in
+    let told = told-here (a .style) (a .quotes) t (l .i) (c .before .before .before .before .before .before .byte-before .result) (c .before .before .before .before .escape-length .result) Nothing (c .before .before .before .before .before .before .byte-before .ensures) (sym (c .enum-told .given .1) ∙ c .before .before .escape-of .ensures) (c .before .before .before .before .escape-length .ensures) in
+    counted-keep (l .inv) (search needs) (told .0)
 
 char-length-requires : tie.Need-char-length-requires Inv-loop μ-loop
 char-length-requires c κs = search needs
 
 add-length-3 : tie.Need-add-length-3 Inv-loop μ-loop
-add-length-3 c = let w = within-rest (c .before .before .before .before .before .before .before .before .before .before .before .before .args .text .now) (c .before .before .before .before .before .before .before .before .find-byte .result) (c .before .before .n .given .0 .0) (c .before .before .n .given .0 .1 .0) (rw (c .before .before .n .given .1) at (c .before .before .before .before .decode-escape .ensures .1)) in omega (arith, w .1, w .2, c .char-length .ensures .0)
+add-length-3 c =
+    let a = c .before .before .before .before .before .before .before .before .before .before .before .before .before .before .args in
+    let t = a .text .now in
+    let l = c .before .before .before .before .before .before .before .before .before .before .before .before .loop in
+    let n = c .before .before .n .given .0 .0 in
+    let b = c .before .before .n .given .0 .1 .0 in
+    let told = told-here (a .style) (a .quotes) t (l .i) (c .before .before .before .before .before .before .before .before .byte-before .result) (c .before .before .before .before .before .before .escape-length .result) (Taken n b) (c .before .before .before .before .before .before .before .before .byte-before .ensures) (sym (c .before .before .n .given .1) ∙ c .before .before .before .before .escape-of .ensures) (c .before .before .before .before .before .before .escape-length .ensures) in
+    let w = within-rest t (l .i) n b (told .1) in
+    omega (arith, w .1, w .2, c .char-length .ensures .0)
 
 add-escapes : tie.Need-add-escapes Inv-loop μ-loop
 add-escapes c = search needs
 
 add-i-2 : tie.Need-add-i-2 Inv-loop μ-loop
-add-i-2 c = let w = within-rest (c .before .before .before .before .before .before .before .before .before .before .before .before .args .text .now) (c .before .before .before .before .before .before .before .before .find-byte .result) (c .before .before .n .given .0 .0) (c .before .before .n .given .0 .1 .0) (rw (c .before .before .n .given .1) at (c .before .before .before .before .decode-escape .ensures .1)) in omega (arith, w .1)
+add-i-2 c =
+    let a = c .before .before .before .before .before .before .before .before .before .before .before .before .before .before .args in
+    let t = a .text .now in
+    let l = c .before .before .before .before .before .before .before .before .before .before .before .before .loop in
+    let n = c .before .before .n .given .0 .0 in
+    let b = c .before .before .n .given .0 .1 .0 in
+    let told = told-here (a .style) (a .quotes) t (l .i) (c .before .before .before .before .before .before .before .before .byte-before .result) (c .before .before .before .before .before .before .escape-length .result) (Taken n b) (c .before .before .before .before .before .before .before .before .byte-before .ensures) (sym (c .before .before .n .given .1) ∙ c .before .before .before .before .escape-of .ensures) (c .before .before .before .before .before .before .escape-length .ensures) in
+    let w = within-rest t (l .i) n b (told .1) in
+    omega (arith, w .1)
 
-loop-less-2 : tie.Need-loop-less-2 Inv-loop μ-loop
-loop-less-2 c = let w = within-rest (c .before .before .before .before .before .before .before .before .before .before .before .before .args .text .now) (c .before .before .before .before .before .before .before .before .find-byte .result) (c .before .before .n .given .0 .0) (c .before .before .n .given .0 .1 .0) (rw (c .before .before .n .given .1) at (c .before .before .before .before .decode-escape .ensures .1)) in omega (arith, w .0)
+loop-less-3 : tie.Need-loop-less-3 Inv-loop μ-loop
+loop-less-3 c =
+    let a = c .before .before .before .before .before .before .before .before .before .before .before .before .before .before .args in
+    let t = a .text .now in
+    let l = c .before .before .before .before .before .before .before .before .before .before .before .before .loop in
+    let n = c .before .before .n .given .0 .0 in
+    let b = c .before .before .n .given .0 .1 .0 in
+    let told = told-here (a .style) (a .quotes) t (l .i) (c .before .before .before .before .before .before .before .before .byte-before .result) (c .before .before .before .before .before .before .escape-length .result) (Taken n b) (c .before .before .before .before .before .before .before .before .byte-before .ensures) (sym (c .before .before .n .given .1) ∙ c .before .before .before .before .escape-of .ensures) (c .before .before .before .before .before .before .escape-length .ensures) in
+    let w = within-rest t (l .i) n b (told .1) in
+    omega (arith, w .0, w .1)
 
-loop-again-2 : tie.Need-loop-again-2 Inv-loop μ-loop
-loop-again-2 c = let w = within-rest (c .before .before .before .before .before .before .before .before .before .before .before .before .args .text .now) (c .before .before .before .before .before .before .before .before .find-byte .result) (c .before .before .n .given .0 .0) (c .before .before .n .given .0 .1 .0) (rw (c .before .before .n .given .1) at (c .before .before .before .before .decode-escape .ensures .1)) in rw (c .char-length .ensures .0) (counted-swap (counted-quiet (c .before .before .before .before .before .before .before .before .before .before .loop .inv) (c .before .before .before .before .before .before .before .before .find-byte .result) (c .before .before .before .before .before .before .before .before .find-byte .ensures .after) (c .before .before .before .before .before .before .before .before .find-byte .ensures .within) (string-quiet (c .before .before .before .before .before .before .before .before .before .before .before .before .args .style) (c .before .before .before .before .before .before .before .before .before .before .before .before .args .quotes) (c .before .before .before .before .before .before .before .before .before .before .before .before .args .text .now) (c .before .before .before .before .before .before .before .before .before .before .loop .i) (c .before .before .before .before .before .before .before .before .find-byte .result) (c .before .before .before .before .before .before .before .before .find-byte .ensures))) (c .before .before .n .given .0 .0) (utf8 (c .before .before .n .given .0 .1 .0)) (w .0) (w .1) (w .2) (escape-here (stringOf (c .before .before .before .before .before .before .before .before .before .before .before .before .args .style) (c .before .before .before .before .before .before .before .before .before .before .before .before .args .quotes)) (c .before .before .before .before .before .before .before .before .before .before .before .before .args .text .now) (c .before .before .before .before .before .before .before .before .find-byte .result) (c .before .before .before .before .before .before .byte-before .result) (Taken (c .before .before .n .given .0 .0) (c .before .before .n .given .0 .1 .0)) (c .before .before .before .before .before .before .byte-before .ensures) (rw (c .before .before .n .given .1) at (c .before .before .before .before .decode-escape .ensures .0))))
+loop-again-3 : tie.Need-loop-again-3 Inv-loop μ-loop
+loop-again-3 c =
+    let a = c .before .before .before .before .before .before .before .before .before .before .before .before .before .before .args in
+    let t = a .text .now in
+    let l = c .before .before .before .before .before .before .before .before .before .before .before .before .loop in
+    let n = c .before .before .n .given .0 .0 in
+    let b = c .before .before .n .given .0 .1 .0 in
+    let told = told-here (a .style) (a .quotes) t (l .i) (c .before .before .before .before .before .before .before .before .byte-before .result) (c .before .before .before .before .before .before .escape-length .result) (Taken n b) (c .before .before .before .before .before .before .before .before .byte-before .ensures) (sym (c .before .before .n .given .1) ∙ c .before .before .before .before .escape-of .ensures) (c .before .before .before .before .before .before .escape-length .ensures) in
+    let w = within-rest t (l .i) n b (told .1) in
+    rw (c .char-length .ensures .0) (counted-swap (l .inv) n (utf8 b) (w .0) (w .1) (w .2) (told .0))
 
-returns-2 : tie.Need-returns-2 Inv-loop μ-loop
-returns-2 c = let x = counted-end (c .before .loop .inv) (from-end (decodeStep (stringOf (c .before .before .before .args .style) (c .before .before .before .args .quotes))) (c .before .before .before .args .text .now) (c .before .loop .i) (omega arith)) in (x .0, ap (λ (k : ℕ). eqb k 0) (x .1))
+returns : tie.Need-returns Inv-loop μ-loop
+returns c =
+    let a = c .before .before .before .args in
+    let t = a .text .now in
+    let l = c .before .loop in
+    let x = counted-end (l .inv) (from-end (decodeStep (stringOf (a .style) (a .quotes))) t (l .i) (omega arith)) in
+    (x .0, ap (λ (k : ℕ). eqb k 0) (x .1))
 
 pub measure-spec : {M : Type 1} → statement M
 measure-spec =
@@ -98,25 +172,31 @@ measure-spec =
     Inv-loop
     μ-loop
     loop-holds
+    shared-slice-read-if1
     find-byte-requires
     sub-length
     add-length
-    returns
+    loop-less
+    loop-again
     byte-before-requires
-    sub-decode-escape
-    part-decode-escape-start
-    part-decode-escape-end
-    decode-escape-requires
+    sub-escape-length
+    part-escape-length-start
+    part-escape-length-end
+    escape-length-requires
+    sub-escape-of
+    part-escape-of-start
+    part-escape-of-end
+    escape-of-requires
     enum-known-n
     enum-told
     add-length-2
     add-i
-    loop-less
-    loop-again
+    loop-less-2
+    loop-again-2
     char-length-requires
     add-length-3
     add-escapes
     add-i-2
-    loop-less-2
-    loop-again-2
-    returns-2)
+    loop-less-3
+    loop-again-3
+    returns)

@@ -1,34 +1,130 @@
--- `write` meets its contract: what is written so far, with what the rest of the text gives, is the result of the whole. The measure is what is left of the text.
+-- `write` meets its contract: what is written and counted so far, with what the rest of the text gives, is the result of the whole. The measure is what is left of the text.
 -- Assumes nothing.
-use mathlib.Core.Path.{ap}
-use Prim.Native.Nat.{_-_, _≤_}
+use mathlib.Core.Path.{_≡_, sym, ap, _∙_}
+use Prim.Native.Nat.{ℕ, _+_, _-_}
 use native.Mathlib.Omega.{arith}
 use borrow.Author.Needs.{needs}
 use lib.ListN.{length}
+use lib.Dec.{eqb}
 use Rattle.rules.proofs.Loops.{from-end}
 use Rattle.rules.specs.declared.Escape.the-variants.{Taken, Nothing}
 use Rattle.rules.specs.Operations.{decodeStep, decodeOf}
 use Rattle.rules.specs.Utf8.{utf8}
 use Rattle.rules.specs.Moves.{result, from}
-use Rattle.parts.proofs.Counted.{next-quiet, next-keep, next-swap, filled-all, filled-within, less-left}
-use Rattle.escapes.specs.Strings.{stringOf}
+use Rattle.seek.proofs.Laws.{nearest-past}
+use Rattle.parts.proofs.Part.{part-length}
+use Rattle.parts.proofs.Counted.{Counted, counted-start, counted-quiet, counted-keep, counted-swap, counted-end, next-quiet, next-keep, next-swap, filled-all}
 use Rattle.parts.proofs.Filled.{Filled, filled-start, filled-room, filled-next, filled-put}
-use Rattle.escapes.proofs.Strings.{string-quiet, escape-here, within-rest}
-use Rattle.escapes.proofs.write.Tie as tie
+use Rattle.escapes.specs.Strings.{stringOf}
+use Rattle.escapes.proofs.Strings.{string-quiet, told-here, within-rest, within-most}
 use Rattle.escapes.proofs.write.Statement.{statement}
+use Rattle.escapes.proofs.write.Tie as tie
 
 abbrev Inv-loop : tie.InvT-loop
-Inv-loop style quotes text output₀ at₀ i₀ output at i =
-    (i ≤ length text) × Filled (decodeOf (stringOf style quotes) text) (result (from (decodeStep (stringOf style quotes)) text i)) output₀ output at
+Inv-loop style quotes text output₀ at₀ k₀ i₀ output at k i =
+    Counted (decodeStep (stringOf style quotes)) text i at k
+    × Filled (decodeOf (stringOf style quotes) text) (result (from (decodeStep (stringOf style quotes)) text i)) output₀ output at
 
 abbrev μ-loop : tie.MeasureT-loop
-μ-loop style quotes text output₀ at₀ i₀ output at i = length text - i
+μ-loop style quotes text output₀ at₀ k₀ i₀ output at k i = length text - i
 
 loop-holds : tie.Need-loop-holds Inv-loop μ-loop
-loop-holds c = (search needs, filled-start _ _ (c .before .before .pre))
+loop-holds c = (counted-start (decodeStep (stringOf (c .before .before .args .style) (c .before .before .args .quotes))) (c .before .before .args .text .now), filled-start _ _ (c .before .before .pre))
 
-find-byte-requires : tie.Need-find-byte-requires Inv-loop μ-loop
-find-byte-requires c κs = search needs
+shared-slice-read-if1 : tie.Need-shared-slice-read-if1 Inv-loop μ-loop
+shared-slice-read-if1 c = search needs
+
+sub-put-until : tie.Need-sub-put-until Inv-loop μ-loop
+sub-put-until c = search needs
+
+part-put-until-start : tie.Need-part-put-until-start Inv-loop μ-loop
+part-put-until-start c = search needs
+
+part-put-until-end : tie.Need-part-put-until-end Inv-loop μ-loop
+part-put-until-end c = search needs
+
+put-until-requires : tie.Need-put-until-requires Inv-loop μ-loop
+put-until-requires c κs =
+    let a = c .before .before .before .before .before .before .before .args in
+    let t = a .text .now in
+    let l = c .before .before .before .before .loop in (
+      search needs,
+      λ r near.
+          let next = next-quiet (decodeStep (stringOf (a .style) (a .quotes))) t (l .i) r (near .after) (near .within) (string-quiet (a .style) (a .quotes) t (l .i) r near) in
+          omega (arith, near .after, part-length t (l .i) r (near .after) (near .within), filled-room (l .inv .1) next),
+    )
+
+sub-at : tie.Need-sub-at Inv-loop μ-loop
+sub-at c = omega (arith, c .before .before .put-until .ensures .0 .after)
+
+add-at : tie.Need-add-at Inv-loop μ-loop
+add-at c =
+    let a = c .before .before .before .before .before .before .before .before .before .before .args in
+    let t = a .text .now in
+    let l = c .before .before .before .before .before .before .before .loop in
+    let e = c .before .before .put-until .result in
+    let near = c .before .before .put-until .ensures .0 in
+    let quiet = string-quiet (a .style) (a .quotes) t (l .i) e near in
+    let next = next-quiet (decodeStep (stringOf (a .style) (a .quotes))) t (l .i) e (near .after) (near .within) quiet in
+    let size = part-length t (l .i) e (near .after) (near .within) in
+    omega (arith, size, filled-next (l .inv .1) next)
+
+loop-less : tie.Need-loop-less Inv-loop μ-loop
+loop-less c =
+    let a = c .before .before .before .before .before .before .before .before .before .before .args in
+    let t = a .text .now in
+    let l = c .before .before .before .before .before .before .before .loop in
+    let e = c .before .before .put-until .result in
+    let near = c .before .before .put-until .ensures .0 in
+    omega (arith, nearest-past t (l .i) 92 e (search needs) (c .before .before .before .before .if1 .taken) near, near .within)
+
+loop-again : tie.Need-loop-again Inv-loop μ-loop
+loop-again c =
+    let a = c .before .before .before .before .before .before .before .before .before .before .args in
+    let t = a .text .now in
+    let l = c .before .before .before .before .before .before .before .loop in
+    let e = c .before .before .put-until .result in
+    let near = c .before .before .put-until .ensures .0 in
+    let quiet = string-quiet (a .style) (a .quotes) t (l .i) e near in
+    let next = next-quiet (decodeStep (stringOf (a .style) (a .quotes))) t (l .i) e (near .after) (near .within) quiet in
+    let size = part-length t (l .i) e (near .after) (near .within) in
+    (counted-quiet (l .inv .0) e (near .after) (near .within) quiet, filled-put (l .inv .1) next (c .before .before .put-until .last .1 .1 .1 .0) (e - l .i) (sym size) (c .before .before .put-until .ensures .1))
+
+byte-before-requires : tie.Need-byte-before-requires Inv-loop μ-loop
+byte-before-requires c κs = search needs
+
+sub-escape-length : tie.Need-sub-escape-length Inv-loop μ-loop
+sub-escape-length c = search needs
+
+part-escape-length-start : tie.Need-part-escape-length-start Inv-loop μ-loop
+part-escape-length-start c = search needs
+
+part-escape-length-end : tie.Need-part-escape-length-end Inv-loop μ-loop
+part-escape-length-end c = search needs
+
+escape-length-requires : tie.Need-escape-length-requires Inv-loop μ-loop
+escape-length-requires c κs = search needs
+
+sub-escape-of : tie.Need-sub-escape-of Inv-loop μ-loop
+sub-escape-of c = search needs
+
+part-escape-of-start : tie.Need-part-escape-of-start Inv-loop μ-loop
+part-escape-of-start c = search needs
+
+part-escape-of-end : tie.Need-part-escape-of-end Inv-loop μ-loop
+part-escape-of-end c = search needs
+
+escape-of-requires : tie.Need-escape-of-requires Inv-loop μ-loop
+escape-of-requires c κs = within-most (c .before .before .before .before .before .before .before .before .before .before .args .style) (c .before .escape-length .result) _ (c .before .escape-length .ensures .1)
+
+enum-known-n : tie.Need-enum-known-n Inv-loop μ-loop
+enum-known-n c = search needs
+
+enum-told : tie.Need-enum-told Inv-loop μ-loop
+enum-told c = search needs
+
+add-past : tie.Need-add-past Inv-loop μ-loop
+add-past c = search needs
 
 sub-put : tie.Need-sub-put Inv-loop μ-loop
 sub-put c = search needs
@@ -49,100 +145,117 @@ part-put-end-2 : tie.Need-part-put-end-2 Inv-loop μ-loop
 part-put-end-2 c = search needs
 
 put-requires : tie.Need-put-requires Inv-loop μ-loop
-put-requires c κs = filled-room (c .before .before .before .before .loop .inv .1) (next-quiet (decodeStep (stringOf (c .before .before .before .before .before .before .before .args .style) (c .before .before .before .before .before .before .before .args .quotes))) (c .before .before .before .before .before .before .before .args .text .now) (c .before .before .before .before .loop .i) (c .before .before .find-byte .result) (c .before .before .find-byte .ensures .after) (c .before .before .find-byte .ensures .within) (string-quiet (c .before .before .before .before .before .before .before .args .style) (c .before .before .before .before .before .before .before .args .quotes) (c .before .before .before .before .before .before .before .args .text .now) (c .before .before .before .before .loop .i) (c .before .before .find-byte .result) (c .before .before .find-byte .ensures)))
-
-add-at : tie.Need-add-at Inv-loop μ-loop
-add-at c = omega (arith, c .before .before .put .ensures .0, filled-next (c .before .before .before .before .before .before .before .loop .inv .1) (next-quiet (decodeStep (stringOf (c .before .before .before .before .before .before .before .before .before .before .args .style) (c .before .before .before .before .before .before .before .before .before .before .args .quotes))) (c .before .before .before .before .before .before .before .before .before .before .args .text .now) (c .before .before .before .before .before .before .before .loop .i) (c .before .before .before .before .before .find-byte .result) (c .before .before .before .before .before .find-byte .ensures .after) (c .before .before .before .before .before .find-byte .ensures .within) (string-quiet (c .before .before .before .before .before .before .before .before .before .before .args .style) (c .before .before .before .before .before .before .before .before .before .before .args .quotes) (c .before .before .before .before .before .before .before .before .before .before .args .text .now) (c .before .before .before .before .before .before .before .loop .i) (c .before .before .before .before .before .find-byte .result) (c .before .before .before .before .before .find-byte .ensures))))
-
-same-length : tie.Need-same-length Inv-loop μ-loop
-same-length c = search needs
-
-returns : tie.Need-returns Inv-loop μ-loop
-returns c = filled-all (filled-put (c .before .before .before .before .before .before .before .before .loop .inv .1) (next-quiet (decodeStep (stringOf (c .before .before .before .before .before .before .before .before .before .before .before .args .style) (c .before .before .before .before .before .before .before .before .before .before .before .args .quotes))) (c .before .before .before .before .before .before .before .before .before .before .before .args .text .now) (c .before .before .before .before .before .before .before .before .loop .i) (c .before .before .before .before .before .before .find-byte .result) (c .before .before .before .before .before .before .find-byte .ensures .after) (c .before .before .before .before .before .before .find-byte .ensures .within) (string-quiet (c .before .before .before .before .before .before .before .before .before .before .before .args .style) (c .before .before .before .before .before .before .before .before .before .before .before .args .quotes) (c .before .before .before .before .before .before .before .before .before .before .before .args .text .now) (c .before .before .before .before .before .before .before .before .loop .i) (c .before .before .before .before .before .before .find-byte .result) (c .before .before .before .before .before .before .find-byte .ensures))) (c .before .before .before .put .last .1 .0) (c .before .before .before .put .result) (c .before .before .before .put .ensures .0) (c .before .before .before .put .ensures .1)) (ap result (from-end (decodeStep (stringOf (c .before .before .before .before .before .before .before .before .before .before .before .args .style) (c .before .before .before .before .before .before .before .before .before .before .before .args .quotes))) (c .before .before .before .before .before .before .before .before .before .before .before .args .text .now) (c .before .before .before .before .before .before .find-byte .result) (omega arith)))
-
-byte-before-requires : tie.Need-byte-before-requires Inv-loop μ-loop
-byte-before-requires c κs = search needs
-
-sub-decode-escape : tie.Need-sub-decode-escape Inv-loop μ-loop
-sub-decode-escape c = search needs
-
-part-decode-escape-start : tie.Need-part-decode-escape-start Inv-loop μ-loop
-part-decode-escape-start c = search needs
-
-part-decode-escape-end : tie.Need-part-decode-escape-end Inv-loop μ-loop
-part-decode-escape-end c = search needs
-
-decode-escape-requires : tie.Need-decode-escape-requires Inv-loop μ-loop
-decode-escape-requires c κs = search needs
-
-enum-known-n : tie.Need-enum-known-n Inv-loop μ-loop
-enum-known-n c = search needs
-
-enum-told : tie.Need-enum-told Inv-loop μ-loop
-enum-told c = search needs
-
-add-i : tie.Need-add-i Inv-loop μ-loop
-add-i c = search needs
-
-sub-put-3 : tie.Need-sub-put-3 Inv-loop μ-loop
-sub-put-3 c = search needs
-
-part-put-start-3 : tie.Need-part-put-start-3 Inv-loop μ-loop
-part-put-start-3 c = search needs
-
-part-put-end-3 : tie.Need-part-put-end-3 Inv-loop μ-loop
-part-put-end-3 c = search needs
-
-sub-put-4 : tie.Need-sub-put-4 Inv-loop μ-loop
-sub-put-4 c = filled-within (filled-put (c .before .before .before .before .before .before .before .before .before .before .before .before .before .before .loop .inv .1) (next-quiet (decodeStep (stringOf (c .before .before .before .before .before .before .before .before .before .before .before .before .before .before .before .before .before .args .style) (c .before .before .before .before .before .before .before .before .before .before .before .before .before .before .before .before .before .args .quotes))) (c .before .before .before .before .before .before .before .before .before .before .before .before .before .before .before .before .before .args .text .now) (c .before .before .before .before .before .before .before .before .before .before .before .before .before .before .loop .i) (c .before .before .before .before .before .before .before .before .before .before .before .before .find-byte .result) (c .before .before .before .before .before .before .before .before .before .before .before .before .find-byte .ensures .after) (c .before .before .before .before .before .before .before .before .before .before .before .before .find-byte .ensures .within) (string-quiet (c .before .before .before .before .before .before .before .before .before .before .before .before .before .before .before .before .before .args .style) (c .before .before .before .before .before .before .before .before .before .before .before .before .before .before .before .before .before .args .quotes) (c .before .before .before .before .before .before .before .before .before .before .before .before .before .before .before .before .before .args .text .now) (c .before .before .before .before .before .before .before .before .before .before .before .before .before .before .loop .i) (c .before .before .before .before .before .before .before .before .before .before .before .before .find-byte .result) (c .before .before .before .before .before .before .before .before .before .before .before .before .find-byte .ensures))) (c .before .before .before .before .before .before .before .before .before .put .last .1 .0) (c .before .before .before .before .before .before .before .before .before .put .result) (c .before .before .before .before .before .before .before .before .before .put .ensures .0) (c .before .before .before .before .before .before .before .before .before .put .ensures .1))
-
-part-put-start-4 : tie.Need-part-put-start-4 Inv-loop μ-loop
-part-put-start-4 c = filled-within (filled-put (c .before .before .before .before .before .before .before .before .before .before .before .before .before .before .loop .inv .1) (next-quiet (decodeStep (stringOf (c .before .before .before .before .before .before .before .before .before .before .before .before .before .before .before .before .before .args .style) (c .before .before .before .before .before .before .before .before .before .before .before .before .before .before .before .before .before .args .quotes))) (c .before .before .before .before .before .before .before .before .before .before .before .before .before .before .before .before .before .args .text .now) (c .before .before .before .before .before .before .before .before .before .before .before .before .before .before .loop .i) (c .before .before .before .before .before .before .before .before .before .before .before .before .find-byte .result) (c .before .before .before .before .before .before .before .before .before .before .before .before .find-byte .ensures .after) (c .before .before .before .before .before .before .before .before .before .before .before .before .find-byte .ensures .within) (string-quiet (c .before .before .before .before .before .before .before .before .before .before .before .before .before .before .before .before .before .args .style) (c .before .before .before .before .before .before .before .before .before .before .before .before .before .before .before .before .before .args .quotes) (c .before .before .before .before .before .before .before .before .before .before .before .before .before .before .before .before .before .args .text .now) (c .before .before .before .before .before .before .before .before .before .before .before .before .before .before .loop .i) (c .before .before .before .before .before .before .before .before .before .before .before .before .find-byte .result) (c .before .before .before .before .before .before .before .before .before .before .before .before .find-byte .ensures))) (c .before .before .before .before .before .before .before .before .before .put .last .1 .0) (c .before .before .before .before .before .before .before .before .before .put .result) (c .before .before .before .before .before .before .before .before .before .put .ensures .0) (c .before .before .before .before .before .before .before .before .before .put .ensures .1))
-
-part-put-end-4 : tie.Need-part-put-end-4 Inv-loop μ-loop
-part-put-end-4 c = search needs
-
-put-requires-2 : tie.Need-put-requires-2 Inv-loop μ-loop
-put-requires-2 c κs = filled-room (filled-put (c .before .before .before .before .before .before .before .before .before .before .before .before .before .before .before .loop .inv .1) (next-quiet (decodeStep (stringOf (c .before .before .before .before .before .before .before .before .before .before .before .before .before .before .before .before .before .before .args .style) (c .before .before .before .before .before .before .before .before .before .before .before .before .before .before .before .before .before .before .args .quotes))) (c .before .before .before .before .before .before .before .before .before .before .before .before .before .before .before .before .before .before .args .text .now) (c .before .before .before .before .before .before .before .before .before .before .before .before .before .before .before .loop .i) (c .before .before .before .before .before .before .before .before .before .before .before .before .before .find-byte .result) (c .before .before .before .before .before .before .before .before .before .before .before .before .before .find-byte .ensures .after) (c .before .before .before .before .before .before .before .before .before .before .before .before .before .find-byte .ensures .within) (string-quiet (c .before .before .before .before .before .before .before .before .before .before .before .before .before .before .before .before .before .before .args .style) (c .before .before .before .before .before .before .before .before .before .before .before .before .before .before .before .before .before .before .args .quotes) (c .before .before .before .before .before .before .before .before .before .before .before .before .before .before .before .before .before .before .args .text .now) (c .before .before .before .before .before .before .before .before .before .before .before .before .before .before .before .loop .i) (c .before .before .before .before .before .before .before .before .before .before .before .before .before .find-byte .result) (c .before .before .before .before .before .before .before .before .before .before .before .before .before .find-byte .ensures))) (c .before .before .before .before .before .before .before .before .before .before .put .last .1 .0) (c .before .before .before .before .before .before .before .before .before .before .put .result) (c .before .before .before .before .before .before .before .before .before .before .put .ensures .0) (c .before .before .before .before .before .before .before .before .before .before .put .ensures .1)) (next-keep (decodeStep (stringOf (c .before .before .before .before .before .before .before .before .before .before .before .before .before .before .before .before .before .before .args .style) (c .before .before .before .before .before .before .before .before .before .before .before .before .before .before .before .before .before .before .args .quotes))) (c .before .before .before .before .before .before .before .before .before .before .before .before .before .before .before .before .before .before .args .text .now) (c .before .before .before .before .before .before .before .before .before .before .before .before .before .find-byte .result) (omega arith) (escape-here (stringOf (c .before .before .before .before .before .before .before .before .before .before .before .before .before .before .before .before .before .before .args .style) (c .before .before .before .before .before .before .before .before .before .before .before .before .before .before .before .before .before .before .args .quotes)) (c .before .before .before .before .before .before .before .before .before .before .before .before .before .before .before .before .before .before .args .text .now) (c .before .before .before .before .before .before .before .before .before .before .before .before .before .find-byte .result) (c .before .before .before .before .before .before .byte-before .result) Nothing (c .before .before .before .before .before .before .byte-before .ensures) (rw (c .before .before .enum-told .given .1) at (c .before .before .before .before .decode-escape .ensures .0))))
+put-requires c κs =
+    let a = c .before .before .before .before .before .before .before .before .before .before .before .before .before .before .before .args in
+    let t = a .text .now in
+    let l = c .before .before .before .before .before .before .before .before .before .before .before .before .loop in
+    let told = told-here (a .style) (a .quotes) t (l .i) (c .before .before .before .before .before .before .before .before .byte-before .result) (c .before .before .before .before .before .before .escape-length .result) Nothing (c .before .before .before .before .before .before .before .before .byte-before .ensures) (sym (c .before .before .enum-told .given .1) ∙ c .before .before .before .before .escape-of .ensures) (c .before .before .before .before .before .before .escape-length .ensures) in
+    let next = next-keep (decodeStep (stringOf (a .style) (a .quotes))) t (l .i) (search needs) (told .0) in
+    filled-room (l .inv .1) next
 
 add-at-2 : tie.Need-add-at-2 Inv-loop μ-loop
-add-at-2 c = omega (arith, c .before .before .put2 .ensures .0, filled-next (filled-put (c .before .before .before .before .before .before .before .before .before .before .before .before .before .before .before .before .before .before .loop .inv .1) (next-quiet (decodeStep (stringOf (c .before .before .before .before .before .before .before .before .before .before .before .before .before .before .before .before .before .before .before .before .before .args .style) (c .before .before .before .before .before .before .before .before .before .before .before .before .before .before .before .before .before .before .before .before .before .args .quotes))) (c .before .before .before .before .before .before .before .before .before .before .before .before .before .before .before .before .before .before .before .before .before .args .text .now) (c .before .before .before .before .before .before .before .before .before .before .before .before .before .before .before .before .before .before .loop .i) (c .before .before .before .before .before .before .before .before .before .before .before .before .before .before .before .before .find-byte .result) (c .before .before .before .before .before .before .before .before .before .before .before .before .before .before .before .before .find-byte .ensures .after) (c .before .before .before .before .before .before .before .before .before .before .before .before .before .before .before .before .find-byte .ensures .within) (string-quiet (c .before .before .before .before .before .before .before .before .before .before .before .before .before .before .before .before .before .before .before .before .before .args .style) (c .before .before .before .before .before .before .before .before .before .before .before .before .before .before .before .before .before .before .before .before .before .args .quotes) (c .before .before .before .before .before .before .before .before .before .before .before .before .before .before .before .before .before .before .before .before .before .args .text .now) (c .before .before .before .before .before .before .before .before .before .before .before .before .before .before .before .before .before .before .loop .i) (c .before .before .before .before .before .before .before .before .before .before .before .before .before .before .before .before .find-byte .result) (c .before .before .before .before .before .before .before .before .before .before .before .before .before .before .before .before .find-byte .ensures))) (c .before .before .before .before .before .before .before .before .before .before .before .before .before .put .last .1 .0) (c .before .before .before .before .before .before .before .before .before .before .before .before .before .put .result) (c .before .before .before .before .before .before .before .before .before .before .before .before .before .put .ensures .0) (c .before .before .before .before .before .before .before .before .before .before .before .before .before .put .ensures .1)) (next-keep (decodeStep (stringOf (c .before .before .before .before .before .before .before .before .before .before .before .before .before .before .before .before .before .before .before .before .before .args .style) (c .before .before .before .before .before .before .before .before .before .before .before .before .before .before .before .before .before .before .before .before .before .args .quotes))) (c .before .before .before .before .before .before .before .before .before .before .before .before .before .before .before .before .before .before .before .before .before .args .text .now) (c .before .before .before .before .before .before .before .before .before .before .before .before .before .before .before .before .find-byte .result) (omega arith) (escape-here (stringOf (c .before .before .before .before .before .before .before .before .before .before .before .before .before .before .before .before .before .before .before .before .before .args .style) (c .before .before .before .before .before .before .before .before .before .before .before .before .before .before .before .before .before .before .before .before .before .args .quotes)) (c .before .before .before .before .before .before .before .before .before .before .before .before .before .before .before .before .before .before .before .before .before .args .text .now) (c .before .before .before .before .before .before .before .before .before .before .before .before .before .before .before .before .find-byte .result) (c .before .before .before .before .before .before .before .before .before .byte-before .result) Nothing (c .before .before .before .before .before .before .before .before .before .byte-before .ensures) (rw (c .before .before .before .before .before .enum-told .given .1) at (c .before .before .before .before .before .before .before .decode-escape .ensures .0)))))
+add-at-2 c =
+    let a = c .before .before .before .before .before .before .before .before .before .before .before .before .before .before .before .before .before .before .args in
+    let t = a .text .now in
+    let l = c .before .before .before .before .before .before .before .before .before .before .before .before .before .before .before .loop in
+    let told = told-here (a .style) (a .quotes) t (l .i) (c .before .before .before .before .before .before .before .before .before .before .before .byte-before .result) (c .before .before .before .before .before .before .before .before .before .escape-length .result) Nothing (c .before .before .before .before .before .before .before .before .before .before .before .byte-before .ensures) (sym (c .before .before .before .before .before .enum-told .given .1) ∙ c .before .before .before .before .before .before .before .escape-of .ensures) (c .before .before .before .before .before .before .before .before .before .escape-length .ensures) in
+    let next = next-keep (decodeStep (stringOf (a .style) (a .quotes))) t (l .i) (search needs) (told .0) in
+    omega (arith, c .before .before .put .ensures .0, filled-next (l .inv .1) next)
 
-loop-less : tie.Need-loop-less Inv-loop μ-loop
-loop-less c = less-left (length (c .before .before .before .before .before .before .before .before .before .before .before .before .before .before .before .before .before .before .before .before .before .args .text .now)) (c .before .before .before .before .before .before .before .before .before .before .before .before .before .before .before .before .before .before .loop .i) (c .before .before .before .before .before .before .before .before .before .before .before .before .before .before .before .before .find-byte .result) 1 (c .before .before .before .before .before .before .before .before .before .before .before .before .before .before .before .before .find-byte .ensures .after) (omega arith) (omega arith)
+loop-less-2 : tie.Need-loop-less-2 Inv-loop μ-loop
+loop-less-2 c = search needs
 
-loop-again : tie.Need-loop-again Inv-loop μ-loop
-loop-again c = (search needs, filled-put (filled-put (c .before .before .before .before .before .before .before .before .before .before .before .before .before .before .before .before .before .before .loop .inv .1) (next-quiet (decodeStep (stringOf (c .before .before .before .before .before .before .before .before .before .before .before .before .before .before .before .before .before .before .before .before .before .args .style) (c .before .before .before .before .before .before .before .before .before .before .before .before .before .before .before .before .before .before .before .before .before .args .quotes))) (c .before .before .before .before .before .before .before .before .before .before .before .before .before .before .before .before .before .before .before .before .before .args .text .now) (c .before .before .before .before .before .before .before .before .before .before .before .before .before .before .before .before .before .before .loop .i) (c .before .before .before .before .before .before .before .before .before .before .before .before .before .before .before .before .find-byte .result) (c .before .before .before .before .before .before .before .before .before .before .before .before .before .before .before .before .find-byte .ensures .after) (c .before .before .before .before .before .before .before .before .before .before .before .before .before .before .before .before .find-byte .ensures .within) (string-quiet (c .before .before .before .before .before .before .before .before .before .before .before .before .before .before .before .before .before .before .before .before .before .args .style) (c .before .before .before .before .before .before .before .before .before .before .before .before .before .before .before .before .before .before .before .before .before .args .quotes) (c .before .before .before .before .before .before .before .before .before .before .before .before .before .before .before .before .before .before .before .before .before .args .text .now) (c .before .before .before .before .before .before .before .before .before .before .before .before .before .before .before .before .before .before .loop .i) (c .before .before .before .before .before .before .before .before .before .before .before .before .before .before .before .before .find-byte .result) (c .before .before .before .before .before .before .before .before .before .before .before .before .before .before .before .before .find-byte .ensures))) (c .before .before .before .before .before .before .before .before .before .before .before .before .before .put .last .1 .0) (c .before .before .before .before .before .before .before .before .before .before .before .before .before .put .result) (c .before .before .before .before .before .before .before .before .before .before .before .before .before .put .ensures .0) (c .before .before .before .before .before .before .before .before .before .before .before .before .before .put .ensures .1)) (next-keep (decodeStep (stringOf (c .before .before .before .before .before .before .before .before .before .before .before .before .before .before .before .before .before .before .before .before .before .args .style) (c .before .before .before .before .before .before .before .before .before .before .before .before .before .before .before .before .before .before .before .before .before .args .quotes))) (c .before .before .before .before .before .before .before .before .before .before .before .before .before .before .before .before .before .before .before .before .before .args .text .now) (c .before .before .before .before .before .before .before .before .before .before .before .before .before .before .before .before .find-byte .result) (omega arith) (escape-here (stringOf (c .before .before .before .before .before .before .before .before .before .before .before .before .before .before .before .before .before .before .before .before .before .args .style) (c .before .before .before .before .before .before .before .before .before .before .before .before .before .before .before .before .before .before .before .before .before .args .quotes)) (c .before .before .before .before .before .before .before .before .before .before .before .before .before .before .before .before .before .before .before .before .before .args .text .now) (c .before .before .before .before .before .before .before .before .before .before .before .before .before .before .before .before .find-byte .result) (c .before .before .before .before .before .before .before .before .before .byte-before .result) Nothing (c .before .before .before .before .before .before .before .before .before .byte-before .ensures) (rw (c .before .before .before .before .before .enum-told .given .1) at (c .before .before .before .before .before .before .before .decode-escape .ensures .0)))) (c .before .before .put2 .last .1 .0) (c .before .before .put2 .result) (c .before .before .put2 .ensures .0) (c .before .before .put2 .ensures .1))
+loop-again-2 : tie.Need-loop-again-2 Inv-loop μ-loop
+loop-again-2 c =
+    let a = c .before .before .before .before .before .before .before .before .before .before .before .before .before .before .before .before .before .before .args in
+    let t = a .text .now in
+    let l = c .before .before .before .before .before .before .before .before .before .before .before .before .before .before .before .loop in
+    let told = told-here (a .style) (a .quotes) t (l .i) (c .before .before .before .before .before .before .before .before .before .before .before .byte-before .result) (c .before .before .before .before .before .before .before .before .before .escape-length .result) Nothing (c .before .before .before .before .before .before .before .before .before .before .before .byte-before .ensures) (sym (c .before .before .before .before .before .enum-told .given .1) ∙ c .before .before .before .before .before .before .before .escape-of .ensures) (c .before .before .before .before .before .before .before .before .before .escape-length .ensures) in
+    let next = next-keep (decodeStep (stringOf (a .style) (a .quotes))) t (l .i) (search needs) (told .0) in
+    let one : c .before .before .put .result ≡ 1 = omega (arith, c .before .before .put .ensures .0, part-length t (l .i) (l .i + 1) (omega arith) (search needs)) in
+    (rw one (counted-keep (l .inv .0) (search needs) (told .0)), filled-put (l .inv .1) next (c .before .before .put .last .1 .0) (c .before .before .put .result) (c .before .before .put .ensures .0) (c .before .before .put .ensures .1))
 
 sub-put-char : tie.Need-sub-put-char Inv-loop μ-loop
-sub-put-char c = filled-within (filled-put (c .before .before .before .before .before .before .before .before .before .before .before .before .before .before .loop .inv .1) (next-quiet (decodeStep (stringOf (c .before .before .before .before .before .before .before .before .before .before .before .before .before .before .before .before .before .args .style) (c .before .before .before .before .before .before .before .before .before .before .before .before .before .before .before .before .before .args .quotes))) (c .before .before .before .before .before .before .before .before .before .before .before .before .before .before .before .before .before .args .text .now) (c .before .before .before .before .before .before .before .before .before .before .before .before .before .before .loop .i) (c .before .before .before .before .before .before .before .before .before .before .before .before .find-byte .result) (c .before .before .before .before .before .before .before .before .before .before .before .before .find-byte .ensures .after) (c .before .before .before .before .before .before .before .before .before .before .before .before .find-byte .ensures .within) (string-quiet (c .before .before .before .before .before .before .before .before .before .before .before .before .before .before .before .before .before .args .style) (c .before .before .before .before .before .before .before .before .before .before .before .before .before .before .before .before .before .args .quotes) (c .before .before .before .before .before .before .before .before .before .before .before .before .before .before .before .before .before .args .text .now) (c .before .before .before .before .before .before .before .before .before .before .before .before .before .before .loop .i) (c .before .before .before .before .before .before .before .before .before .before .before .before .find-byte .result) (c .before .before .before .before .before .before .before .before .before .before .before .before .find-byte .ensures))) (c .before .before .before .before .before .before .before .before .before .put .last .1 .0) (c .before .before .before .before .before .before .before .before .before .put .result) (c .before .before .before .before .before .before .before .before .before .put .ensures .0) (c .before .before .before .before .before .before .before .before .before .put .ensures .1))
+sub-put-char c = search needs
 
 part-put-char-start : tie.Need-part-put-char-start Inv-loop μ-loop
-part-put-char-start c = filled-within (filled-put (c .before .before .before .before .before .before .before .before .before .before .before .before .before .before .loop .inv .1) (next-quiet (decodeStep (stringOf (c .before .before .before .before .before .before .before .before .before .before .before .before .before .before .before .before .before .args .style) (c .before .before .before .before .before .before .before .before .before .before .before .before .before .before .before .before .before .args .quotes))) (c .before .before .before .before .before .before .before .before .before .before .before .before .before .before .before .before .before .args .text .now) (c .before .before .before .before .before .before .before .before .before .before .before .before .before .before .loop .i) (c .before .before .before .before .before .before .before .before .before .before .before .before .find-byte .result) (c .before .before .before .before .before .before .before .before .before .before .before .before .find-byte .ensures .after) (c .before .before .before .before .before .before .before .before .before .before .before .before .find-byte .ensures .within) (string-quiet (c .before .before .before .before .before .before .before .before .before .before .before .before .before .before .before .before .before .args .style) (c .before .before .before .before .before .before .before .before .before .before .before .before .before .before .before .before .before .args .quotes) (c .before .before .before .before .before .before .before .before .before .before .before .before .before .before .before .before .before .args .text .now) (c .before .before .before .before .before .before .before .before .before .before .before .before .before .before .loop .i) (c .before .before .before .before .before .before .before .before .before .before .before .before .find-byte .result) (c .before .before .before .before .before .before .before .before .before .before .before .before .find-byte .ensures))) (c .before .before .before .before .before .before .before .before .before .put .last .1 .0) (c .before .before .before .before .before .before .before .before .before .put .result) (c .before .before .before .before .before .before .before .before .before .put .ensures .0) (c .before .before .before .before .before .before .before .before .before .put .ensures .1))
+part-put-char-start c = search needs
 
 part-put-char-end : tie.Need-part-put-char-end Inv-loop μ-loop
 part-put-char-end c = search needs
 
 put-char-requires : tie.Need-put-char-requires Inv-loop μ-loop
-put-char-requires c κs = let w = within-rest (c .before .before .before .before .before .before .before .before .before .before .before .before .before .before .before .before .before .before .args .text .now) (c .before .before .before .before .before .before .before .before .before .before .before .before .before .find-byte .result) (c .before .before .n .given .0 .0) (c .before .before .n .given .0 .1 .0) (rw (c .before .before .n .given .1) at (c .before .before .before .before .decode-escape .ensures .1)) in (omega (arith, w .3), filled-room (filled-put (c .before .before .before .before .before .before .before .before .before .before .before .before .before .before .before .loop .inv .1) (next-quiet (decodeStep (stringOf (c .before .before .before .before .before .before .before .before .before .before .before .before .before .before .before .before .before .before .args .style) (c .before .before .before .before .before .before .before .before .before .before .before .before .before .before .before .before .before .before .args .quotes))) (c .before .before .before .before .before .before .before .before .before .before .before .before .before .before .before .before .before .before .args .text .now) (c .before .before .before .before .before .before .before .before .before .before .before .before .before .before .before .loop .i) (c .before .before .before .before .before .before .before .before .before .before .before .before .before .find-byte .result) (c .before .before .before .before .before .before .before .before .before .before .before .before .before .find-byte .ensures .after) (c .before .before .before .before .before .before .before .before .before .before .before .before .before .find-byte .ensures .within) (string-quiet (c .before .before .before .before .before .before .before .before .before .before .before .before .before .before .before .before .before .before .args .style) (c .before .before .before .before .before .before .before .before .before .before .before .before .before .before .before .before .before .before .args .quotes) (c .before .before .before .before .before .before .before .before .before .before .before .before .before .before .before .before .before .before .args .text .now) (c .before .before .before .before .before .before .before .before .before .before .before .before .before .before .before .loop .i) (c .before .before .before .before .before .before .before .before .before .before .before .before .before .find-byte .result) (c .before .before .before .before .before .before .before .before .before .before .before .before .before .find-byte .ensures))) (c .before .before .before .before .before .before .before .before .before .before .put .last .1 .0) (c .before .before .before .before .before .before .before .before .before .before .put .result) (c .before .before .before .before .before .before .before .before .before .before .put .ensures .0) (c .before .before .before .before .before .before .before .before .before .before .put .ensures .1)) (next-swap (decodeStep (stringOf (c .before .before .before .before .before .before .before .before .before .before .before .before .before .before .before .before .before .before .args .style) (c .before .before .before .before .before .before .before .before .before .before .before .before .before .before .before .before .before .before .args .quotes))) (c .before .before .before .before .before .before .before .before .before .before .before .before .before .before .before .before .before .before .args .text .now) (c .before .before .before .before .before .before .before .before .before .before .before .before .before .find-byte .result) (c .before .before .n .given .0 .0) (utf8 (c .before .before .n .given .0 .1 .0)) (w .0) (w .1) (escape-here (stringOf (c .before .before .before .before .before .before .before .before .before .before .before .before .before .before .before .before .before .before .args .style) (c .before .before .before .before .before .before .before .before .before .before .before .before .before .before .before .before .before .before .args .quotes)) (c .before .before .before .before .before .before .before .before .before .before .before .before .before .before .before .before .before .before .args .text .now) (c .before .before .before .before .before .before .before .before .before .before .before .before .before .find-byte .result) (c .before .before .before .before .before .before .byte-before .result) (Taken (c .before .before .n .given .0 .0) (c .before .before .n .given .0 .1 .0)) (c .before .before .before .before .before .before .byte-before .ensures) (rw (c .before .before .n .given .1) at (c .before .before .before .before .decode-escape .ensures .0)))))
+put-char-requires c κs =
+    let a = c .before .before .before .before .before .before .before .before .before .before .before .before .before .before .before .args in
+    let t = a .text .now in
+    let l = c .before .before .before .before .before .before .before .before .before .before .before .before .loop in
+    let n = c .before .before .n .given .0 .0 in
+    let b = c .before .before .n .given .0 .1 .0 in
+    let told = told-here (a .style) (a .quotes) t (l .i) (c .before .before .before .before .before .before .before .before .byte-before .result) (c .before .before .before .before .before .before .escape-length .result) (Taken n b) (c .before .before .before .before .before .before .before .before .byte-before .ensures) (sym (c .before .before .n .given .1) ∙ c .before .before .before .before .escape-of .ensures) (c .before .before .before .before .before .before .escape-length .ensures) in
+    let w = within-rest t (l .i) n b (told .1) in
+    let next = next-swap (decodeStep (stringOf (a .style) (a .quotes))) t (l .i) n (utf8 b) (w .0) (w .1) (told .0) in
+    (omega (arith, w .3), filled-room (l .inv .1) next)
 
 add-at-3 : tie.Need-add-at-3 Inv-loop μ-loop
-add-at-3 c = let w = within-rest (c .before .before .before .before .before .before .before .before .before .before .before .before .before .before .before .before .before .before .before .before .before .args .text .now) (c .before .before .before .before .before .before .before .before .before .before .before .before .before .before .before .before .find-byte .result) (c .before .before .before .before .before .n .given .0 .0) (c .before .before .before .before .before .n .given .0 .1 .0) (rw (c .before .before .before .before .before .n .given .1) at (c .before .before .before .before .before .before .before .decode-escape .ensures .1)) in omega (arith, c .before .before .put-char .ensures .0, filled-next (filled-put (c .before .before .before .before .before .before .before .before .before .before .before .before .before .before .before .before .before .before .loop .inv .1) (next-quiet (decodeStep (stringOf (c .before .before .before .before .before .before .before .before .before .before .before .before .before .before .before .before .before .before .before .before .before .args .style) (c .before .before .before .before .before .before .before .before .before .before .before .before .before .before .before .before .before .before .before .before .before .args .quotes))) (c .before .before .before .before .before .before .before .before .before .before .before .before .before .before .before .before .before .before .before .before .before .args .text .now) (c .before .before .before .before .before .before .before .before .before .before .before .before .before .before .before .before .before .before .loop .i) (c .before .before .before .before .before .before .before .before .before .before .before .before .before .before .before .before .find-byte .result) (c .before .before .before .before .before .before .before .before .before .before .before .before .before .before .before .before .find-byte .ensures .after) (c .before .before .before .before .before .before .before .before .before .before .before .before .before .before .before .before .find-byte .ensures .within) (string-quiet (c .before .before .before .before .before .before .before .before .before .before .before .before .before .before .before .before .before .before .before .before .before .args .style) (c .before .before .before .before .before .before .before .before .before .before .before .before .before .before .before .before .before .before .before .before .before .args .quotes) (c .before .before .before .before .before .before .before .before .before .before .before .before .before .before .before .before .before .before .before .before .before .args .text .now) (c .before .before .before .before .before .before .before .before .before .before .before .before .before .before .before .before .before .before .loop .i) (c .before .before .before .before .before .before .before .before .before .before .before .before .before .before .before .before .find-byte .result) (c .before .before .before .before .before .before .before .before .before .before .before .before .before .before .before .before .find-byte .ensures))) (c .before .before .before .before .before .before .before .before .before .before .before .before .before .put .last .1 .0) (c .before .before .before .before .before .before .before .before .before .before .before .before .before .put .result) (c .before .before .before .before .before .before .before .before .before .before .before .before .before .put .ensures .0) (c .before .before .before .before .before .before .before .before .before .before .before .before .before .put .ensures .1)) (next-swap (decodeStep (stringOf (c .before .before .before .before .before .before .before .before .before .before .before .before .before .before .before .before .before .before .before .before .before .args .style) (c .before .before .before .before .before .before .before .before .before .before .before .before .before .before .before .before .before .before .before .before .before .args .quotes))) (c .before .before .before .before .before .before .before .before .before .before .before .before .before .before .before .before .before .before .before .before .before .args .text .now) (c .before .before .before .before .before .before .before .before .before .before .before .before .before .before .before .before .find-byte .result) (c .before .before .before .before .before .n .given .0 .0) (utf8 (c .before .before .before .before .before .n .given .0 .1 .0)) (w .0) (w .1) (escape-here (stringOf (c .before .before .before .before .before .before .before .before .before .before .before .before .before .before .before .before .before .before .before .before .before .args .style) (c .before .before .before .before .before .before .before .before .before .before .before .before .before .before .before .before .before .before .before .before .before .args .quotes)) (c .before .before .before .before .before .before .before .before .before .before .before .before .before .before .before .before .before .before .before .before .before .args .text .now) (c .before .before .before .before .before .before .before .before .before .before .before .before .before .before .before .before .find-byte .result) (c .before .before .before .before .before .before .before .before .before .byte-before .result) (Taken (c .before .before .before .before .before .n .given .0 .0) (c .before .before .before .before .before .n .given .0 .1 .0)) (c .before .before .before .before .before .before .before .before .before .byte-before .ensures) (rw (c .before .before .before .before .before .n .given .1) at (c .before .before .before .before .before .before .before .decode-escape .ensures .0)))))
+add-at-3 c =
+    let a = c .before .before .before .before .before .before .before .before .before .before .before .before .before .before .before .before .before .before .args in
+    let t = a .text .now in
+    let l = c .before .before .before .before .before .before .before .before .before .before .before .before .before .before .before .loop in
+    let n = c .before .before .before .before .before .n .given .0 .0 in
+    let b = c .before .before .before .before .before .n .given .0 .1 .0 in
+    let told = told-here (a .style) (a .quotes) t (l .i) (c .before .before .before .before .before .before .before .before .before .before .before .byte-before .result) (c .before .before .before .before .before .before .before .before .before .escape-length .result) (Taken n b) (c .before .before .before .before .before .before .before .before .before .before .before .byte-before .ensures) (sym (c .before .before .before .before .before .n .given .1) ∙ c .before .before .before .before .before .before .before .escape-of .ensures) (c .before .before .before .before .before .before .before .before .before .escape-length .ensures) in
+    let w = within-rest t (l .i) n b (told .1) in
+    let next = next-swap (decodeStep (stringOf (a .style) (a .quotes))) t (l .i) n (utf8 b) (w .0) (w .1) (told .0) in
+    omega (arith, c .before .before .put-char .ensures .0, filled-next (l .inv .1) next)
 
-add-i-2 : tie.Need-add-i-2 Inv-loop μ-loop
-add-i-2 c = let w = within-rest (c .before .before .before .before .before .before .before .before .before .before .before .before .before .before .before .before .before .before .before .before .before .args .text .now) (c .before .before .before .before .before .before .before .before .before .before .before .before .before .before .before .before .find-byte .result) (c .before .before .before .before .before .n .given .0 .0) (c .before .before .before .before .before .n .given .0 .1 .0) (rw (c .before .before .before .before .before .n .given .1) at (c .before .before .before .before .before .before .before .decode-escape .ensures .1)) in omega (arith, w .1)
+add-escapes : tie.Need-add-escapes Inv-loop μ-loop
+add-escapes c = search needs
 
-loop-less-2 : tie.Need-loop-less-2 Inv-loop μ-loop
-loop-less-2 c = let w = within-rest (c .before .before .before .before .before .before .before .before .before .before .before .before .before .before .before .before .before .before .before .before .before .args .text .now) (c .before .before .before .before .before .before .before .before .before .before .before .before .before .before .before .before .find-byte .result) (c .before .before .before .before .before .n .given .0 .0) (c .before .before .before .before .before .n .given .0 .1 .0) (rw (c .before .before .before .before .before .n .given .1) at (c .before .before .before .before .before .before .before .decode-escape .ensures .1)) in less-left (length (c .before .before .before .before .before .before .before .before .before .before .before .before .before .before .before .before .before .before .before .before .before .args .text .now)) (c .before .before .before .before .before .before .before .before .before .before .before .before .before .before .before .before .before .before .loop .i) (c .before .before .before .before .before .before .before .before .before .before .before .before .before .before .before .before .find-byte .result) (c .before .before .before .before .before .n .given .0 .0) (c .before .before .before .before .before .before .before .before .before .before .before .before .before .before .before .before .find-byte .ensures .after) (w .0) (w .1)
+add-i : tie.Need-add-i Inv-loop μ-loop
+add-i c =
+    let a = c .before .before .before .before .before .before .before .before .before .before .before .before .before .before .before .before .before .before .args in
+    let t = a .text .now in
+    let l = c .before .before .before .before .before .before .before .before .before .before .before .before .before .before .before .loop in
+    let n = c .before .before .before .before .before .n .given .0 .0 in
+    let b = c .before .before .before .before .before .n .given .0 .1 .0 in
+    let told = told-here (a .style) (a .quotes) t (l .i) (c .before .before .before .before .before .before .before .before .before .before .before .byte-before .result) (c .before .before .before .before .before .before .before .before .before .escape-length .result) (Taken n b) (c .before .before .before .before .before .before .before .before .before .before .before .byte-before .ensures) (sym (c .before .before .before .before .before .n .given .1) ∙ c .before .before .before .before .before .before .before .escape-of .ensures) (c .before .before .before .before .before .before .before .before .before .escape-length .ensures) in
+    let w = within-rest t (l .i) n b (told .1) in
+    omega (arith, w .1)
 
-loop-again-2 : tie.Need-loop-again-2 Inv-loop μ-loop
-loop-again-2 c = let w = within-rest (c .before .before .before .before .before .before .before .before .before .before .before .before .before .before .before .before .before .before .before .before .before .args .text .now) (c .before .before .before .before .before .before .before .before .before .before .before .before .before .before .before .before .find-byte .result) (c .before .before .before .before .before .n .given .0 .0) (c .before .before .before .before .before .n .given .0 .1 .0) (rw (c .before .before .before .before .before .n .given .1) at (c .before .before .before .before .before .before .before .decode-escape .ensures .1)) in (w .1, filled-put (filled-put (c .before .before .before .before .before .before .before .before .before .before .before .before .before .before .before .before .before .before .loop .inv .1) (next-quiet (decodeStep (stringOf (c .before .before .before .before .before .before .before .before .before .before .before .before .before .before .before .before .before .before .before .before .before .args .style) (c .before .before .before .before .before .before .before .before .before .before .before .before .before .before .before .before .before .before .before .before .before .args .quotes))) (c .before .before .before .before .before .before .before .before .before .before .before .before .before .before .before .before .before .before .before .before .before .args .text .now) (c .before .before .before .before .before .before .before .before .before .before .before .before .before .before .before .before .before .before .loop .i) (c .before .before .before .before .before .before .before .before .before .before .before .before .before .before .before .before .find-byte .result) (c .before .before .before .before .before .before .before .before .before .before .before .before .before .before .before .before .find-byte .ensures .after) (c .before .before .before .before .before .before .before .before .before .before .before .before .before .before .before .before .find-byte .ensures .within) (string-quiet (c .before .before .before .before .before .before .before .before .before .before .before .before .before .before .before .before .before .before .before .before .before .args .style) (c .before .before .before .before .before .before .before .before .before .before .before .before .before .before .before .before .before .before .before .before .before .args .quotes) (c .before .before .before .before .before .before .before .before .before .before .before .before .before .before .before .before .before .before .before .before .before .args .text .now) (c .before .before .before .before .before .before .before .before .before .before .before .before .before .before .before .before .before .before .loop .i) (c .before .before .before .before .before .before .before .before .before .before .before .before .before .before .before .before .find-byte .result) (c .before .before .before .before .before .before .before .before .before .before .before .before .before .before .before .before .find-byte .ensures))) (c .before .before .before .before .before .before .before .before .before .before .before .before .before .put .last .1 .0) (c .before .before .before .before .before .before .before .before .before .before .before .before .before .put .result) (c .before .before .before .before .before .before .before .before .before .before .before .before .before .put .ensures .0) (c .before .before .before .before .before .before .before .before .before .before .before .before .before .put .ensures .1)) (next-swap (decodeStep (stringOf (c .before .before .before .before .before .before .before .before .before .before .before .before .before .before .before .before .before .before .before .before .before .args .style) (c .before .before .before .before .before .before .before .before .before .before .before .before .before .before .before .before .before .before .before .before .before .args .quotes))) (c .before .before .before .before .before .before .before .before .before .before .before .before .before .before .before .before .before .before .before .before .before .args .text .now) (c .before .before .before .before .before .before .before .before .before .before .before .before .before .before .before .before .find-byte .result) (c .before .before .before .before .before .n .given .0 .0) (utf8 (c .before .before .before .before .before .n .given .0 .1 .0)) (w .0) (w .1) (escape-here (stringOf (c .before .before .before .before .before .before .before .before .before .before .before .before .before .before .before .before .before .before .before .before .before .args .style) (c .before .before .before .before .before .before .before .before .before .before .before .before .before .before .before .before .before .before .before .before .before .args .quotes)) (c .before .before .before .before .before .before .before .before .before .before .before .before .before .before .before .before .before .before .before .before .before .args .text .now) (c .before .before .before .before .before .before .before .before .before .before .before .before .before .before .before .before .find-byte .result) (c .before .before .before .before .before .before .before .before .before .byte-before .result) (Taken (c .before .before .before .before .before .n .given .0 .0) (c .before .before .before .before .before .n .given .0 .1 .0)) (c .before .before .before .before .before .before .before .before .before .byte-before .ensures) (rw (c .before .before .before .before .before .n .given .1) at (c .before .before .before .before .before .before .before .decode-escape .ensures .0)))) (c .before .before .put-char .last .1 .0) (c .before .before .put-char .result) (c .before .before .put-char .ensures .0) (c .before .before .put-char .ensures .1))
+loop-less-3 : tie.Need-loop-less-3 Inv-loop μ-loop
+loop-less-3 c =
+    let a = c .before .before .before .before .before .before .before .before .before .before .before .before .before .before .before .before .before .before .args in
+    let t = a .text .now in
+    let l = c .before .before .before .before .before .before .before .before .before .before .before .before .before .before .before .loop in
+    let n = c .before .before .before .before .before .n .given .0 .0 in
+    let b = c .before .before .before .before .before .n .given .0 .1 .0 in
+    let told = told-here (a .style) (a .quotes) t (l .i) (c .before .before .before .before .before .before .before .before .before .before .before .byte-before .result) (c .before .before .before .before .before .before .before .before .before .escape-length .result) (Taken n b) (c .before .before .before .before .before .before .before .before .before .before .before .byte-before .ensures) (sym (c .before .before .before .before .before .n .given .1) ∙ c .before .before .before .before .before .before .before .escape-of .ensures) (c .before .before .before .before .before .before .before .before .before .escape-length .ensures) in
+    let w = within-rest t (l .i) n b (told .1) in
+    omega (arith, w .0, w .1)
 
-same-length-2 : tie.Need-same-length-2 Inv-loop μ-loop
-same-length-2 c = search needs
+loop-again-3 : tie.Need-loop-again-3 Inv-loop μ-loop
+loop-again-3 c =
+    let a = c .before .before .before .before .before .before .before .before .before .before .before .before .before .before .before .before .before .before .args in
+    let t = a .text .now in
+    let l = c .before .before .before .before .before .before .before .before .before .before .before .before .before .before .before .loop in
+    let n = c .before .before .before .before .before .n .given .0 .0 in
+    let b = c .before .before .before .before .before .n .given .0 .1 .0 in
+    let told = told-here (a .style) (a .quotes) t (l .i) (c .before .before .before .before .before .before .before .before .before .before .before .byte-before .result) (c .before .before .before .before .before .before .before .before .before .escape-length .result) (Taken n b) (c .before .before .before .before .before .before .before .before .before .before .before .byte-before .ensures) (sym (c .before .before .before .before .before .n .given .1) ∙ c .before .before .before .before .before .before .before .escape-of .ensures) (c .before .before .before .before .before .before .before .before .before .escape-length .ensures) in
+    let w = within-rest t (l .i) n b (told .1) in
+    let next = next-swap (decodeStep (stringOf (a .style) (a .quotes))) t (l .i) n (utf8 b) (w .0) (w .1) (told .0) in
+    (rw (c .before .before .put-char .ensures .0) (counted-swap (l .inv .0) n (utf8 b) (w .0) (w .1) (w .2) (told .0)), filled-put (l .inv .1) next (c .before .before .put-char .last .1 .0) (c .before .before .put-char .result) (c .before .before .put-char .ensures .0) (c .before .before .put-char .ensures .1))
 
-returns-2 : tie.Need-returns-2 Inv-loop μ-loop
-returns-2 c = filled-all (c .before .loop .inv .1) (ap result (from-end (decodeStep (stringOf (c .before .before .before .before .args .style) (c .before .before .before .before .args .quotes))) (c .before .before .before .before .args .text .now) (c .before .loop .i) (omega arith)))
+same-length : tie.Need-same-length Inv-loop μ-loop
+same-length c = search needs
+
+returns : tie.Need-returns Inv-loop μ-loop
+returns c =
+    let a = c .before .before .before .before .args in
+    let t = a .text .now in
+    let l = c .before .loop in
+    let none = from-end (decodeStep (stringOf (a .style) (a .quotes))) t (l .i) (omega arith) in
+    let f = filled-all (l .inv .1) (ap result none) in
+    (f .0, ap (λ (k : ℕ). eqb k 0) (counted-end (l .inv .0) none .1), f .1)
 
 pub write-spec : {M : Type 1} → statement M
 write-spec =
@@ -151,7 +264,27 @@ write-spec =
     Inv-loop
     μ-loop
     loop-holds
-    find-byte-requires
+    shared-slice-read-if1
+    sub-put-until
+    part-put-until-start
+    part-put-until-end
+    put-until-requires
+    sub-at
+    add-at
+    loop-less
+    loop-again
+    byte-before-requires
+    sub-escape-length
+    part-escape-length-start
+    part-escape-length-end
+    escape-length-requires
+    sub-escape-of
+    part-escape-of-start
+    part-escape-of-end
+    escape-of-requires
+    enum-known-n
+    enum-told
+    add-past
     sub-put
     part-put-start
     part-put-end
@@ -159,34 +292,17 @@ write-spec =
     part-put-start-2
     part-put-end-2
     put-requires
-    add-at
-    same-length
-    returns
-    byte-before-requires
-    sub-decode-escape
-    part-decode-escape-start
-    part-decode-escape-end
-    decode-escape-requires
-    enum-known-n
-    enum-told
-    add-i
-    sub-put-3
-    part-put-start-3
-    part-put-end-3
-    sub-put-4
-    part-put-start-4
-    part-put-end-4
-    put-requires-2
     add-at-2
-    loop-less
-    loop-again
+    loop-less-2
+    loop-again-2
     sub-put-char
     part-put-char-start
     part-put-char-end
     put-char-requires
     add-at-3
-    add-i-2
-    loop-less-2
-    loop-again-2
-    same-length-2
-    returns-2)
+    add-escapes
+    add-i
+    loop-less-3
+    loop-again-3
+    same-length
+    returns)

@@ -1,10 +1,11 @@
 -- `references::measure` meets its contract. The invariant: the bytes before place i are counted.
 -- Assumes nothing.
-use borrow.Author.Needs.{needs}
-use Prim.Native.Nat.{_+_, _-_}
+use Prim.Native.Nat.{_-_}
 use native.Mathlib.Omega.{arith}
+use borrow.Author.Needs.{needs}
 use lib.ListN.{length}
-use Rattle.references.proofs.Turns.{Counted, counted-start, counted-stretch, counted-found, counted-alone, counted-end}
+use Rattle.seek.proofs.Laws.{nearest-past}
+use Rattle.references.proofs.Turns.{at-most, Counted, counted-start, counted-stretch, counted-found, counted-alone, counted-end}
 use Rattle.references.proofs.measure.Statement.{statement}
 use Rattle.references.proofs.measure.Tie as tie
 
@@ -17,6 +18,9 @@ abbrev μ-loop : tie.MeasureT-loop
 loop-holds : tie.Need-loop-holds Inv-loop μ-loop
 loop-holds c = counted-start (c .before .args .numbers) (c .before .args .text .now)
 
+shared-slice-read-if1 : tie.Need-shared-slice-read-if1 Inv-loop μ-loop
+shared-slice-read-if1 c = search needs
+
 find-byte-requires : tie.Need-find-byte-requires Inv-loop μ-loop
 find-byte-requires c κs = search needs
 
@@ -24,18 +28,61 @@ sub-total : tie.Need-sub-total Inv-loop μ-loop
 sub-total c = search needs
 
 add-total : tie.Need-add-total Inv-loop μ-loop
-add-total c = search needs
+add-total c =
+    let a = c .before .before .before .before .before .before .args in
+    let t = a .text .now in
+    let l = c .before .before .before .before .loop in
+    let e = c .find-byte .result in
+    let near = c .find-byte .ensures in
+    let s = counted-stretch (a .numbers) t (l .i) e (l .total) (l .same) (l .inv) near in
+    omega (arith, s .long, at-most (a .numbers) t)
 
-returns : tie.Need-returns Inv-loop μ-loop
-returns c =
-    let a = c .before .before .before .before .before .args in
-    let l = c .before .before .before .loop in
-    let p = c .before .find-byte in
-    let s = counted-stretch (a .numbers) (a .text .now) (l .i) (p .result) (l .total) (l .same) (l .inv) (p .ensures) in
-    counted-end (a .numbers) (a .text .now) (p .result) (l .total + (p .result - l .i)) (l .same) s (search needs)
+loop-less : tie.Need-loop-less Inv-loop μ-loop
+loop-less c =
+    let a = c .before .before .before .before .before .before .args in
+    let t = a .text .now in
+    let l = c .before .before .before .before .loop in
+    let e = c .find-byte .result in
+    let near = c .find-byte .ensures in
+    omega (arith, nearest-past t (l .i) 38 e (search needs) (c .before .if1 .taken) near, near .within)
+
+loop-again : tie.Need-loop-again Inv-loop μ-loop
+loop-again c =
+    let a = c .before .before .before .before .before .before .args in
+    let t = a .text .now in
+    let l = c .before .before .before .before .loop in
+    let e = c .find-byte .result in
+    let near = c .find-byte .ensures in
+    counted-stretch (a .numbers) t (l .i) e (l .total) (l .same) (l .inv) near
+
+is-bare-requires : tie.Need-is-bare-requires Inv-loop μ-loop
+is-bare-requires c κs = (search needs, c .if1 .left)
+
+add-total-2 : tie.Need-add-total-2 Inv-loop μ-loop
+add-total-2 c =
+    let a = c .before .before .before .before .before .before .before .args in
+    let t = a .text .now in
+    let l = c .before .before .before .before .before .loop in
+    let reads = c .before .is-bare .ensures .0 (c .if2 .taken) (a .numbers) in
+    let s = counted-alone (a .numbers) t (l .i) (l .total) (l .same) (l .inv) (search needs) (c .before .before .if1 .left) reads in
+    omega (arith, s .long, at-most (a .numbers) t)
+
+add-i : tie.Need-add-i Inv-loop μ-loop
+add-i c = search needs
+
+loop-less-2 : tie.Need-loop-less-2 Inv-loop μ-loop
+loop-less-2 c = search needs
+
+loop-again-2 : tie.Need-loop-again-2 Inv-loop μ-loop
+loop-again-2 c =
+    let a = c .before .before .before .before .before .before .before .args in
+    let t = a .text .now in
+    let l = c .before .before .before .before .before .loop in
+    let reads = c .before .is-bare .ensures .0 (c .if2 .taken) (a .numbers) in
+    counted-alone (a .numbers) t (l .i) (l .total) (l .same) (l .inv) (search needs) (c .before .before .if1 .left) reads
 
 find-decoded-entity-requires : tie.Need-find-decoded-entity-requires Inv-loop μ-loop
-find-decoded-entity-requires c κs = (search needs, c .before .find-byte .ensures .here (search needs))
+find-decoded-entity-requires c κs = (c .before .is-bare .ensures .1 (c .if2 .left), c .before .before .if1 .left)
 
 enum-known-found : tie.Need-enum-known-found Inv-loop μ-loop
 enum-known-found c = search needs
@@ -43,52 +90,66 @@ enum-known-found c = search needs
 enum-told : tie.Need-enum-told Inv-loop μ-loop
 enum-told c = search needs
 
-add-total-2 : tie.Need-add-total-2 Inv-loop μ-loop
-add-total-2 c = search needs
-
-add-i : tie.Need-add-i Inv-loop μ-loop
-add-i c = search needs
-
-loop-less : tie.Need-loop-less Inv-loop μ-loop
-loop-less c = search needs
-
-loop-again : tie.Need-loop-again Inv-loop μ-loop
-loop-again c =
-    let a = c .before .before .before .before .before .before .before .before .args in
-    let l = c .before .before .before .before .before .before .loop in
-    let p = c .before .before .before .before .find-byte in
-    let s = counted-stretch (a .numbers) (a .text .now) (l .i) (p .result) (l .total) (l .same) (l .inv) (p .ensures) in
+add-total-3 : tie.Need-add-total-3 Inv-loop μ-loop
+add-total-3 c =
+    let a = c .before .before .before .before .before .before .before .before .before .before .args in
+    let t = a .text .now in
+    let l = c .before .before .before .before .before .before .before .before .loop in
     let reads = rw (c .enum-told .given .1) at (c .before .before .find-decoded-entity .ensures) in
-    counted-alone (a .numbers) (a .text .now) (p .result) (l .total + (p .result - l .i)) (l .same) s (search needs) (p .ensures .here (search needs)) reads
+    let s = counted-alone (a .numbers) t (l .i) (l .total) (l .same) (l .inv) (search needs) (c .before .before .before .before .before .if1 .left) reads in
+    omega (arith, s .long, at-most (a .numbers) t)
+
+add-i-2 : tie.Need-add-i-2 Inv-loop μ-loop
+add-i-2 c = search needs
+
+loop-less-3 : tie.Need-loop-less-3 Inv-loop μ-loop
+loop-less-3 c = search needs
+
+loop-again-3 : tie.Need-loop-again-3 Inv-loop μ-loop
+loop-again-3 c =
+    let a = c .before .before .before .before .before .before .before .before .before .before .args in
+    let t = a .text .now in
+    let l = c .before .before .before .before .before .before .before .before .loop in
+    let reads = rw (c .enum-told .given .1) at (c .before .before .find-decoded-entity .ensures) in
+    counted-alone (a .numbers) t (l .i) (l .total) (l .same) (l .inv) (search needs) (c .before .before .before .before .before .if1 .left) reads
 
 value-length-requires : tie.Need-value-length-requires Inv-loop μ-loop
 value-length-requires c κs = search needs
 
-add-total-3 : tie.Need-add-total-3 Inv-loop μ-loop
-add-total-3 c = search needs
+add-total-4 : tie.Need-add-total-4 Inv-loop μ-loop
+add-total-4 c =
+    let a = c .before .before .before .before .before .before .before .before .before .before .before .before .args in
+    let t = a .text .now in
+    let l = c .before .before .before .before .before .before .before .before .before .before .loop in
+    let entity = c .before .before .found .given .0 .0 in
+    let reads = rw (c .before .before .found .given .1) at (c .before .before .before .before .find-decoded-entity .ensures) in
+    let s = counted-found (a .numbers) t (l .i) (l .total) (c .value-length .result) (l .same) entity (l .inv) (search needs) reads (c .value-length .ensures .0) in
+    omega (arith, s .long, at-most (a .numbers) t)
 
-loop-less-2 : tie.Need-loop-less-2 Inv-loop μ-loop
-loop-less-2 c =
-    let g = c .before .before .found .given in
-    let reads = rw (g .1) at (c .before .before .before .before .find-decoded-entity .ensures) in
+loop-less-4 : tie.Need-loop-less-4 Inv-loop μ-loop
+loop-less-4 c =
+    let a = c .before .before .before .before .before .before .before .before .before .before .before .before .args in
+    let t = a .text .now in
+    let l = c .before .before .before .before .before .before .before .before .before .before .loop in
+    let entity = c .before .before .found .given .0 .0 in
+    let reads = rw (c .before .before .found .given .1) at (c .before .before .before .before .find-decoded-entity .ensures) in
     omega (arith, reads .lies .1, reads .lies .2)
 
-loop-again-2 : tie.Need-loop-again-2 Inv-loop μ-loop
-loop-again-2 c =
-    let a = c .before .before .before .before .before .before .before .before .before .before .args in
-    let l = c .before .before .before .before .before .before .before .before .loop in
-    let p = c .before .before .before .before .before .before .find-byte in
-    let s = counted-stretch (a .numbers) (a .text .now) (l .i) (p .result) (l .total) (l .same) (l .inv) (p .ensures) in
-    let g = c .before .before .found .given in
-    let reads = rw (g .1) at (c .before .before .before .before .find-decoded-entity .ensures) in
-    let v = c .value-length in
-    counted-found (a .numbers) (a .text .now) (p .result) (l .total + (p .result - l .i)) (v .result) (l .same) (g .0 .0) s (search needs) reads (v .ensures .0) (v .ensures .1)
+loop-again-4 : tie.Need-loop-again-4 Inv-loop μ-loop
+loop-again-4 c =
+    let a = c .before .before .before .before .before .before .before .before .before .before .before .before .args in
+    let t = a .text .now in
+    let l = c .before .before .before .before .before .before .before .before .before .before .loop in
+    let entity = c .before .before .found .given .0 .0 in
+    let reads = rw (c .before .before .found .given .1) at (c .before .before .before .before .find-decoded-entity .ensures) in
+    counted-found (a .numbers) t (l .i) (l .total) (c .value-length .result) (l .same) entity (l .inv) (search needs) reads (c .value-length .ensures .0)
 
-returns-2 : tie.Need-returns-2 Inv-loop μ-loop
-returns-2 c =
+returns : tie.Need-returns Inv-loop μ-loop
+returns c =
     let a = c .before .before .before .args in
+    let t = a .text .now in
     let l = c .before .loop in
-    counted-end (a .numbers) (a .text .now) (l .i) (l .total) (l .same) (l .inv) (search needs)
+    counted-end (a .numbers) t (l .i) (l .total) (l .same) (l .inv) (search needs)
 
 pub measure-spec : {M : Type 1} → statement M
 measure-spec =
@@ -97,19 +158,26 @@ measure-spec =
     Inv-loop
     μ-loop
     loop-holds
+    shared-slice-read-if1
     find-byte-requires
     sub-total
     add-total
-    returns
+    loop-less
+    loop-again
+    is-bare-requires
+    add-total-2
+    add-i
+    loop-less-2
+    loop-again-2
     find-decoded-entity-requires
     enum-known-found
     enum-told
-    add-total-2
-    add-i
-    loop-less
-    loop-again
-    value-length-requires
     add-total-3
-    loop-less-2
-    loop-again-2
-    returns-2)
+    add-i-2
+    loop-less-3
+    loop-again-3
+    value-length-requires
+    add-total-4
+    loop-less-4
+    loop-again-4
+    returns)

@@ -40,9 +40,9 @@ write-requires-2 c κs = let a = c .before .before .before .before .before .befo
 enum-told-2 : tie.Need-enum-told-2
 enum-told-2 c = search needs
 
-write-requires-3 : tie.Need-write-requires-3
+fill-references-requires : tie.Need-fill-references-requires
 unfolding ruleBy
-write-requires-3 c κs = let a = c .before .before .before .before .before .args in let e = c .before .enum-told2 .given .1 in let p = rw e at (c .before .before .before .before .before .pre) in subst (λ (n : ℕ). n ≤ length (a .output .now)) (p .0) (p .1)
+fill-references-requires c κs = let a = c .before .before .before .before .before .args in let e = c .before .enum-told2 .given .1 in let p = rw e at (c .before .before .before .before .before .pre) in subst (λ (n : ℕ). n ≤ length (a .output .now)) (p .0) (p .1)
 
 enum-told-3 : tie.Need-enum-told-3
 enum-told-3 c = search needs
@@ -80,7 +80,7 @@ same-length-5 c = search needs
 
 returns-5 : tie.Need-returns-5
 unfolding ruleBy
-returns-5 c = let a = c .before .before .before .before .before .before .before .before .args in let e = c .before .before .before .before .enum-told2 .given .1 in let p = rw e at (c .before .before .before .before .before .before .before .before .pre) in (c .before .before .write3 .ensures .0 ∙ sym (p .0), rw e (c .before .before .write3 .ensures .1))
+returns-5 c = let a = c .before .before .before .before .before .before .before .before .args in let e = c .before .before .before .before .enum-told2 .given .1 in let p = rw e at (c .before .before .before .before .before .before .before .before .pre) in (c .before .before .fill-references .ensures .0 ∙ sym (p .0), rw e (c .before .before .fill-references .ensures .1))
 
 returns-6 : tie.Need-returns-6
 returns-6 c = let a = c .before .before .before .before .args in let e = c .enum-told3 .given .1 in let p = rw e at (c .before .before .before .before .pre) in (sym (p .0 ∙ nothing-long (a .text .now)), rw e (nothing-written (a .text .now) (a .output .now)))
@@ -98,7 +98,7 @@ fill-spec =
     enum-known-job-3
     write-requires-2
     enum-told-2
-    write-requires-3
+    fill-references-requires
     enum-told-3
     same-length
     returns
