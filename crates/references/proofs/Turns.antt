@@ -39,7 +39,7 @@ and-false false = refl
 module _ (numbers : Numbers) (t : List ℕ) where
   -- ---- the stretch
 
-  pub quiet : (i p : ℕ) → Nearest t i 38 p → Keeps (stepBy numbers) t i p
+  quiet : (i p : ℕ) → Nearest t i 38 p → Keeps (stepBy numbers) t i p
   quiet i p n k h l = let m : k < length t = omega (arith, n .within) in rw (drop-next t k m) (step-quiet numbers (before t k) (getD t k 0) (drop (k + 1) t) (n .none k h l))
 
   -- It is what is given next.

@@ -9,7 +9,8 @@ use Rattle.rules.specs.Moves.{through, from, result}
 use Rattle.rules.proofs.Loops.{from-end}
 use Rattle.seek.proofs.Laws.{nearest-past}
 use Rattle.parts.proofs.Part.{part-length}
-use Rattle.parts.proofs.Filled.{Filled, filled-start, filled-next, filled-room, filled-put, filled-all}
+use Rattle.parts.proofs.Filled.{Filled, filled-start, filled-next, filled-room, filled-put}
+use Rattle.parts.proofs.Counted.{filled-all}
 use Rattle.references.specs.Taking.{stepBy}
 use Rattle.references.proofs.Turns.{stretch-next, found-next, alone-next, Counted, counted-start, counted-stretch, counted-found, counted-alone, counted-end}
 use Rattle.references.proofs.write.Statement.{statement}
