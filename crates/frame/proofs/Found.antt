@@ -37,7 +37,7 @@ invalid-found found ms t e h = record { valid = e; reach = λ v. absurd (never v
     never v = below (found .valid) (validTo t) (size t) e h v
 
 -- Two tests of numbers agree where the numbers do.
-same-test : (a b m : ℕ) → (m ≡ 0) ↔ (a ≡ b) → eqb a b ≡ eqb m 0
+pub same-test : (a b m : ℕ) → (m ≡ 0) ↔ (a ≡ b) → eqb a b ≡ eqb m 0
 same-test a b m i = go (eqb a b) refl
   where
     go : (x : Bool) → eqb a b ≡ x → x ≡ eqb m 0

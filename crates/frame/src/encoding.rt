@@ -1,17 +1,22 @@
-// How encode surveys a text and writes it, context by context.
-ghost use mathlib.Core.Bool.{cond};
+// How encode surveys a text and writes it, context by context. A result is at most six times as long as its text: a copying call of the strings or
+// of script_raw whose output has that room needs no survey. HTML has one look that tells validity and growth, and is always surveyed.
+ghost use mathlib.Core.Bool.{false, cond};
+ghost use mathlib.Core.Option.{some};
 ghost use mathlib.Core.Path.{_≡_};
-ghost use Prim.Native.Nat.{ℕ, _≤_, _<_};
+ghost use Prim.Native.Nat.{ℕ, _*_, _≤_, _<_};
 ghost use lib.ListN.{length, getD};
 ghost use Rattle.rules.specs.Bytes.{over};
 ghost use Rattle.rules.specs.Moves.{through};
 ghost use Rattle.rules.specs.Utf8.{validTo};
 ghost use Rattle.rules.specs.Encoding.{encodeStep, rawStep};
 ghost use Rattle.rules.specs.Operations.{encodeOf};
+ghost use Rattle.rules.specs.Refusals.{answerBy, outBy};
 ghost use Rattle.rules.specs.declared.Context.the-variants.{InHtml, InScript, InStyle};
 ghost use Rattle.frame.specs.Jobs.{Surveyed};
 use crate::findings;
 use crate::findings::Findings;
+use crate::job::Job;
+use rules::Answer;
 use rules::Context;
 use rules::Html;
 use rules::Quotes;
@@ -93,4 +98,48 @@ pub fn fill_encode(context: Context, size: usize, text: &[u8], output: &mut [u8]
         Context::InScript(quotes) => fill_string(false, quotes, text, output),
         Context::InStyle(quotes) => fill_string(true, quotes, text, output),
     }
+}
+
+// Writes a script or style string at once, where the output has room for any result.
+fn string_at_once(style: bool, quotes: Quotes, text: &[u8], output: &mut [u8]) -> Answer
+    requires { ⌜ (length (now text) ≤ 65536) × (6 * length (now text) ≤ length (now output)) ⌝ }
+    ensures { λ r. ⌜ (r ≡ answerBy (some (encodeStep (cond style (InStyle quotes) (InScript quotes)))) false (now (text .entry)) (now (output .entry))) × (now (output .exit) ≡ outBy (some (encodeStep (cond style (InStyle quotes) (InScript quotes)))) false (now (text .entry)) (now (output .entry))) ⌝ }
+{
+    let valid = utf8::valid_to(text);
+    if valid < text.len() {
+        return crate::refusal(2, 0, valid);
+    }
+    let written = fill_string(style, quotes, text, output);
+    crate::passed(written, written == text.len())
+}
+
+// A copying call of encode in a context that has units.
+pub fn copy_encoded(context: Context, text: &[u8], output: &mut [u8]) -> Answer
+    requires { ⌜ length (now text) ≤ 65536 ⌝ }
+    ensures { λ r. ⌜ (r ≡ answerBy (some (encodeStep context)) false (now (text .entry)) (now (output .entry))) × (now (output .exit) ≡ outBy (some (encodeStep context)) false (now (text .entry)) (now (output .entry))) ⌝ }
+{
+    if output.len() < 6 * text.len() {
+        return crate::by_survey(Job::Encode(context), false, text, output);
+    }
+    match context {
+        Context::InHtml(_) => crate::by_survey(Job::Encode(context), false, text, output),
+        Context::InScript(quotes) => string_at_once(false, quotes, text, output),
+        Context::InStyle(quotes) => string_at_once(true, quotes, text, output),
+    }
+}
+
+// A copying call of encode in script_raw.
+pub fn copy_raw(text: &[u8], output: &mut [u8]) -> Answer
+    requires { ⌜ length (now text) ≤ 65536 ⌝ }
+    ensures { λ r. ⌜ (r ≡ answerBy (some rawStep) false (now (text .entry)) (now (output .entry))) × (now (output .exit) ≡ outBy (some rawStep) false (now (text .entry)) (now (output .entry))) ⌝ }
+{
+    if output.len() < 6 * text.len() {
+        return crate::by_survey(Job::EncodeRaw, false, text, output);
+    }
+    let valid = utf8::valid_to(text);
+    if valid < text.len() {
+        return crate::refusal(2, 0, valid);
+    }
+    let written = raw::write(text, output);
+    crate::passed(written, written == text.len())
 }

@@ -79,7 +79,8 @@ fn by_survey(job: Job, borrows: bool, text: &[u8], output: &mut [u8]) -> Answer
     passed(found.length, found.same)
 }
 
-// Every call of a job: the refusals in their order, and then the result. A copying call of decode or browse may need no survey.
+// Every call of a job: the refusals in their order, and then the result. Most copying calls need no survey where the output
+// has room for any result.
 fn convert(job: Job, borrows: bool, text: &[u8], output: &mut [u8]) -> Answer
     ensures { λ r. ⌜ (r ≡ answerBy (ruleAt job) borrows (now (text .entry)) (now (output .entry))) × (now (output .exit) ≡ outBy (ruleAt job) borrows (now (text .entry)) (now (output .entry))) ⌝ }
 {
@@ -93,10 +94,10 @@ fn convert(job: Job, borrows: bool, text: &[u8], output: &mut [u8]) -> Answer
         return by_survey(job, true, text, output);
     }
     match job {
+        Job::Encode(context) => encoding::copy_encoded(context, text, output),
+        Job::EncodeRaw => encoding::copy_raw(text, output),
         Job::Decode(context) => decoding::copy_decoded(context, text, output),
         Job::Browse => decoding::copy_browsed(text, output),
-        Job::Encode(_) => by_survey(job, false, text, output),
-        Job::EncodeRaw => by_survey(job, false, text, output),
         Job::Read(_) => by_survey(job, false, text, output),
         Job::Nothing => by_survey(job, false, text, output),
     }

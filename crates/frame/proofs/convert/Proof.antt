@@ -40,76 +40,78 @@ returns-3 c = rw (c .before .before .before .before .if3 .taken) (c .before .bef
 enum-known-job : tie.Need-enum-known-job
 enum-known-job c = search needs
 
-copy-decoded-requires : tie.Need-copy-decoded-requires
-copy-decoded-requires c κs = search needs
+copy-encoded-requires : tie.Need-copy-encoded-requires
+copy-encoded-requires c κs = search needs
 
 enum-told : tie.Need-enum-told
 enum-told c = search needs
 
-copy-browsed-requires : tie.Need-copy-browsed-requires
-copy-browsed-requires c κs = search needs
+copy-raw-requires : tie.Need-copy-raw-requires
+copy-raw-requires c κs = search needs
+
+enum-known-job-2 : tie.Need-enum-known-job-2
+enum-known-job-2 c = search needs
+
+copy-decoded-requires : tie.Need-copy-decoded-requires
+copy-decoded-requires c κs = search needs
 
 enum-told-2 : tie.Need-enum-told-2
 enum-told-2 c = search needs
 
-by-survey-requires-2 : tie.Need-by-survey-requires-2
-by-survey-requires-2 c κs = search needs
+copy-browsed-requires : tie.Need-copy-browsed-requires
+copy-browsed-requires c κs = search needs
 
 enum-told-3 : tie.Need-enum-told-3
 enum-told-3 c = search needs
 
-by-survey-requires-3 : tie.Need-by-survey-requires-3
-by-survey-requires-3 c κs = search needs
+by-survey-requires-2 : tie.Need-by-survey-requires-2
+by-survey-requires-2 c κs = search needs
 
 enum-told-4 : tie.Need-enum-told-4
 enum-told-4 c = search needs
 
-by-survey-requires-4 : tie.Need-by-survey-requires-4
-by-survey-requires-4 c κs = search needs
-
-enum-told-5 : tie.Need-enum-told-5
-enum-told-5 c = search needs
-
-by-survey-requires-5 : tie.Need-by-survey-requires-5
-by-survey-requires-5 c κs = search needs
+by-survey-requires-3 : tie.Need-by-survey-requires-3
+by-survey-requires-3 c κs = search needs
 
 same-length-2 : tie.Need-same-length-2
 same-length-2 c = search needs
 
 returns-4 : tie.Need-returns-4
 unfolding ruleBy
-returns-4 c = rw (c .before .before .before .before .before .job .given .1, c .before .before .before .before .before .before .before .if3 .left) (c .before .before .copy-decoded .ensures)
+returns-4 c = rw (c .before .before .before .before .before .job .given .1, c .before .before .before .before .before .before .before .if3 .left) (c .before .before .copy-encoded .ensures)
 
 same-length-3 : tie.Need-same-length-3
 same-length-3 c = search needs
 
 returns-5 : tie.Need-returns-5
 unfolding ruleBy
-returns-5 c = rw (c .before .before .before .before .enum-told .given .1, c .before .before .before .before .before .before .if3 .left) (c .before .before .copy-browsed .ensures)
+returns-5 c = rw (c .before .before .before .before .enum-told .given .1, c .before .before .before .before .before .before .if3 .left) (c .before .before .copy-raw .ensures)
 
 same-length-4 : tie.Need-same-length-4
 same-length-4 c = search needs
 
 returns-6 : tie.Need-returns-6
-returns-6 c = rw (c .before .before .before .before .before .before .if3 .left) (c .before .before .by-survey2 .ensures)
+unfolding ruleBy
+returns-6 c = rw (c .before .before .before .before .before .job2 .given .1, c .before .before .before .before .before .before .before .if3 .left) (c .before .before .copy-decoded .ensures)
 
 same-length-5 : tie.Need-same-length-5
 same-length-5 c = search needs
 
 returns-7 : tie.Need-returns-7
-returns-7 c = rw (c .before .before .before .before .before .before .if3 .left) (c .before .before .by-survey3 .ensures)
+unfolding ruleBy
+returns-7 c = rw (c .before .before .before .before .enum-told2 .given .1, c .before .before .before .before .before .before .if3 .left) (c .before .before .copy-browsed .ensures)
 
 same-length-6 : tie.Need-same-length-6
 same-length-6 c = search needs
 
 returns-8 : tie.Need-returns-8
-returns-8 c = rw (c .before .before .before .before .before .before .if3 .left) (c .before .before .by-survey4 .ensures)
+returns-8 c = rw (c .before .before .before .before .before .before .if3 .left) (c .before .before .by-survey2 .ensures)
 
 same-length-7 : tie.Need-same-length-7
 same-length-7 c = search needs
 
 returns-9 : tie.Need-returns-9
-returns-9 c = rw (c .before .before .before .before .before .before .if3 .left) (c .before .before .by-survey5 .ensures)
+returns-9 c = rw (c .before .before .before .before .before .before .if3 .left) (c .before .before .by-survey3 .ensures)
 
 pub convert-spec : {M : Type 1} → statement M
 convert-spec =
@@ -124,17 +126,17 @@ convert-spec =
     same-length
     returns-3
     enum-known-job
-    copy-decoded-requires
+    copy-encoded-requires
     enum-told
-    copy-browsed-requires
+    copy-raw-requires
+    enum-known-job-2
+    copy-decoded-requires
     enum-told-2
-    by-survey-requires-2
+    copy-browsed-requires
     enum-told-3
-    by-survey-requires-3
+    by-survey-requires-2
     enum-told-4
-    by-survey-requires-4
-    enum-told-5
-    by-survey-requires-5
+    by-survey-requires-3
     same-length-2
     returns-4
     same-length-3
