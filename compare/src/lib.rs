@@ -1,5 +1,9 @@
-//! What the programs beside the crate share: the library's calls as its archive exports them, the crate's functions by context, and a
-//! generator of numbers with a fixed seed.
+//! What the programs beside the crate share: the library's calls as its archive exports them, the crate's functions by context, what each
+//! call is to answer, and a generator of numbers with a fixed seed.
+
+pub mod model;
+
+use std::borrow::Cow;
 
 /// The answer record, as include/lintelrye.h lays it out.
 #[repr(C)]
@@ -11,8 +15,10 @@ pub struct Answer {
     pub place: u64,
 }
 
+#[cfg(feature = "archive")]
 type Exported = unsafe extern "C" fn(u32, *const u8, usize, *mut u8, usize) -> Answer;
 
+#[cfg(feature = "archive")]
 #[link(name = "lintelrye_c", kind = "static")]
 extern "C" {
     fn lintelrye_encode(c: u32, t: *const u8, n: usize, o: *mut u8, m: usize) -> Answer;
@@ -55,9 +61,11 @@ pub const CONTEXTS: [&str; 14] = [
 ];
 
 /// A call of the library, found once and made often.
+#[cfg(feature = "archive")]
 #[derive(Clone, Copy)]
 pub struct Call(Exported);
 
+#[cfg(feature = "archive")]
 impl Call {
     pub fn find(operation: Operation, borrowing: bool) -> Call {
         Call(match (operation, borrowing) {
@@ -80,6 +88,7 @@ impl Call {
 }
 
 /// One call of the library, copying or borrowing.
+#[cfg(feature = "archive")]
 pub fn call(operation: Operation, borrowing: bool, context: u32, text: &[u8], output: &mut [u8]) -> Answer {
     Call::find(operation, borrowing).make(context, text, output)
 }
@@ -126,6 +135,50 @@ pub const CRATE_DECODERS: [ToVec; 13] = [
     to_vec!(decode_style_single_quoted_text_to_vec),
     to_vec!(decode_style_double_quoted_text_to_vec),
     to_vec!(decode_style_quoted_text_to_vec),
+];
+
+/// A function of the crate that lends its text where nothing is replaced.
+pub type ToCow = for<'a> fn(&'a str) -> Cow<'a, str>;
+
+macro_rules! to_cow {
+    ($name:ident) => {
+        |text| html_escape::$name(text)
+    };
+}
+
+/// The crate's lending encoders, in the order of the contexts.
+pub const CRATE_LENDING_ENCODERS: [ToCow; 14] = [
+    to_cow!(encode_text_minimal),
+    to_cow!(encode_text),
+    to_cow!(encode_double_quoted_attribute),
+    to_cow!(encode_single_quoted_attribute),
+    to_cow!(encode_quoted_attribute),
+    to_cow!(encode_safe),
+    to_cow!(encode_unquoted_attribute),
+    to_cow!(encode_script_single_quoted_text),
+    to_cow!(encode_script_double_quoted_text),
+    to_cow!(encode_script_quoted_text),
+    to_cow!(encode_style_single_quoted_text),
+    to_cow!(encode_style_double_quoted_text),
+    to_cow!(encode_style_quoted_text),
+    to_cow!(encode_script),
+];
+
+/// The crate's lending decoders, in the order of the contexts; script_raw has none.
+pub const CRATE_LENDING_DECODERS: [ToCow; 13] = [
+    to_cow!(decode_html_entities),
+    to_cow!(decode_html_entities),
+    to_cow!(decode_html_entities),
+    to_cow!(decode_html_entities),
+    to_cow!(decode_html_entities),
+    to_cow!(decode_html_entities),
+    to_cow!(decode_html_entities),
+    to_cow!(decode_script_single_quoted_text),
+    to_cow!(decode_script_double_quoted_text),
+    to_cow!(decode_script_quoted_text),
+    to_cow!(decode_style_single_quoted_text),
+    to_cow!(decode_style_double_quoted_text),
+    to_cow!(decode_style_quoted_text),
 ];
 
 /// Numbers that look random and are the same in every run (splitmix64).

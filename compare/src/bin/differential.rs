@@ -1,0 +1,336 @@
+//! Holds the library beside the crate html-escape on random texts that are made to hurt, ten million cases unless told otherwise.
+//!   compare/run differential [--crate PATH] [--cases N] [--seed S]
+//! A case is a text in an operation and a context; it makes the copying and the borrowing call, each with one length of the output out of seven
+//! around the result's. The four numbers, every byte written and every byte that is to stay are compared with what compare/src/model.rs works out
+//! from the crate. A text that differs is made as short as it can be and printed. The exit status is 1 where anything differs.
+
+use compare::model::{has_context, Model, Outcome, LONGEST, PASSED};
+use compare::{call, Answer, Numbers, Operation, CONTEXTS, CRATE_LENDING_DECODERS, CRATE_LENDING_ENCODERS, OPERATIONS};
+use std::time::{Duration, Instant};
+
+/// How many differences are made short and printed; the others are counted.
+const SHOWN: usize = 10;
+
+const HTML_PIECES: &[&str] = &[
+    "&", "<", ">", "\"", "'", "/", "a", "b c", ";", "#", "x", "X", "&amp;", "&lt;", "&gt;", "&quot;", "&#x27;", "&#x2F;", "&#60;", "&#x", "&#", "0", "9", "41",
+    "D800", "10FFFF", "110000", "4294967296", "nGt", "&nGt;", "amp", "lt;", "=", "`", " ", "\n", "\t", "\0", "\u{B}", "\u{7F}", "&#x0B;", "&#11;", "\u{E9}",
+    "\u{2028}", "\u{1F600}", "Plain English text, with nothing in it.",
+];
+const STRING_PIECES: &[&str] = &[
+    "\\", "'", "\"", "<", "/", "!", "!--", "-", "script", "SCRIPT", "style", "StYle", ">", " ", "\t", "\u{B}", "\u{1C}", "x", "u", "u2028", "2029", "x0A", "x3C",
+    "3C ", "0A ", "00 ", "1F", "\\x1F", "\\0A ", "\\3C", "\\u2028", "<\\/script", "<\\!--", "\n", "\0", "\u{1F}", "\u{2028}", "\u{2029}", "\u{202A}", "\u{FFFD}",
+    "\u{E9}", "\u{1F600}", "a", "Plain English text, with nothing in it.",
+];
+const RAW_PIECES: &[&str] = &[
+    "<", "!--", "/", "script", "SCRIPT", "sCrIpT", "scrip", "t", ">", " ", "\t", "\u{B}", "\u{1C}", "\u{1F}", "\r", "\\", "-", "</script", "<!--", "</", "\u{17F}cript",
+    "style", "\u{E9}", "\u{1F600}", "a", "Plain English text, with nothing in it.",
+];
+const MARKS: &[u8] = b"&;#xX\\<>/!-'\" 0123C\n\0\x1F\x7F\x80\xBF\xC0\xC3\xE2\xED\xF0\xF4\xFF";
+
+/// What one call was asked and answered, where it is not what it is to be.
+struct Difference {
+    borrowing: bool,
+    room: usize,
+    what: String,
+}
+
+/// The lengths of the output that are tried: nothing, half, one short, exact, one over, and more.
+fn rooms(outcome: &Outcome) -> [usize; 7] {
+    let exact = outcome.result.len();
+    [0, exact / 2, exact.saturating_sub(1), exact, exact + 1, exact + 3, exact + 64]
+}
+
+/// The byte that stands at a place of the output before a call; it is in no valid text.
+fn pattern(at: usize) -> u8 {
+    0xF8 | (at & 7) as u8
+}
+
+/// One call with an output that holds the pattern, and has eight bytes more behind it.
+fn one_call(operation: Operation, context: u32, text: &[u8], outcome: &Outcome, borrowing: bool, room: usize) -> Option<Difference> {
+    let mut output: Vec<u8> = (0..room + 8).map(pattern).collect();
+    let answer = call(operation, borrowing, context, text, &mut output[..room]);
+    let (expected, written) = outcome.answer(borrowing, room);
+    let what = if answer != expected {
+        format!("answers {}, not {}", shown(answer), shown(expected))
+    } else if output[..written] != outcome.result[..written] {
+        format!("writes {:?}, not {:?}", readable(&output[..written]), readable(&outcome.result))
+    } else if let Some(at) = (written..room + 8).find(|&at| output[at] != pattern(at)) {
+        format!("changes byte {} of the output, past the {} that it is to write", at, written)
+    } else {
+        return None;
+    };
+    Some(Difference { borrowing, room, what })
+}
+
+fn shown(answer: Answer) -> String {
+    format!("status {} length {} same {} place {}", answer.status, answer.length, answer.same, answer.place)
+}
+
+fn readable(bytes: &[u8]) -> String {
+    bytes.iter().flat_map(|&byte| std::ascii::escape_default(byte)).map(char::from).collect()
+}
+
+/// Every kind of call with every length of the output: the first difference.
+fn every_call(model: &Model, operation: Operation, context: u32, text: &[u8]) -> Option<Difference> {
+    let outcome = model.outcome(operation, context, text);
+    [false, true].into_iter().flat_map(|borrowing| rooms(&outcome).map(|room| (borrowing, room))).find_map(|(borrowing, room)| one_call(operation, context, text, &outcome, borrowing, room))
+}
+
+/// Takes away as much of a text as leaves a difference.
+fn shortest(model: &Model, operation: Operation, context: u32, text: &[u8]) -> Vec<u8> {
+    let mut text = text.to_vec();
+    let mut size = text.len();
+    while size > 0 {
+        let mut at = 0;
+        while at + size <= text.len() {
+            let shorter = [&text[..at], &text[at + size..]].concat();
+            if every_call(model, operation, context, &shorter).is_some() {
+                text = shorter;
+            } else {
+                at += size;
+            }
+        }
+        size /= 2;
+    }
+    text
+}
+
+/// The texts, made at random.
+struct Texts {
+    numbers: Numbers,
+}
+
+impl Texts {
+    /// A text for a context: pieces, any characters, a form, references or escapes, any bytes; at times damaged, at times long.
+    fn text(&mut self, context: u32) -> Vec<u8> {
+        let mut text = match self.numbers.below(16) {
+            0..=5 => self.pieces(context).into_bytes(),
+            6 | 7 => self.characters().into_bytes(),
+            8..=11 => self.form(context).into_bytes(),
+            12..=14 => self.references(context).into_bytes(),
+            _ => (0..self.numbers.below(12)).map(|_| self.numbers.next() as u8).collect(),
+        };
+        if self.numbers.below(4) == 0 {
+            self.damage(&mut text);
+        }
+        if self.numbers.below(4_000) == 0 {
+            self.lengthen(&mut text);
+        }
+        text
+    }
+
+    fn pieces(&mut self, context: u32) -> String {
+        let pieces = match context {
+            0..=6 => HTML_PIECES,
+            7..=12 => STRING_PIECES,
+            _ => RAW_PIECES,
+        };
+        (0..self.numbers.below(10)).map(|_| *self.numbers.one_of(pieces)).collect()
+    }
+
+    /// Any characters, those of few bytes as often as those of four.
+    fn characters(&mut self) -> String {
+        let largest = [0x7F, 0x7FF, 0xFFFF, 0x10_FFFF];
+        (0..self.numbers.below(12)).filter_map(|_| char::from_u32(self.numbers.below(*self.numbers.one_of(&largest)) as u32 + 1)).collect()
+    }
+
+    /// What the crate's encoder of this context, or of another, makes of pieces or of any characters.
+    fn form(&mut self, context: u32) -> String {
+        let typed = if self.numbers.below(3) == 0 { self.characters() } else { self.pieces(context) };
+        let encoder = if self.numbers.below(5) == 0 { self.numbers.below(14) } else { context as usize % 14 };
+        CRATE_LENDING_ENCODERS[encoder](&typed).into_owned()
+    }
+
+    /// References by name and by number, or escapes by number, with a slip now and then.
+    fn references(&mut self, context: u32) -> String {
+        let mut text = String::new();
+        for _ in 0..=self.numbers.below(3) {
+            let bits = 1 + self.numbers.below(36);
+            let number = self.numbers.next() >> (64 - bits);
+            let zeros = "0".repeat(self.numbers.below(3) * self.numbers.below(9));
+            let name = std::str::from_utf8(self.numbers.one_of(&html_escape::NAMED_ENTITIES).0).unwrap();
+            match (context < 7, self.numbers.below(6)) {
+                (true, 0..=2) => text += &format!("&{};", name),
+                (true, 3) => text += &format!("&#{}{};", zeros, number),
+                (true, 4) => text += &format!("&#x{}{:X};", zeros, number),
+                (true, _) => text += &format!("&#X{}{:x};", zeros, number),
+                (false, 0..=2) => text += &format!("\\x{:02X}", number % 64),
+                (false, 3 | 4) => text += &format!("\\{:02X} ", number % 64),
+                (false, _) => text += &format!("\\u20{:02X}", 0x20 + number % 16),
+            }
+            text += *self.numbers.one_of(&["", "", "a", ";", "&", "\\", "<"]);
+        }
+        text
+    }
+
+    fn damage(&mut self, text: &mut Vec<u8>) {
+        for _ in 0..=self.numbers.below(3) {
+            if text.is_empty() {
+                return;
+            }
+            let at = self.numbers.below(text.len());
+            match self.numbers.below(5) {
+                0 => drop(text.remove(at)),
+                1 => text.insert(at, text[at]),
+                2 => text[at] = *self.numbers.one_of(MARKS),
+                3 => text[at] ^= 1 << self.numbers.below(8),
+                _ => text.truncate(at),
+            }
+        }
+    }
+
+    /// Repeats a text up to a length near a boundary, or to any.
+    fn lengthen(&mut self, text: &mut Vec<u8>) {
+        let any = self.numbers.below(LONGEST);
+        let boundary = *self.numbers.one_of(&[256, 4_096, LONGEST, LONGEST, any]);
+        let length = boundary + 1 - self.numbers.below(8).min(boundary);
+        if text.is_empty() {
+            text.push(b'a');
+        }
+        *text = text.iter().copied().cycle().take(length).collect();
+    }
+}
+
+/// The run and its counts.
+struct Run {
+    model: Model,
+    texts: Texts,
+    cases: [[u64; 15]; 4],
+    differ: [[u64; 15]; 4],
+    passed: u64,
+    read_back: u64,
+    as_decoded: u64,
+    shown: Vec<(Operation, u32, Vec<u8>)>,
+}
+
+impl Run {
+    fn ran(&self) -> u64 {
+        self.cases.iter().flatten().sum()
+    }
+
+    fn differing(&self) -> u64 {
+        self.differ.iter().flatten().sum()
+    }
+
+    /// One text in every operation that has the context; now and then in the others too, and in a context that there is not.
+    fn one_text(&mut self) {
+        let odd = self.texts.numbers.below(500) == 0;
+        let context = if odd { self.texts.numbers.below(24) as u32 } else { self.texts.numbers.below(14) as u32 };
+        let text = self.texts.text(context);
+        for operation in OPERATIONS {
+            if odd || has_context(operation, context) {
+                self.case(operation, context, &text);
+            }
+        }
+    }
+
+    fn case(&mut self, operation: Operation, context: u32, text: &[u8]) {
+        let outcome = self.model.outcome(operation, context, text);
+        self.cross_check(operation, context, text, &outcome);
+        let slot = context.min(14) as usize;
+        self.cases[operation as usize][slot] += 1;
+        let lengths = rooms(&outcome);
+        let differs = [false, true].into_iter().any(|borrowing| {
+            let room = *self.texts.numbers.one_of(&lengths);
+            one_call(operation, context, text, &outcome, borrowing, room).is_some()
+        });
+        if differs {
+            self.differ[operation as usize][slot] += 1;
+            self.show(operation, context, text);
+        }
+    }
+
+    /// What the model itself must agree with: the encoding of what is read is the text, and where no number stands browse is decode.
+    fn cross_check(&mut self, operation: Operation, context: u32, text: &[u8], outcome: &Outcome) {
+        if outcome.status != PASSED {
+            return;
+        }
+        self.passed += 1;
+        let text = std::str::from_utf8(text).unwrap();
+        if operation == Operation::Read {
+            let meant = std::str::from_utf8(&outcome.result).unwrap();
+            assert!(CRATE_LENDING_ENCODERS[context as usize](meant) == text, "the model reads {:?}, and the crate does not write it so", text);
+            self.read_back += 1;
+        }
+        if operation == Operation::Browse && !text.contains("&#") {
+            assert!(CRATE_LENDING_DECODERS[context as usize](text).as_bytes() == outcome.result, "the model browses {:?} otherwise than decode", text);
+            self.as_decoded += 1;
+        }
+    }
+
+    /// Prints the shortest text that differs, unless it was printed before.
+    fn show(&mut self, operation: Operation, context: u32, text: &[u8]) {
+        if self.shown.len() >= SHOWN {
+            return;
+        }
+        let text = shortest(&self.model, operation, context, text);
+        let found = (operation, context, text);
+        if self.shown.contains(&found) {
+            return;
+        }
+        if let Some(difference) = every_call(&self.model, operation, context, &found.2) {
+            let kind = if difference.borrowing { "borrowing" } else { "copying" };
+            eprintln!("\r{:60}\r", "");
+            println!("differs: {} {}, {}, output of {} bytes, text \"{}\": {}", name(operation), context_name(context), kind, difference.room, readable(&found.2), difference.what);
+        }
+        self.shown.push(found);
+    }
+
+    fn report(&self) {
+        for operation in OPERATIONS {
+            for slot in 0..15 {
+                let (cases, differ) = (self.cases[operation as usize][slot], self.differ[operation as usize][slot]);
+                if cases > 0 {
+                    println!("{} {}: {} cases, {} differ", name(operation), context_name(slot as u32), cases, differ);
+                }
+            }
+        }
+        println!("{} cases, {} calls, {} differ; {} cases passed, the others are refusals", self.ran(), 2 * self.ran(), self.differing(), self.passed);
+        println!("encode and decode were compared with the crate, refusals with from_utf8 and document 01's table, each with the bytes that are to stay;");
+        println!("read with the units that the crate's encoders write, and {} times the crate wrote what was read back to the same text;", self.read_back);
+        println!("browse with document 01's sentence on numbers and the crate's decode of names, and {} times with the crate's decode alone", self.as_decoded);
+    }
+}
+
+fn name(operation: Operation) -> String {
+    format!("{:?}", operation).to_lowercase()
+}
+
+fn context_name(context: u32) -> &'static str {
+    CONTEXTS.get(context as usize).unwrap_or(&"in no context")
+}
+
+/// The number behind a word of the command line.
+fn option(word: &str, otherwise: u64) -> u64 {
+    let words: Vec<String> = std::env::args().collect();
+    match words.iter().position(|given| given == word) {
+        None => otherwise,
+        Some(at) => words.get(at + 1).and_then(|number| number.parse().ok()).unwrap_or_else(|| {
+            eprintln!("differential: {} wants a number", word);
+            std::process::exit(2)
+        }),
+    }
+}
+
+fn main() {
+    let cases = option("--cases", 10_000_000);
+    let seed = option("--seed", 1);
+    let texts = Texts { numbers: Numbers(seed) };
+    let mut run = Run { model: Model::new(), texts, cases: [[0; 15]; 4], differ: [[0; 15]; 4], passed: 0, read_back: 0, as_decoded: 0, shown: Vec::new() };
+    let mut told = Instant::now();
+    while run.ran() < cases {
+        for _ in 0..256 {
+            run.one_text();
+        }
+        if told.elapsed() > Duration::from_secs(2) {
+            eprint!("\r{} of {} cases, {} differ ", run.ran(), cases, run.differing());
+            told = Instant::now();
+        }
+    }
+    eprintln!();
+    println!("seed {}", seed);
+    run.report();
+    if run.differing() > 0 {
+        std::process::exit(1);
+    }
+}

@@ -1,0 +1,77 @@
+-- The loop of `each_context` is safe and ends: the two lent slices keep their lengths, and what is left of the list falls.
+-- Assumes nothing.
+use Prim.Native.Nat.{_-_}
+use mathlib.Core.Path.{_≡_}
+use borrow.Author.Needs.{needs}
+use lib.ListN.{length}
+use Rattle.replay.proofs.each_context.Statement.{statement}
+use Rattle.replay.proofs.each_context.Tie as tie
+
+abbrev Inv-loop : tie.InvT-loop
+Inv-loop list line operation text result output₀ tally₀ next₀ i₀ output tally next i = (length output ≡ length output₀) × (length tally ≡ length tally₀)
+
+abbrev μ-loop : tie.MeasureT-loop
+μ-loop list line operation text result output₀ tally₀ next₀ i₀ output tally next i = length list - i
+
+loop-holds : tie.Need-loop-holds Inv-loop μ-loop
+loop-holds c = search needs
+
+shared-slice-read-letter : tie.Need-shared-slice-read-letter Inv-loop μ-loop
+shared-slice-read-letter c = search needs
+
+same-length : tie.Need-same-length Inv-loop μ-loop
+same-length c = search needs
+
+same-length-2 : tie.Need-same-length-2 Inv-loop μ-loop
+same-length-2 c = search needs
+
+returns : tie.Need-returns Inv-loop μ-loop
+returns c = search needs
+
+context-of-requires : tie.Need-context-of-requires Inv-loop μ-loop
+context-of-requires c κs = search needs
+
+each-kind-requires : tie.Need-each-kind-requires Inv-loop μ-loop
+each-kind-requires c κs = search needs
+
+add-i : tie.Need-add-i Inv-loop μ-loop
+add-i c = search needs
+
+loop-less : tie.Need-loop-less Inv-loop μ-loop
+loop-less c = search needs
+
+loop-again : tie.Need-loop-again Inv-loop μ-loop
+loop-again c = search needs
+
+malformed-requires : tie.Need-malformed-requires Inv-loop μ-loop
+malformed-requires c κs = search needs
+
+same-length-3 : tie.Need-same-length-3 Inv-loop μ-loop
+same-length-3 c = search needs
+
+same-length-4 : tie.Need-same-length-4 Inv-loop μ-loop
+same-length-4 c = search needs
+
+returns-2 : tie.Need-returns-2 Inv-loop μ-loop
+returns-2 c = search needs
+
+pub each-context-spec : {M : Type 1} → statement M
+each-context-spec =
+    tie.close
+    (tie.spec
+    Inv-loop
+    μ-loop
+    loop-holds
+    shared-slice-read-letter
+    same-length
+    same-length-2
+    returns
+    context-of-requires
+    each-kind-requires
+    add-i
+    loop-less
+    loop-again
+    malformed-requires
+    same-length-3
+    same-length-4
+    returns-2)

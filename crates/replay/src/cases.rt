@@ -1,0 +1,194 @@
+// One case: the call, and what is compared.
+use rules::Answer;
+use rules::Operation;
+
+// The call that a case makes.
+pub struct Case {
+    pub operation: Operation,
+    pub context: u32,
+    pub borrows: bool,
+}
+
+// What the list says of a case: the length of the output, the answer, and how many bytes of the result stand in the output afterwards.
+pub struct Expected {
+    pub room: usize,
+    pub status: usize,
+    pub length: usize,
+    pub same: usize,
+    pub place: usize,
+    pub written: usize,
+}
+
+// The first thing in which a case differs from the list.
+pub enum Difference {
+    Nothing,
+    Status,
+    Length,
+    Same,
+    Place,
+    Written,
+    Kept,
+    View,
+}
+
+// Whether nothing differs.
+pub fn is_nothing(difference: Difference) -> bool {
+    match difference {
+        Difference::Nothing => true,
+        _ => false,
+    }
+}
+
+// The copying call of an operation.
+fn copying(operation: Operation, context: u32, text: &[u8], output: &mut [u8]) -> Answer {
+    match operation {
+        Operation::Encode => lintelrye::encode(context, text, output),
+        Operation::Decode => lintelrye::decode(context, text, output),
+        Operation::Read => lintelrye::read(context, text, output),
+        Operation::Browse => lintelrye::browse(context, text, output),
+    }
+}
+
+// The borrowing call of an operation.
+fn borrowing(operation: Operation, context: u32, text: &[u8], output: &mut [u8]) -> Answer {
+    match operation {
+        Operation::Encode => lintelrye::encode_borrowing(context, text, output),
+        Operation::Decode => lintelrye::decode_borrowing(context, text, output),
+        Operation::Read => lintelrye::read_borrowing(context, text, output),
+        Operation::Browse => lintelrye::browse_borrowing(context, text, output),
+    }
+}
+
+// The call of a case.
+fn call(case: Case, text: &[u8], output: &mut [u8]) -> Answer {
+    let operation = case.operation;
+    if case.borrows {
+        return borrowing(operation, case.context, text, output);
+    }
+    copying(operation, case.context, text, output)
+}
+
+// The byte that stands at a place of the output before a call: 248 to 255 by turns, none of which stands in valid UTF-8.
+fn pattern(at: usize) -> u8 {
+    match at % 8 {
+        0 => 248,
+        1 => 249,
+        2 => 250,
+        3 => 251,
+        4 => 252,
+        5 => 253,
+        6 => 254,
+        _ => 255,
+    }
+}
+
+// Fills the output with the pattern up to a place.
+fn fill(output: &mut [u8], end: usize) {
+    let mut i = 0;
+    while i < output.len() && i < end {
+        output[i] = pattern(i);
+        i += 1;
+    }
+}
+
+// Whether the output holds the pattern from a place up to another.
+fn is_kept(output: &[u8], start: usize, end: usize) -> bool {
+    let mut i = start;
+    while i < output.len() && i < end {
+        if output[i] != pattern(i) {
+            return false;
+        }
+        i += 1;
+    }
+    true
+}
+
+// Whether the first bytes of the output are those of the result.
+fn is_written(output: &[u8], result: &[u8], written: usize) -> bool {
+    if output.len() < written {
+        return false;
+    }
+    if result.len() < written {
+        return false;
+    }
+    let mut i = 0;
+    while i < written {
+        if output[i] != result[i] {
+            return false;
+        }
+        i += 1;
+    }
+    true
+}
+
+// Whether view gives the result where the call passed, and nothing where it refused.
+fn is_viewed<'a>(text: &'a [u8], result: &[u8], output: &'a [u8], answer: Answer) -> bool {
+    let viewed = lintelrye::view(text, output, answer);
+    if answer.status == lintelrye::PASSED {
+        return check::same(viewed, result);
+    }
+    viewed.len() == 0
+}
+
+// The first of the four numbers that differs.
+fn of_numbers(answer: Answer, expected: Expected) -> Difference {
+    if answer.status != expected.status {
+        return Difference::Status;
+    }
+    if answer.length != expected.length {
+        return Difference::Length;
+    }
+    if answer.same != expected.same {
+        return Difference::Same;
+    }
+    if answer.place != expected.place {
+        return Difference::Place;
+    }
+    Difference::Nothing
+}
+
+// Makes a call in an output that holds the pattern, and compares.
+fn compared(
+    case: Case,
+    expected: Expected,
+    text: &[u8],
+    result: &[u8],
+    output: &mut [u8],
+) -> Difference {
+    let answer = call(case, text, output);
+    let numbers = of_numbers(answer, expected);
+    if !is_nothing(numbers) {
+        return numbers;
+    }
+    if !is_written(output, result, expected.written) {
+        return Difference::Written;
+    }
+    if !is_kept(output, expected.written, output.len()) {
+        return Difference::Kept;
+    }
+    if !is_viewed(text, result, output, answer) {
+        return Difference::View;
+    }
+    Difference::Nothing
+}
+
+// Runs a case in the first `room` bytes of a buffer that has more; the eight bytes past them are compared too.
+pub fn run(
+    case: Case,
+    expected: Expected,
+    text: &[u8],
+    result: &[u8],
+    buffer: &mut [u8],
+) -> Difference {
+    let room = expected.room;
+    let past = std::num::wrapping_add_usize(room, 8);
+    fill(buffer, past);
+    if buffer.len() < room {
+        return Difference::Kept;
+    }
+    let difference = compared(case, expected, text, result, &mut buffer[..room]);
+    if !is_kept(buffer, room, past) {
+        return Difference::Kept;
+    }
+    difference
+}

@@ -1,0 +1,360 @@
+// Replays the list of the oracle's answers, which compare/src/bin/generate.rs makes of the unchanged Rust: reads it from standard input, makes
+// each call that it names, and compares the four numbers, every byte written, every byte that must stay as it was, and what view gives.
+// It prints how many cases ran and how many differ, for each operation and context and in all, and names the first that differ.
+//
+// A line of the list is one of these:
+//   # ..       a remark;
+//   tTEXT      the text of the cases that follow, and what they give, until an r line says otherwise;
+//   rRESULT    what the cases that follow give where they pass;
+//   OPERATIONS CONTEXTS KINDS ROOM STATUS LENGTH SAME PLACE WRITTEN
+//              a case for each operation (E, D, R, B), context (a for 0, b for 1, ..; z for the largest number) and kind of call (c, b): with an
+//              output of ROOM bytes the answer is the four numbers, and the first WRITTEN bytes of the output are those of the result;
+//   end COUNT  the last line: how many cases the list has.
+// How a text is spelt stands in spelling.rt. A list with any other line, or with another count, is reported as malformed.
+mod cases;
+mod report;
+mod spelling;
+
+ghost use mathlib.Core.Path.{_≡_};
+ghost use lib.ListN.{length};
+use cases::Case;
+use cases::Expected;
+use libc::STDIN_FILENO;
+use rules::Operation;
+use spelling::after;
+use spelling::byte_at;
+use spelling::read_number;
+
+// Where the reading of the list stands: the place and the number of the line, the lengths of the text and of the result, how many cases ran and
+// how many of them differ, whether the last line was met, and whether the list is right so far.
+pub struct State {
+    pub at: usize,
+    pub line: u64,
+    pub text: usize,
+    pub result: usize,
+    pub ran: u64,
+    pub differ: u64,
+    pub ended: bool,
+    pub right: bool,
+}
+
+// The state after a line that is malformed.
+fn malformed(state: State) -> State {
+    let mut after = state;
+    after.right = false;
+    after
+}
+
+// The state at the start of the next line, where a line ends at a place; malformed where none ends there.
+fn next_line(list: &[u8], state: State, end: usize) -> State {
+    if byte_at(list, end) != b'\n' {
+        return malformed(state);
+    }
+    let mut next = state;
+    next.at = after(end);
+    next.line = std::num::wrapping_add_u64(state.line, 1);
+    next
+}
+
+// A remark.
+fn remark(list: &[u8], state: State) -> State {
+    next_line(list, state, spelling::line_end(list, state.at))
+}
+
+// A t line: the text goes into both buffers.
+fn text_line(list: &[u8], state: State, text: &mut [u8], result: &mut [u8]) -> State {
+    let start = after(state.at);
+    let read = spelling::text(list, start, text);
+    let again = spelling::text(list, start, result);
+    if !read.right || !again.right {
+        return malformed(state);
+    }
+    let mut next = state;
+    next.text = read.length;
+    next.result = again.length;
+    next_line(list, next, read.next)
+}
+
+// An r line.
+fn result_line(list: &[u8], state: State, result: &mut [u8]) -> State {
+    let read = spelling::text(list, after(state.at), result);
+    if !read.right {
+        return malformed(state);
+    }
+    let mut next = state;
+    next.result = read.length;
+    next_line(list, next, read.next)
+}
+
+// The last line: its count must be that of the cases that ran, and nothing may follow it.
+fn end_line(list: &[u8], state: State) -> State {
+    let start = spelling::past_letters(list, state.at);
+    let count = read_number(list, after(start));
+    let mut next = next_line(list, state, count.next);
+    if !count.found || count.value as u64 != state.ran || next.at != list.len() {
+        return malformed(state);
+    }
+    next.ended = true;
+    next
+}
+
+// A line of cases: where the letters of the operations, the contexts and the kinds of call begin, and what they are to give.
+struct Line {
+    operations: usize,
+    contexts: usize,
+    kinds: usize,
+    expected: Expected,
+}
+
+// The operation of a letter.
+enum Letter {
+    Means(Operation),
+    Nothing,
+}
+
+// Reads the letter of an operation.
+fn operation_of(letter: u8) -> Letter {
+    match letter {
+        b'E' => Letter::Means(Operation::Encode),
+        b'D' => Letter::Means(Operation::Decode),
+        b'R' => Letter::Means(Operation::Read),
+        b'B' => Letter::Means(Operation::Browse),
+        _ => Letter::Nothing,
+    }
+}
+
+// The context of a letter: 0 for `a`, 1 for `b` and so on, and the largest number for `z`.
+fn context_of(letter: u8) -> u32 {
+    if letter == b'z' || letter < b'a' {
+        return 4294967295;
+    }
+    (letter - b'a') as u32
+}
+
+// Runs one case and counts it.
+fn one_case(
+    state: State,
+    case: Case,
+    expected: Expected,
+    text: &[u8],
+    result: &[u8],
+    output: &mut [u8],
+    tally: &mut [u64],
+) -> State {
+    let difference = cases::run(case, expected, text, result, output);
+    let mut next = state;
+    next.ran = std::num::wrapping_add_u64(state.ran, 1);
+    if !cases::is_nothing(difference) {
+        next.differ = std::num::wrapping_add_u64(state.differ, 1);
+    }
+    report::count(next, case, difference, tally);
+    next
+}
+
+// The cases of a line in one operation and context: one for each kind of call.
+fn each_kind(
+    list: &[u8],
+    line: Line,
+    state: State,
+    operation: Operation,
+    context: u32,
+    text: &[u8],
+    result: &[u8],
+    output: &mut [u8],
+    tally: &mut [u64],
+) -> State {
+    let expected = line.expected;
+    let mut next = state;
+    let mut i = line.kinds;
+    while i < list.len() {
+        let letter = list[i];
+        if letter == b' ' {
+            return next;
+        }
+        if letter != b'b' && letter != b'c' {
+            return malformed(next);
+        }
+        let case = Case {
+            operation,
+            context,
+            borrows: letter == b'b',
+        };
+        next = one_case(next, case, expected, text, result, output, tally);
+        i += 1;
+    }
+    malformed(next)
+}
+
+// The cases of a line in one operation: those in each context.
+fn each_context(
+    list: &[u8],
+    line: Line,
+    state: State,
+    operation: Operation,
+    text: &[u8],
+    result: &[u8],
+    output: &mut [u8],
+    tally: &mut [u64],
+) -> State {
+    let mut next = state;
+    let mut i = line.contexts;
+    while i < list.len() {
+        let letter = list[i];
+        if letter == b' ' {
+            return next;
+        }
+        next = each_kind(
+            list,
+            line,
+            next,
+            operation,
+            context_of(letter),
+            text,
+            result,
+            output,
+            tally,
+        );
+        i += 1;
+    }
+    malformed(next)
+}
+
+// The cases of a line: those in each operation.
+fn each_operation(
+    list: &[u8],
+    line: Line,
+    state: State,
+    text: &[u8],
+    result: &[u8],
+    output: &mut [u8],
+    tally: &mut [u64],
+) -> State {
+    let mut next = state;
+    let mut i = line.operations;
+    while i < list.len() {
+        let letter = list[i];
+        if letter == b' ' {
+            return next;
+        }
+        let Letter::Means(operation) = operation_of(letter) else {
+            return malformed(next);
+        };
+        next = each_context(list, line, next, operation, text, result, output, tally);
+        i += 1;
+    }
+    malformed(next)
+}
+
+// Reads a line of cases and runs them.
+fn case_line(
+    list: &[u8],
+    state: State,
+    text: &[u8],
+    result: &[u8],
+    output: &mut [u8],
+    tally: &mut [u64],
+) -> State {
+    let operations = state.at;
+    let contexts = after(spelling::past_letters(list, operations));
+    let kinds = after(spelling::past_letters(list, contexts));
+    let room = read_number(list, after(spelling::past_letters(list, kinds)));
+    let status = read_number(list, after(room.next));
+    let length = read_number(list, after(status.next));
+    let same = read_number(list, after(length.next));
+    let place = read_number(list, after(same.next));
+    let written = read_number(list, after(place.next));
+    if !written.found || byte_at(list, written.next) != b'\n' || output.len() <= room.value {
+        return malformed(state);
+    }
+    let expected = Expected {
+        room: room.value,
+        status: status.value,
+        length: length.value,
+        same: same.value,
+        place: place.value,
+        written: written.value,
+    };
+    let line = Line {
+        operations,
+        contexts,
+        kinds,
+        expected,
+    };
+    let next = each_operation(list, line, state, text, result, output, tally);
+    next_line(list, next, written.next)
+}
+
+// Goes through one line.
+fn one_line(
+    list: &[u8],
+    state: State,
+    text: &mut [u8],
+    result: &mut [u8],
+    output: &mut [u8],
+    tally: &mut [u64],
+) -> State {
+    let n = state.text;
+    let m = state.result;
+    match byte_at(list, state.at) {
+        b'#' => remark(list, state),
+        b't' => text_line(list, state, text, result),
+        b'r' => result_line(list, state, result),
+        b'e' => end_line(list, state),
+        _ => {
+            if text.len() < n {
+                return malformed(state);
+            }
+            if result.len() < m {
+                return malformed(state);
+            }
+            case_line(list, state, &text[..n], &result[..m], output, tally)
+        }
+    }
+}
+
+// Goes through the list, which has no more lines than bytes, until its end or until a line is malformed.
+fn replay(
+    list: &[u8],
+    text: &mut [u8],
+    result: &mut [u8],
+    output: &mut [u8],
+    tally: &mut [u64],
+) -> State {
+    let mut state = State {
+        at: 0,
+        line: 1,
+        text: 0,
+        result: 0,
+        ran: 0,
+        differ: 0,
+        ended: false,
+        right: true,
+    };
+    let mut lines = list.len();
+    while 0 < lines {
+        if !state.right || state.ended {
+            return state;
+        }
+        state = one_line(list, state, text, result, output, tally);
+        lines -= 1;
+    }
+    state
+}
+
+// Room for the list, a text, a result or an output. The length is what lending a part of it asks for.
+fn buffer() -> [u8; 1048576]
+    ensures { λ r. ⌜ 1048576 ≡ length r ⌝ }
+{
+    [0; 1048576]
+}
+
+fn main() {
+    let mut list = buffer();
+    let mut text = buffer();
+    let mut result = buffer();
+    let mut output = buffer();
+    let mut tally: [u64; 128] = [0; 128];
+    let n = io::read_full(STDIN_FILENO, &mut list);
+    let state = replay(&list[..n], &mut text, &mut result, &mut output, &mut tally);
+    report::all(state, &tally);
+}
