@@ -130,8 +130,12 @@ impl Texts {
 
     /// Any characters, those of few bytes as often as those of four.
     fn characters(&mut self) -> String {
-        let largest = [0x7F, 0x7FF, 0xFFFF, 0x10_FFFF];
-        (0..self.numbers.below(12)).filter_map(|_| char::from_u32(self.numbers.below(*self.numbers.one_of(&largest)) as u32 + 1)).collect()
+        let mut one = || {
+            let largest = *self.numbers.one_of(&[0x80, 0x800, 0x1_0000, 0x11_0000]);
+            char::from_u32(self.numbers.below(largest) as u32)
+        };
+        let count = one().map_or(5, |c| c as usize % 12);
+        (0..count).filter_map(|_| one()).collect()
     }
 
     /// What the crate's encoder of this context, or of another, makes of pieces or of any characters.
