@@ -53,7 +53,7 @@ fn one_call(operation: Operation, context: u32, text: &[u8], outcome: &Outcome, 
     let what = if answer != expected {
         format!("answers {}, not {}", shown(answer), shown(expected))
     } else if output[..written] != outcome.result[..written] {
-        format!("writes {:?}, not {:?}", readable(&output[..written]), readable(&outcome.result))
+        format!("writes \"{}\", not \"{}\"", readable(&output[..written]), readable(&outcome.result))
     } else if let Some(at) = (written..room + 8).find(|&at| output[at] != pattern(at)) {
         format!("changes byte {} of the output, past the {} that it is to write", at, written)
     } else {

@@ -25,15 +25,13 @@ use spelling::after;
 use spelling::byte_at;
 use spelling::read_number;
 
-// Where the reading of the list stands: the place and the number of the line, the lengths of the text and of the result, how many cases ran and
-// how many of them differ, whether the last line was met, and whether the list is right so far.
+// Where the reading of the list stands: the place and the number of the line, the lengths of the text and of the result, whether the last line was
+// met, and whether the list is right so far.
 pub struct State {
     pub at: usize,
     pub line: u64,
     pub text: usize,
     pub result: usize,
-    pub ran: u64,
-    pub differ: u64,
     pub ended: bool,
     pub right: bool,
 }
@@ -87,23 +85,15 @@ fn result_line(list: &[u8], state: State, result: &mut [u8]) -> State {
 }
 
 // The last line: its count must be that of the cases that ran, and nothing may follow it.
-fn end_line(list: &[u8], state: State) -> State {
+fn end_line(list: &[u8], state: State, ran: u64) -> State {
     let start = spelling::past_letters(list, state.at);
     let count = read_number(list, after(start));
     let mut next = next_line(list, state, count.next);
-    if !count.found || count.value as u64 != state.ran || next.at != list.len() {
+    if !count.found || count.value as u64 != ran || next.at != list.len() {
         return malformed(state);
     }
     next.ended = true;
     next
-}
-
-// A line of cases: where the letters of the operations, the contexts and the kinds of call begin, and what they are to give.
-struct Line {
-    operations: usize,
-    contexts: usize,
-    kinds: usize,
-    expected: Expected,
 }
 
 // The operation of a letter.
@@ -131,118 +121,151 @@ fn context_of(letter: u8) -> u32 {
     (letter - b'a') as u32
 }
 
-// Runs one case and counts it.
-fn one_case(
-    state: State,
-    case: Case,
+// The cases of a line in one operation and context, one for each kind of call. Answers whether the letters of the kinds are right.
+fn each_kind(
+    list: &[u8],
+    line: u64,
+    kinds: usize,
+    operation: Operation,
+    context: u32,
     expected: Expected,
     text: &[u8],
     result: &[u8],
     output: &mut [u8],
     tally: &mut [u64],
-) -> State {
-    let difference = cases::run(case, expected, text, result, output);
-    let mut next = state;
-    next.ran = std::num::wrapping_add_u64(state.ran, 1);
-    if !cases::is_nothing(difference) {
-        next.differ = std::num::wrapping_add_u64(state.differ, 1);
-    }
-    report::count(next, case, difference, tally);
-    next
-}
-
-// The cases of a line in one operation and context: one for each kind of call.
-fn each_kind(
-    list: &[u8],
-    line: Line,
-    state: State,
-    operation: Operation,
-    context: u32,
-    text: &[u8],
-    result: &[u8],
-    output: &mut [u8],
-    tally: &mut [u64],
-) -> State {
-    let expected = line.expected;
-    let mut next = state;
-    let mut i = line.kinds;
+) -> bool {
+    let mut i = kinds;
     while i < list.len() {
         let letter = list[i];
         if letter == b' ' {
-            return next;
+            return true;
         }
         if letter != b'b' && letter != b'c' {
-            return malformed(next);
+            return false;
         }
         let case = Case {
             operation,
             context,
             borrows: letter == b'b',
         };
-        next = one_case(next, case, expected, text, result, output, tally);
-        i += 1;
-    }
-    malformed(next)
-}
-
-// The cases of a line in one operation: those in each context.
-fn each_context(
-    list: &[u8],
-    line: Line,
-    state: State,
-    operation: Operation,
-    text: &[u8],
-    result: &[u8],
-    output: &mut [u8],
-    tally: &mut [u64],
-) -> State {
-    let mut next = state;
-    let mut i = line.contexts;
-    while i < list.len() {
-        let letter = list[i];
-        if letter == b' ' {
-            return next;
-        }
-        next = each_kind(
-            list,
+        report::count(
             line,
-            next,
-            operation,
-            context_of(letter),
-            text,
-            result,
-            output,
+            case,
+            cases::run(case, expected, text, result, output),
             tally,
         );
         i += 1;
     }
-    malformed(next)
+    false
 }
 
-// The cases of a line: those in each operation.
-fn each_operation(
+// The cases of a line in one operation: those in each context. Answers whether the letters are right.
+fn each_context(
     list: &[u8],
-    line: Line,
-    state: State,
+    line: u64,
+    contexts: usize,
+    kinds: usize,
+    operation: Operation,
+    expected: Expected,
     text: &[u8],
     result: &[u8],
     output: &mut [u8],
     tally: &mut [u64],
-) -> State {
-    let mut next = state;
-    let mut i = line.operations;
+) -> bool {
+    let mut i = contexts;
     while i < list.len() {
         let letter = list[i];
         if letter == b' ' {
-            return next;
+            return true;
         }
-        let Letter::Means(operation) = operation_of(letter) else {
-            return malformed(next);
-        };
-        next = each_context(list, line, next, operation, text, result, output, tally);
+        if !each_kind(
+            list,
+            line,
+            kinds,
+            operation,
+            context_of(letter),
+            expected,
+            text,
+            result,
+            output,
+            tally,
+        ) {
+            return false;
+        }
         i += 1;
     }
-    malformed(next)
+    false
+}
+
+// The cases of a line, which starts at a place: those in each operation. Answers whether the letters are right.
+fn each_operation(
+    list: &[u8],
+    line: u64,
+    operations: usize,
+    contexts: usize,
+    kinds: usize,
+    expected: Expected,
+    text: &[u8],
+    result: &[u8],
+    output: &mut [u8],
+    tally: &mut [u64],
+) -> bool {
+    let mut i = operations;
+    while i < list.len() {
+        let letter = list[i];
+        if letter == b' ' {
+            return true;
+        }
+        let Letter::Means(operation) = operation_of(letter) else {
+            return false;
+        };
+        if !each_context(
+            list,
+            line,
+            contexts,
+            kinds,
+            operation,
+            expected,
+            text,
+            result,
+            output,
+            tally,
+        ) {
+            return false;
+        }
+        i += 1;
+    }
+    false
+}
+
+// The six numbers of a line of cases, and the place past them; `found` is false where one is missing.
+struct Numbers {
+    found: bool,
+    expected: Expected,
+    next: usize,
+}
+
+// Reads the six numbers of a line of cases.
+fn read_numbers(list: &[u8], at: usize) -> Numbers {
+    let room = read_number(list, at);
+    let status = read_number(list, after(room.next));
+    let length = read_number(list, after(status.next));
+    let same = read_number(list, after(length.next));
+    let place = read_number(list, after(same.next));
+    let written = read_number(list, after(place.next));
+    let expected = Expected {
+        room: room.value,
+        status: status.value,
+        length: length.value,
+        same: same.value,
+        place: place.value,
+        written: written.value,
+    };
+    Numbers {
+        found: written.found,
+        expected,
+        next: written.next,
+    }
 }
 
 // Reads a line of cases and runs them.
@@ -254,34 +277,33 @@ fn case_line(
     output: &mut [u8],
     tally: &mut [u64],
 ) -> State {
-    let operations = state.at;
-    let contexts = after(spelling::past_letters(list, operations));
+    let contexts = after(spelling::past_letters(list, state.at));
     let kinds = after(spelling::past_letters(list, contexts));
-    let room = read_number(list, after(spelling::past_letters(list, kinds)));
-    let status = read_number(list, after(room.next));
-    let length = read_number(list, after(status.next));
-    let same = read_number(list, after(length.next));
-    let place = read_number(list, after(same.next));
-    let written = read_number(list, after(place.next));
-    if !written.found || byte_at(list, written.next) != b'\n' || output.len() <= room.value {
+    let numbers = read_numbers(list, after(spelling::past_letters(list, kinds)));
+    let expected = numbers.expected;
+    if !numbers.found || output.len() <= expected.room {
         return malformed(state);
     }
-    let expected = Expected {
-        room: room.value,
-        status: status.value,
-        length: length.value,
-        same: same.value,
-        place: place.value,
-        written: written.value,
-    };
-    let line = Line {
-        operations,
+    let next = next_line(list, state, numbers.next);
+    if !next.right {
+        return next;
+    }
+    let right = each_operation(
+        list,
+        state.line,
+        state.at,
         contexts,
         kinds,
         expected,
-    };
-    let next = each_operation(list, line, state, text, result, output, tally);
-    next_line(list, next, written.next)
+        text,
+        result,
+        output,
+        tally,
+    );
+    if right {
+        return next;
+    }
+    malformed(state)
 }
 
 // Goes through one line.
@@ -299,7 +321,7 @@ fn one_line(
         b'#' => remark(list, state),
         b't' => text_line(list, state, text, result),
         b'r' => result_line(list, state, result),
-        b'e' => end_line(list, state),
+        b'e' => end_line(list, state, report::told(tally, report::RAN)),
         _ => {
             if text.len() < n {
                 return malformed(state);
@@ -325,8 +347,6 @@ fn replay(
         line: 1,
         text: 0,
         result: 0,
-        ran: 0,
-        differ: 0,
         ended: false,
         right: true,
     };
@@ -353,7 +373,7 @@ fn main() {
     let mut text = buffer();
     let mut result = buffer();
     let mut output = buffer();
-    let mut tally: [u64; 128] = [0; 128];
+    let mut tally: [u64; 130] = [0; 130];
     let n = io::read_full(STDIN_FILENO, &mut list);
     let state = replay(&list[..n], &mut text, &mut result, &mut output, &mut tally);
     report::all(state, &tally);

@@ -6,6 +6,12 @@ use crate::cases::Difference;
 use libc::STDOUT_FILENO;
 use rules::Operation;
 
+// Where the counts of all that ran and of all that differ stand in the tally, behind 64 for the cases of each kind that ran and 64 for those that
+// differ.
+pub const RAN: usize = 128;
+
+pub const DIFFER: usize = 129;
+
 // Prints bytes.
 fn print(bytes: &[u8]) {
     io::write_all(STDOUT_FILENO, bytes);
@@ -47,16 +53,22 @@ fn print_operation(kind: usize) {
     }
 }
 
-// Prints the name of the context of a kind.
-fn print_context(kind: usize) {
-    match kind % 16 {
+// Prints the name of a context of the HTML seven.
+fn print_html(context: usize) {
+    match context {
         0 => print(b"text_minimal"),
         1 => print(b"text"),
         2 => print(b"double_quoted"),
         3 => print(b"single_quoted"),
         4 => print(b"quoted"),
         5 => print(b"safe"),
-        6 => print(b"unquoted"),
+        _ => print(b"unquoted"),
+    }
+}
+
+// Prints the name of any other context.
+fn print_other(context: usize) {
+    match context {
         7 => print(b"script_single"),
         8 => print(b"script_double"),
         9 => print(b"script_quoted"),
@@ -65,6 +77,16 @@ fn print_context(kind: usize) {
         12 => print(b"style_quoted"),
         13 => print(b"script_raw"),
         _ => print(b"in no context"),
+    }
+}
+
+// Prints the name of the context of a kind.
+fn print_context(kind: usize) {
+    let context = kind % 16;
+    if context < 7 {
+        print_html(context);
+    } else {
+        print_other(context);
     }
 }
 
@@ -82,13 +104,25 @@ fn print_difference(difference: Difference) {
     }
 }
 
-// Prints a case that differs: its number, the line of the list, the call, and what differs first.
-fn print_case(state: State, case: Case, difference: Difference) {
-    print(b"case ");
-    print_number(state.ran);
-    print(b", line ");
-    print_number(state.line);
-    print(b": ");
+// A count of the tally.
+pub fn told(tally: &[u64], at: usize) -> u64 {
+    if at < tally.len() { tally[at] } else { 0 }
+}
+
+// Puts a count into the tally.
+fn tell(tally: &mut [u64], at: usize, count: u64) {
+    if at < tally.len() {
+        tally[at] = count;
+    }
+}
+
+// Adds one to a count.
+fn raise(tally: &mut [u64], at: usize) {
+    tell(tally, at, std::num::wrapping_add_u64(told(tally, at), 1));
+}
+
+// Prints the call of a case that differs, and what differs first.
+fn print_call(case: Case, difference: Difference) {
     print_operation(kind_of(case));
     print_context(kind_of(case));
     if case.borrows {
@@ -100,23 +134,28 @@ fn print_case(state: State, case: Case, difference: Difference) {
     print(b" differs\n");
 }
 
-// Adds one to a count.
-fn raise(tally: &mut [u64], at: usize) {
-    if at < tally.len() {
-        tally[at] = std::num::wrapping_add_u64(tally[at], 1);
-    }
+// Prints a case that differs: its number, the line of the list, and the call.
+fn print_case(ran: u64, line: u64, case: Case, difference: Difference) {
+    print(b"case ");
+    print_number(ran);
+    print(b", line ");
+    print_number(line);
+    print(b": ");
+    print_call(case, difference);
 }
 
-// Counts a case that ran; the counts of those that differ stand behind those of all. Prints it where it is among the first ten that differ.
-pub fn count(state: State, case: Case, difference: Difference, tally: &mut [u64]) {
+// Counts a case that ran, and prints it where it is among the first ten that differ.
+pub fn count(line: u64, case: Case, difference: Difference, tally: &mut [u64]) {
     let kind = kind_of(case);
     raise(tally, kind);
+    raise(tally, RAN);
     if crate::cases::is_nothing(difference) {
         return;
     }
     raise(tally, 64 + kind);
-    if state.differ <= 10 {
-        print_case(state, case, difference);
+    raise(tally, DIFFER);
+    if told(tally, DIFFER) <= 10 {
+        print_case(told(tally, RAN), line, case, difference);
     }
 }
 
@@ -140,7 +179,7 @@ fn print_kind(kind: usize, ran: u64, differ: u64) {
 }
 
 // Prints the counts of every kind.
-fn print_kinds(tally: &[u64; 128]) {
+fn print_kinds(tally: &[u64; 130]) {
     let mut kind = 0;
     while kind < 64 {
         print_kind(kind, tally[kind], tally[64 + kind]);
@@ -149,10 +188,10 @@ fn print_kinds(tally: &[u64; 128]) {
 }
 
 // Prints all counts; where the list is malformed, the line instead of the last count.
-pub fn all(state: State, tally: &[u64; 128]) {
+pub fn all(state: State, tally: &[u64; 130]) {
     print_kinds(tally);
     if state.right && state.ended {
-        print_counts(state.ran, state.differ);
+        print_counts(tally[128], tally[129]);
         return;
     }
     print(b"the list is malformed at line ");

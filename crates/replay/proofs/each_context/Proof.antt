@@ -8,10 +8,10 @@ use Rattle.replay.proofs.each_context.Statement.{statement}
 use Rattle.replay.proofs.each_context.Tie as tie
 
 abbrev Inv-loop : tie.InvT-loop
-Inv-loop list line operation text result output₀ tally₀ next₀ i₀ output tally next i = (length output ≡ length output₀) × (length tally ≡ length tally₀)
+Inv-loop list line contexts kinds operation expected text result output₀ tally₀ i₀ output tally i = (length output ≡ length output₀) × (length tally ≡ length tally₀)
 
 abbrev μ-loop : tie.MeasureT-loop
-μ-loop list line operation text result output₀ tally₀ next₀ i₀ output tally next i = length list - i
+μ-loop list line contexts kinds operation expected text result output₀ tally₀ i₀ output tally i = length list - i
 
 loop-holds : tie.Need-loop-holds Inv-loop μ-loop
 loop-holds c = search needs
@@ -34,6 +34,15 @@ context-of-requires c κs = search needs
 each-kind-requires : tie.Need-each-kind-requires Inv-loop μ-loop
 each-kind-requires c κs = search needs
 
+same-length-3 : tie.Need-same-length-3 Inv-loop μ-loop
+same-length-3 c = search needs
+
+same-length-4 : tie.Need-same-length-4 Inv-loop μ-loop
+same-length-4 c = search needs
+
+returns-2 : tie.Need-returns-2 Inv-loop μ-loop
+returns-2 c = search needs
+
 add-i : tie.Need-add-i Inv-loop μ-loop
 add-i c = search needs
 
@@ -43,17 +52,14 @@ loop-less c = search needs
 loop-again : tie.Need-loop-again Inv-loop μ-loop
 loop-again c = search needs
 
-malformed-requires : tie.Need-malformed-requires Inv-loop μ-loop
-malformed-requires c κs = search needs
+same-length-5 : tie.Need-same-length-5 Inv-loop μ-loop
+same-length-5 c = search needs
 
-same-length-3 : tie.Need-same-length-3 Inv-loop μ-loop
-same-length-3 c = search needs
+same-length-6 : tie.Need-same-length-6 Inv-loop μ-loop
+same-length-6 c = search needs
 
-same-length-4 : tie.Need-same-length-4 Inv-loop μ-loop
-same-length-4 c = search needs
-
-returns-2 : tie.Need-returns-2 Inv-loop μ-loop
-returns-2 c = search needs
+returns-3 : tie.Need-returns-3 Inv-loop μ-loop
+returns-3 c = search needs
 
 pub each-context-spec : {M : Type 1} → statement M
 each-context-spec =
@@ -68,10 +74,12 @@ each-context-spec =
     returns
     context-of-requires
     each-kind-requires
+    same-length-3
+    same-length-4
+    returns-2
     add-i
     loop-less
     loop-again
-    malformed-requires
-    same-length-3
-    same-length-4
-    returns-2)
+    same-length-5
+    same-length-6
+    returns-3)

@@ -8,11 +8,10 @@ use Rattle.replay.proofs.each_kind.Statement.{statement}
 use Rattle.replay.proofs.each_kind.Tie as tie
 
 abbrev Inv-loop : tie.InvT-loop
-Inv-loop list operation context text result output₀ tally₀ expected next₀ i₀ output tally next i =
-    (length output ≡ length output₀) × (length tally ≡ length tally₀)
+Inv-loop list line kinds operation context expected text result output₀ tally₀ i₀ output tally i = (length output ≡ length output₀) × (length tally ≡ length tally₀)
 
 abbrev μ-loop : tie.MeasureT-loop
-μ-loop list operation context text result output₀ tally₀ expected next₀ i₀ output tally next i = length list - i
+μ-loop list line kinds operation context expected text result output₀ tally₀ i₀ output tally i = length list - i
 
 loop-holds : tie.Need-loop-holds Inv-loop μ-loop
 loop-holds c = search needs
@@ -29,9 +28,6 @@ same-length-2 c = search needs
 returns : tie.Need-returns Inv-loop μ-loop
 returns c = search needs
 
-malformed-requires : tie.Need-malformed-requires Inv-loop μ-loop
-malformed-requires c κs = search needs
-
 same-length-3 : tie.Need-same-length-3 Inv-loop μ-loop
 same-length-3 c = search needs
 
@@ -41,8 +37,11 @@ same-length-4 c = search needs
 returns-2 : tie.Need-returns-2 Inv-loop μ-loop
 returns-2 c = search needs
 
-one-case-requires : tie.Need-one-case-requires Inv-loop μ-loop
-one-case-requires c κs = search needs
+run-requires : tie.Need-run-requires Inv-loop μ-loop
+run-requires c κs = search needs
+
+count-requires : tie.Need-count-requires Inv-loop μ-loop
+count-requires c κs = search needs
 
 add-i : tie.Need-add-i Inv-loop μ-loop
 add-i c = search needs
@@ -52,9 +51,6 @@ loop-less c = search needs
 
 loop-again : tie.Need-loop-again Inv-loop μ-loop
 loop-again c = search needs
-
-malformed-requires-2 : tie.Need-malformed-requires-2 Inv-loop μ-loop
-malformed-requires-2 c κs = search needs
 
 same-length-5 : tie.Need-same-length-5 Inv-loop μ-loop
 same-length-5 c = search needs
@@ -76,15 +72,14 @@ each-kind-spec =
     same-length
     same-length-2
     returns
-    malformed-requires
     same-length-3
     same-length-4
     returns-2
-    one-case-requires
+    run-requires
+    count-requires
     add-i
     loop-less
     loop-again
-    malformed-requires-2
     same-length-5
     same-length-6
     returns-3)

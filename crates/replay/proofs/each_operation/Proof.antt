@@ -8,10 +8,10 @@ use Rattle.replay.proofs.each_operation.Statement.{statement}
 use Rattle.replay.proofs.each_operation.Tie as tie
 
 abbrev Inv-loop : tie.InvT-loop
-Inv-loop list line text result output₀ tally₀ next₀ i₀ output tally next i = (length output ≡ length output₀) × (length tally ≡ length tally₀)
+Inv-loop list line operations contexts kinds expected text result output₀ tally₀ i₀ output tally i = (length output ≡ length output₀) × (length tally ≡ length tally₀)
 
 abbrev μ-loop : tie.MeasureT-loop
-μ-loop list line text result output₀ tally₀ next₀ i₀ output tally next i = length list - i
+μ-loop list line operations contexts kinds expected text result output₀ tally₀ i₀ output tally i = length list - i
 
 loop-holds : tie.Need-loop-holds Inv-loop μ-loop
 loop-holds c = search needs
@@ -37,9 +37,6 @@ enum-known-operation c = search needs
 enum-told : tie.Need-enum-told Inv-loop μ-loop
 enum-told c = search needs
 
-malformed-requires : tie.Need-malformed-requires Inv-loop μ-loop
-malformed-requires c κs = search needs
-
 same-length-3 : tie.Need-same-length-3 Inv-loop μ-loop
 same-length-3 c = search needs
 
@@ -52,6 +49,15 @@ returns-2 c = search needs
 each-context-requires : tie.Need-each-context-requires Inv-loop μ-loop
 each-context-requires c κs = search needs
 
+same-length-5 : tie.Need-same-length-5 Inv-loop μ-loop
+same-length-5 c = search needs
+
+same-length-6 : tie.Need-same-length-6 Inv-loop μ-loop
+same-length-6 c = search needs
+
+returns-3 : tie.Need-returns-3 Inv-loop μ-loop
+returns-3 c = search needs
+
 add-i : tie.Need-add-i Inv-loop μ-loop
 add-i c = search needs
 
@@ -61,17 +67,14 @@ loop-less c = search needs
 loop-again : tie.Need-loop-again Inv-loop μ-loop
 loop-again c = search needs
 
-malformed-requires-2 : tie.Need-malformed-requires-2 Inv-loop μ-loop
-malformed-requires-2 c κs = search needs
+same-length-7 : tie.Need-same-length-7 Inv-loop μ-loop
+same-length-7 c = search needs
 
-same-length-5 : tie.Need-same-length-5 Inv-loop μ-loop
-same-length-5 c = search needs
+same-length-8 : tie.Need-same-length-8 Inv-loop μ-loop
+same-length-8 c = search needs
 
-same-length-6 : tie.Need-same-length-6 Inv-loop μ-loop
-same-length-6 c = search needs
-
-returns-3 : tie.Need-returns-3 Inv-loop μ-loop
-returns-3 c = search needs
+returns-4 : tie.Need-returns-4 Inv-loop μ-loop
+returns-4 c = search needs
 
 pub each-operation-spec : {M : Type 1} → statement M
 each-operation-spec =
@@ -87,15 +90,16 @@ each-operation-spec =
     operation-of-requires
     enum-known-operation
     enum-told
-    malformed-requires
     same-length-3
     same-length-4
     returns-2
     each-context-requires
+    same-length-5
+    same-length-6
+    returns-3
     add-i
     loop-less
     loop-again
-    malformed-requires-2
-    same-length-5
-    same-length-6
-    returns-3)
+    same-length-7
+    same-length-8
+    returns-4)

@@ -19,6 +19,9 @@ text-line-requires c κs = search needs
 result-line-requires : tie.Need-result-line-requires
 result-line-requires c κs = search needs
 
+told-requires : tie.Need-told-requires
+told-requires c κs = search needs
+
 end-line-requires : tie.Need-end-line-requires
 end-line-requires c κs = search needs
 
@@ -67,11 +70,11 @@ same-length-3 c = search needs
 returns-5 : tie.Need-returns-5
 returns-5 c = search needs
 
-returns-6 : tie.Need-returns-6
-returns-6 c = search needs
-
 same-length-4 : tie.Need-same-length-4
 same-length-4 c = search needs
+
+returns-6 : tie.Need-returns-6
+returns-6 c = search needs
 
 same-length-5 : tie.Need-same-length-5
 same-length-5 c = search needs
@@ -81,6 +84,9 @@ same-length-6 c = search needs
 
 same-length-7 : tie.Need-same-length-7
 same-length-7 c = search needs
+
+same-length-8 : tie.Need-same-length-8
+same-length-8 c = search needs
 
 returns-7 : tie.Need-returns-7
 returns-7 c = search needs
@@ -93,6 +99,7 @@ one-line-spec =
     remark-requires
     text-line-requires
     result-line-requires
+    told-requires
     end-line-requires
     malformed-requires
     returns
@@ -109,9 +116,10 @@ one-line-spec =
     returns-4
     same-length-3
     returns-5
-    returns-6
     same-length-4
+    returns-6
     same-length-5
     same-length-6
     same-length-7
+    same-length-8
     returns-7)
