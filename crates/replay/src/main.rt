@@ -121,119 +121,78 @@ fn context_of(letter: u8) -> u32 {
     (letter - b'a') as u32
 }
 
-// The cases of a line in one operation and context, one for each kind of call. Answers whether the letters of the kinds are right.
-fn each_kind(
-    list: &[u8],
-    line: u64,
-    kinds: usize,
-    operation: Operation,
-    context: u32,
-    expected: Expected,
-    text: &[u8],
-    result: &[u8],
-    output: &mut [u8],
-    tally: &mut [u64],
-) -> bool {
-    let mut i = kinds;
-    while i < list.len() {
-        let letter = list[i];
-        if letter == b' ' {
-            return true;
-        }
-        if letter != b'b' && letter != b'c' {
-            return false;
-        }
-        let case = Case {
-            operation,
-            context,
-            borrows: letter == b'b',
-        };
-        report::count(
-            line,
-            case,
-            cases::run(case, expected, text, result, output),
-            tally,
-        );
-        i += 1;
-    }
-    false
-}
-
-// The cases of a line in one operation: those in each context. Answers whether the letters are right.
-fn each_context(
-    list: &[u8],
-    line: u64,
+// The places of the letters of a line's next case, and where the line's contexts and kinds begin.
+struct Letters {
+    operation: usize,
+    context: usize,
+    kind: usize,
     contexts: usize,
     kinds: usize,
-    operation: Operation,
-    expected: Expected,
-    text: &[u8],
-    result: &[u8],
-    output: &mut [u8],
-    tally: &mut [u64],
-) -> bool {
-    let mut i = contexts;
-    while i < list.len() {
-        let letter = list[i];
-        if letter == b' ' {
-            return true;
-        }
-        if !each_kind(
-            list,
-            line,
-            kinds,
-            operation,
-            context_of(letter),
-            expected,
-            text,
-            result,
-            output,
-            tally,
-        ) {
-            return false;
-        }
-        i += 1;
-    }
-    false
 }
 
-// The cases of a line, which starts at a place: those in each operation. Answers whether the letters are right.
-fn each_operation(
+// A case by its letters, or none where a letter is wrong.
+enum Spelt {
+    Names(Case),
+    Nothing,
+}
+
+// Reads the letters of a case.
+fn case_at(list: &[u8], letters: Letters) -> Spelt {
+    let kind = byte_at(list, letters.kind);
+    if kind != b'b' && kind != b'c' {
+        return Spelt::Nothing;
+    }
+    let Letter::Means(operation) = operation_of(byte_at(list, letters.operation)) else {
+        return Spelt::Nothing;
+    };
+    Spelt::Names(Case {
+        operation,
+        context: context_of(byte_at(list, letters.context)),
+        borrows: kind == b'b',
+    })
+}
+
+// The letters of the next case: the next kind; else the first kind in the next context; else the first of both in the next operation.
+fn next_case(list: &[u8], letters: Letters) -> Letters {
+    let mut next = letters;
+    next.kind = after(letters.kind);
+    if byte_at(list, next.kind) != b' ' {
+        return next;
+    }
+    next.kind = letters.kinds;
+    next.context = after(letters.context);
+    if byte_at(list, next.context) != b' ' {
+        return next;
+    }
+    next.context = letters.contexts;
+    next.operation = after(letters.operation);
+    next
+}
+
+// Runs the cases of a line, of which there are at most 4 times 26 times 2. Answers whether the letters are right.
+fn each_case(
     list: &[u8],
     line: u64,
-    operations: usize,
-    contexts: usize,
-    kinds: usize,
+    first: Letters,
     expected: Expected,
     text: &[u8],
     result: &[u8],
     output: &mut [u8],
     tally: &mut [u64],
 ) -> bool {
-    let mut i = operations;
-    while i < list.len() {
-        let letter = list[i];
-        if letter == b' ' {
+    let mut letters = first;
+    let mut left: usize = 209;
+    while 0 < left {
+        if byte_at(list, letters.operation) == b' ' {
             return true;
         }
-        let Letter::Means(operation) = operation_of(letter) else {
+        let Spelt::Names(case) = case_at(list, letters) else {
             return false;
         };
-        if !each_context(
-            list,
-            line,
-            contexts,
-            kinds,
-            operation,
-            expected,
-            text,
-            result,
-            output,
-            tally,
-        ) {
-            return false;
-        }
-        i += 1;
+        let fault = cases::run(case, expected, text, result, output);
+        report::count(line, case, fault, tally);
+        letters = next_case(list, letters);
+        left -= 1;
     }
     false
 }
@@ -288,12 +247,17 @@ fn case_line(
     if !next.right {
         return next;
     }
-    let right = each_operation(
-        list,
-        state.line,
-        state.at,
+    let first = Letters {
+        operation: state.at,
+        context: contexts,
+        kind: kinds,
         contexts,
         kinds,
+    };
+    let right = each_case(
+        list,
+        state.line,
+        first,
         expected,
         text,
         result,
@@ -368,6 +332,7 @@ fn buffer() -> [u8; 1048576]
     [0; 1048576]
 }
 
+// Reads the list, replays it and prints the report.
 fn main() {
     let mut list = buffer();
     let mut text = buffer();

@@ -1,23 +1,22 @@
--- The loop of `each_kind` is safe and ends: the two lent slices keep their lengths, and what is left of the list falls.
+-- The loop of `each_case` is safe and ends: the two lent slices keep their lengths, and the count of cases falls.
 -- Assumes nothing.
-use Prim.Native.Nat.{_-_}
 use mathlib.Core.Path.{_≡_}
 use borrow.Author.Needs.{needs}
 use lib.ListN.{length}
-use Rattle.replay.proofs.each_kind.Statement.{statement}
-use Rattle.replay.proofs.each_kind.Tie as tie
+use Rattle.replay.proofs.each_case.Statement.{statement}
+use Rattle.replay.proofs.each_case.Tie as tie
 
 abbrev Inv-loop : tie.InvT-loop
-Inv-loop list line kinds operation context expected text result output₀ tally₀ i₀ output tally i = (length output ≡ length output₀) × (length tally ≡ length tally₀)
+Inv-loop list line expected text result output₀ tally₀ letters₀ left₀ output tally letters left = (length output ≡ length output₀) × (length tally ≡ length tally₀)
 
 abbrev μ-loop : tie.MeasureT-loop
-μ-loop list line kinds operation context expected text result output₀ tally₀ i₀ output tally i = length list - i
+μ-loop list line expected text result output₀ tally₀ letters₀ left₀ output tally letters left = left
 
 loop-holds : tie.Need-loop-holds Inv-loop μ-loop
 loop-holds c = search needs
 
-shared-slice-read-letter : tie.Need-shared-slice-read-letter Inv-loop μ-loop
-shared-slice-read-letter c = search needs
+byte-at-requires : tie.Need-byte-at-requires Inv-loop μ-loop
+byte-at-requires c κs = search needs
 
 same-length : tie.Need-same-length Inv-loop μ-loop
 same-length c = search needs
@@ -27,6 +26,15 @@ same-length-2 c = search needs
 
 returns : tie.Need-returns Inv-loop μ-loop
 returns c = search needs
+
+case-at-requires : tie.Need-case-at-requires Inv-loop μ-loop
+case-at-requires c κs = search needs
+
+enum-known-case : tie.Need-enum-known-case Inv-loop μ-loop
+enum-known-case c = search needs
+
+enum-told : tie.Need-enum-told Inv-loop μ-loop
+enum-told c = search needs
 
 same-length-3 : tie.Need-same-length-3 Inv-loop μ-loop
 same-length-3 c = search needs
@@ -43,8 +51,11 @@ run-requires c κs = search needs
 count-requires : tie.Need-count-requires Inv-loop μ-loop
 count-requires c κs = search needs
 
-add-i : tie.Need-add-i Inv-loop μ-loop
-add-i c = search needs
+next-case-requires : tie.Need-next-case-requires Inv-loop μ-loop
+next-case-requires c κs = search needs
+
+sub-left : tie.Need-sub-left Inv-loop μ-loop
+sub-left c = search needs
 
 loop-less : tie.Need-loop-less Inv-loop μ-loop
 loop-less c = search needs
@@ -61,23 +72,27 @@ same-length-6 c = search needs
 returns-3 : tie.Need-returns-3 Inv-loop μ-loop
 returns-3 c = search needs
 
-pub each-kind-spec : {M : Type 1} → statement M
-each-kind-spec =
+pub each-case-spec : {M : Type 1} → statement M
+each-case-spec =
     tie.close
     (tie.spec
     Inv-loop
     μ-loop
     loop-holds
-    shared-slice-read-letter
+    byte-at-requires
     same-length
     same-length-2
     returns
+    case-at-requires
+    enum-known-case
+    enum-told
     same-length-3
     same-length-4
     returns-2
     run-requires
     count-requires
-    add-i
+    next-case-requires
+    sub-left
     loop-less
     loop-again
     same-length-5
