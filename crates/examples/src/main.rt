@@ -33,34 +33,14 @@ fn print_bytes(bytes: &[u8]) {
     io::write_all(STDOUT_FILENO, b"\n");
 }
 
-// The copying call of an operation.
-fn copying(operation: Operation, context: u32, text: &[u8], output: &mut [u8]) -> Answer {
-    match operation {
-        Operation::Encode => lintelrye::encode(context, text, output),
-        Operation::Decode => lintelrye::decode(context, text, output),
-        Operation::Read => lintelrye::read(context, text, output),
-        Operation::Browse => lintelrye::browse(context, text, output),
-    }
-}
-
-// The borrowing call of an operation.
-fn borrowing(operation: Operation, context: u32, text: &[u8], output: &mut [u8]) -> Answer {
-    match operation {
-        Operation::Encode => lintelrye::encode_borrowing(context, text, output),
-        Operation::Decode => lintelrye::decode_borrowing(context, text, output),
-        Operation::Read => lintelrye::read_borrowing(context, text, output),
-        Operation::Browse => lintelrye::browse_borrowing(context, text, output),
-    }
-}
-
 // Runs one example with an output that is lent whole, and prints both calls.
 fn show(example: usize, operation: Operation, context: u32, text: &[u8], output: &mut [u8]) {
     print_number(example);
-    let lent = borrowing(operation, context, text, output);
+    let lent = calls::borrowing(operation, context, text, output);
     print_answer(lent);
     print_bytes(lintelrye::view(text, output, lent));
     print_number(example);
-    let copied = copying(operation, context, text, output);
+    let copied = calls::copying(operation, context, text, output);
     print_answer(copied);
     print_bytes(lintelrye::view(text, output, copied));
 }

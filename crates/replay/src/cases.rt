@@ -39,33 +39,13 @@ pub fn is_nothing(difference: Difference) -> bool {
     }
 }
 
-// The copying call of an operation.
-fn copying(operation: Operation, context: u32, text: &[u8], output: &mut [u8]) -> Answer {
-    match operation {
-        Operation::Encode => lintelrye::encode(context, text, output),
-        Operation::Decode => lintelrye::decode(context, text, output),
-        Operation::Read => lintelrye::read(context, text, output),
-        Operation::Browse => lintelrye::browse(context, text, output),
-    }
-}
-
-// The borrowing call of an operation.
-fn borrowing(operation: Operation, context: u32, text: &[u8], output: &mut [u8]) -> Answer {
-    match operation {
-        Operation::Encode => lintelrye::encode_borrowing(context, text, output),
-        Operation::Decode => lintelrye::decode_borrowing(context, text, output),
-        Operation::Read => lintelrye::read_borrowing(context, text, output),
-        Operation::Browse => lintelrye::browse_borrowing(context, text, output),
-    }
-}
-
 // The call of a case.
 fn call(case: Case, text: &[u8], output: &mut [u8]) -> Answer {
     let operation = case.operation;
     if case.borrows {
-        return borrowing(operation, case.context, text, output);
+        return calls::borrowing(operation, case.context, text, output);
     }
-    copying(operation, case.context, text, output)
+    calls::copying(operation, case.context, text, output)
 }
 
 // The byte that stands at a place of the output before a call: 248 to 255 by turns, none of which stands in valid UTF-8.

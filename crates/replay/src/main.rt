@@ -10,10 +10,9 @@
 //              a case for each operation (E, D, R, B), context (a for 0, b for 1, ..; z for the largest number) and kind of call (c, b): with an
 //              output of ROOM bytes the answer is the four numbers, and the first WRITTEN bytes of the output are those of the result;
 //   end COUNT  the last line: how many cases the list has.
-// How a text is spelt stands in spelling.rt. A list with any other line, or with another count, is reported as malformed.
+// How a text is spelt stands in crates/spelling. A list with any other line, or with another count, is reported as malformed.
 mod cases;
 mod report;
-mod spelling;
 
 ghost use mathlib.Core.Path.{_≡_};
 ghost use lib.ListN.{length};
@@ -131,21 +130,21 @@ struct Letters {
 }
 
 // A case by its letters, or none where a letter is wrong.
-enum Spelt {
+enum Asked {
     Names(Case),
     Nothing,
 }
 
 // Reads the letters of a case.
-fn case_at(list: &[u8], letters: Letters) -> Spelt {
+fn case_at(list: &[u8], letters: Letters) -> Asked {
     let kind = byte_at(list, letters.kind);
     if kind != b'b' && kind != b'c' {
-        return Spelt::Nothing;
+        return Asked::Nothing;
     }
     let Letter::Means(operation) = operation_of(byte_at(list, letters.operation)) else {
-        return Spelt::Nothing;
+        return Asked::Nothing;
     };
-    Spelt::Names(Case {
+    Asked::Names(Case {
         operation,
         context: context_of(byte_at(list, letters.context)),
         borrows: kind == b'b',
@@ -186,7 +185,7 @@ fn each_case(
         if byte_at(list, letters.operation) == b' ' {
             return true;
         }
-        let Spelt::Names(case) = case_at(list, letters) else {
+        let Asked::Names(case) = case_at(list, letters) else {
             return false;
         };
         let fault = cases::run(case, expected, text, result, output);

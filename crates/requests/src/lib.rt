@@ -25,18 +25,6 @@ pub const ENOUGH: usize = 8230;
 // The status of a request whose lines differ.
 pub const BAD_REQUEST: usize = 6;
 
-// The copying call of an operation.
-fn copying(operation: Operation, context: u32, text: &[u8], output: &mut [u8]) -> Answer
-    ensures { λ r. ⌜ (r ≡ answerOf operation (contextOf context) false (now (text .entry)) (now (output .entry))) × (now (output .exit) ≡ outOf operation (contextOf context) false (now (text .entry)) (now (output .entry))) ⌝ }
-{
-    match operation {
-        Operation::Encode => lintelrye::encode(context, text, output),
-        Operation::Decode => lintelrye::decode(context, text, output),
-        Operation::Read => lintelrye::read(context, text, output),
-        Operation::Browse => lintelrye::browse(context, text, output),
-    }
-}
-
 // A refusal that names no length and no place.
 fn refusal(status: usize) -> Answer
     ensures { λ r. ⌜ r ≡ answer status 0 0 0 ⌝ }
@@ -64,9 +52,9 @@ fn limited(operation: Operation, context: u32, text: &[u8], output: &mut [u8]) -
     ensures { λ r. ⌜ (r ≡ answerTo (asked operation context (now (text .entry)) (length (now (output .entry))))) × (now (output .exit) ≡ outputOf (asked operation context (now (text .entry)) (length (now (output .entry)))) (now (output .entry))) ⌝ }
 {
     if 8192 < text.len() {
-        return too_long(copying(operation, context, &text[..0], output));
+        return too_long(calls::copying(operation, context, &text[..0], output));
     }
-    copying(operation, context, text, output)
+    calls::copying(operation, context, text, output)
 }
 
 // Room for every result: six times the longest text.

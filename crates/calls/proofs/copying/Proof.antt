@@ -1,8 +1,8 @@
 -- `copying` meets its contract: each arm by that of its call.
 -- Assumes nothing.
 use borrow.Author.Needs.{needs}
-use Rattle.requests.proofs.copying.Tie as tie
-use Rattle.requests.proofs.copying.Statement.{statement}
+use Rattle.calls.proofs.copying.Tie as tie
+use Rattle.calls.proofs.copying.Statement.{statement}
 
 enum-told : tie.Need-enum-told
 enum-told c = search needs

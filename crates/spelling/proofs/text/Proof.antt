@@ -4,8 +4,8 @@ use Prim.Native.Nat.{_-_}
 use mathlib.Core.Path.{_≡_}
 use borrow.Author.Needs.{needs}
 use lib.ListN.{length}
-use Rattle.replay.proofs.spelling.text.Statement.{statement}
-use Rattle.replay.proofs.spelling.text.Tie as tie
+use Rattle.spelling.proofs.text.Statement.{statement}
+use Rattle.spelling.proofs.text.Tie as tie
 
 abbrev Inv-loop : tie.InvT-loop
 Inv-loop list at into₀ i₀ long₀ into i long = length into ≡ length into₀

@@ -4,8 +4,8 @@ use Prim.Native.Nat.{_-_, _≤_}
 use mathlib.Core.Path.{_≡_}
 use borrow.Author.Needs.{needs}
 use lib.ListN.{length}
-use Rattle.replay.proofs.spelling.repeat.Statement.{statement}
-use Rattle.replay.proofs.spelling.repeat.Tie as tie
+use Rattle.spelling.proofs.repeat.Statement.{statement}
+use Rattle.spelling.proofs.repeat.Tie as tie
 
 abbrev Inv-loop : tie.InvT-loop
 Inv-loop into₀ long count back end i₀ into i = (length into ≡ length into₀) × (back ≤ i) × (i ≤ end) × (end ≤ length into₀)

@@ -3,8 +3,8 @@
 use Prim.Native.Nat.{_-_, _≤_}
 use borrow.Author.Needs.{needs}
 use lib.ListN.{length}
-use Rattle.replay.proofs.spelling.read_number.Statement.{statement}
-use Rattle.replay.proofs.spelling.read_number.Tie as tie
+use Rattle.spelling.proofs.read_number.Statement.{statement}
+use Rattle.spelling.proofs.read_number.Tie as tie
 
 abbrev Inv-loop : tie.InvT-loop
 Inv-loop list at value₀ i₀ value i = 0 ≤ i
