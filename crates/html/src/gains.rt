@@ -19,6 +19,7 @@ pub struct Gains {
 }
 
 impl Gains {
+    // The growths of a context, one by one.
     fn new(few: bool, unquoted: bool, gt: u8, double: u8, single: u8, slash: u8) -> Self
         ensures { λ r. ⌜ r ≡ record { few = few; unquoted = unquoted; gt = gt; double = double; single = single; slash = slash } ⌝ }
     {

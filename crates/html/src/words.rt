@@ -45,6 +45,7 @@ pub struct Words {
 }
 
 impl Words {
+    // The words of a context, one by one.
     fn new(few: bool, unquoted: bool, gt: u64, double: u64, single: u64, slash: u64) -> Self
         ensures { λ r. ⌜ r ≡ record { few = few; unquoted = unquoted; gt = gt; double = double; single = single; slash = slash } ⌝ }
     {
