@@ -3,7 +3,7 @@ ghost use mathlib.Core.Bool.{true, false};
 ghost use mathlib.Core.Path.{_≡_};
 ghost use Rattle.rules.specs.Contexts.{contextOf};
 ghost use Rattle.rules.specs.Refusals.{answerOf, outOf};
-use rules::Answer;
+use lintelrye::Answer;
 use rules::Operation;
 
 // The copying call of an operation.

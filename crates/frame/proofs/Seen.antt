@@ -6,18 +6,34 @@ use mathlib.Core.Path.{_≡_, refl, sym, ap, _∙_, subst}
 use mathlib.Core.List.{List}
 use Prim.Native.Nat.{ℕ, _≤_, _<_}
 use native.Mathlib.Omega.{arith}
+use borrow.Author.Tests.{eqb-true}
 use lib.Dec.{eqb}
 use lib.ListN.{length as size}
 use Rattle.rules.specs.Bytes.{over}
-use Rattle.rules.specs.Moves.{Move, Rule, result, replaced, place, through}
+use Rattle.rules.specs.Moves.{Move, Rule, result, replaced, place, taken, through}
 use Rattle.rules.specs.Utf8.{validTo}
 use Rattle.rules.specs.Refusals.{answer, textLimit, sameOf}
 use Rattle.rules.specs.declared.Answer.{Answer}
 use Rattle.rules.proofs.Valid.{valid-within}
+use Rattle.rules.proofs.Machine.{same-result}
+use Rattle.rules.proofs.Growth.{encode-whole, raw-whole}
+use Rattle.rules.proofs.Whole.{decode-whole, browse-whole}
+use Rattle.rules.proofs.Laws.{read-whole}
 use Rattle.frame.specs.Jobs.{known, ruleBy, ruleAt, Surveyed}
 use Rattle.frame.specs.declared.job.Job.{Job}
+use Rattle.frame.specs.declared.job.Job.the-variants.{Encode, EncodeRaw, Decode, Read, Browse, Nothing}
 use Rattle.frame.specs.declared.findings.Findings.{Findings}
 use Rattle.frame.proofs.Rows.{Leaves, bad-row, long-row, utf8-row, form-row, lent-row, room-row, written-row}
+
+-- A job that gets to the end of a text has taken all of it.
+job-whole : (job : Job) (t : List ℕ) → not (known job) ≡ false → size t ≤ place (through (ruleBy job) t) → taken (through (ruleBy job) t) ≡ t
+unfolding ruleBy
+job-whole (Encode c) t e h = encode-whole c t
+job-whole EncodeRaw t e h = raw-whole t
+job-whole (Decode c) t e h = decode-whole c t
+job-whole (Read c) t e h = read-whole c t h
+job-whole Browse t e h = browse-whole t
+job-whole Nothing t e h = let never : _≡_ {A = ℕ} 0 1 = cc in absurd (omega arith)
 
 module _ (job : Job) (borrows : Bool) (t out : List ℕ) where
   abbrev ms : List Move
@@ -71,6 +87,10 @@ module _ (job : Job) (borrows : Bool) (t out : List ℕ) where
         module _ (w : size t ≤ found .place) where
           to-end : size t ≤ place ms
           to-end = subst (λ (n : ℕ). size t ≤ n) (s .reach all-valid) w
+
+          -- Where nothing is replaced the result is the text.
+          pub seen-same : found .same ≡ true → result ms ≡ t
+          seen-same e = same-result ms (eqb-true (replaced ms) 0 (sym (s .kept all-valid) ∙ e)) ∙ job-whole job t something to-end
 
           pub seen-lent : borrows && found .same ≡ true → Left (answer 0 (found .length) 1 0) out
           seen-lent h =

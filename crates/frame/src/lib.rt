@@ -75,7 +75,7 @@ fn by_survey(job: Job, borrows: bool, text: &[u8], output: &mut [u8]) -> Answer
     if output.len() < found.length {
         return refusal(3, found.length, 0);
     }
-    work::fill(job, found.length, text, output);
+    work::put_result(job, found, text, output);
     passed(found.length, found.same)
 }
 

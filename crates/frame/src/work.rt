@@ -1,4 +1,5 @@
 // How a job is surveyed and written: each goes to its operation, chosen outside of every loop.
+ghost use mathlib.Core.Bool.{true};
 ghost use mathlib.Core.Path.{_≡_};
 ghost use Prim.Native.Nat.{_≤_};
 ghost use lib.ListN.{length};
@@ -42,7 +43,7 @@ fn survey_nothing(text: &[u8]) -> Findings
 }
 
 // Writes the result of a job on a valid text, which is `size` bytes long, to the start of `output`; what lies past it keeps its values.
-pub fn fill(job: Job, size: usize, text: &[u8], output: &mut [u8]) -> usize
+fn fill(job: Job, size: usize, text: &[u8], output: &mut [u8]) -> usize
     requires { ⌜ (size ≡ length (result (through (ruleBy job) (now text)))) × (size ≤ length (now output)) × (validTo (now text) ≡ length (now text)) ⌝ }
     ensures { λ r. ⌜ (r ≡ size) × (now (output .exit) ≡ over (result (through (ruleBy job) (now (text .entry)))) (now (output .entry))) ⌝ }
 {
@@ -54,4 +55,16 @@ pub fn fill(job: Job, size: usize, text: &[u8], output: &mut [u8]) -> usize
         Job::Browse => decoding::fill_references(Numbers::Browsed, text, output),
         Job::Nothing => 0,
     }
+}
+
+// Writes the result of a job on a valid text, as the survey found it, to the start of `output`: the text itself where nothing is replaced. What lies
+// past it keeps its values.
+pub fn put_result(job: Job, found: Findings, text: &[u8], output: &mut [u8]) -> usize
+    requires { ⌜ (found .length ≡ length (result (through (ruleBy job) (now text)))) × (found .length ≤ length (now output)) × (validTo (now text) ≡ length (now text)) × (found .same ≡ true → result (through (ruleBy job) (now text)) ≡ now text) ⌝ }
+    ensures { λ r. ⌜ (r ≡ found .length) × (now (output .exit) ≡ over (result (through (ruleBy job) (now (text .entry)))) (now (output .entry))) ⌝ }
+{
+    if found.same {
+        return parts::put(text, output);
+    }
+    fill(job, found.length, text, output)
 }

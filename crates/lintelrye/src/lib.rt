@@ -22,7 +22,7 @@ ghost use mathlib.Core.Path.{_≡_};
 ghost use Rattle.rules.specs.Contexts.{contextOf};
 ghost use Rattle.rules.specs.Refusals.{answerOf, outOf, viewOf};
 ghost use Rattle.rules.specs.declared.Operation.the-variants.{Encode, Decode, Read, Browse};
-use rules::Answer;
+pub use rules::Answer;
 use rules::Operation;
 
 // The contexts: the HTML seven, the script strings, the style strings, and text inside a script element.

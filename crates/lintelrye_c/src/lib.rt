@@ -5,7 +5,7 @@ ghost use mathlib.Core.Path.{_≡_};
 ghost use Rattle.rules.specs.Contexts.{contextOf};
 ghost use Rattle.rules.specs.Refusals.{answerOf, outOf};
 ghost use Rattle.rules.specs.declared.Operation.the-variants.{Encode, Decode, Read, Browse};
-use rules::Answer;
+use lintelrye::Answer;
 
 // `encode` of crates/lintelrye.
 #[no_mangle]

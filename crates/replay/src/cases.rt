@@ -1,5 +1,5 @@
 // One case: the call, and what is compared.
-use rules::Answer;
+use lintelrye::Answer;
 use rules::Operation;
 
 // The call that a case makes.

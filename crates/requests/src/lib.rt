@@ -15,7 +15,7 @@ ghost use Rattle.rules.specs.Program.{entityOf, requestOf, contextLine, textOf,
 ghost use Rattle.requests.specs.Asked.{asked, answerTo, outputOf, refused, printedBy, Prints};
 use crate::lines::ContextLine;
 use crate::lines::OperationLine;
-use rules::Answer;
+use lintelrye::Answer;
 use rules::Operation;
 
 // How much of a request has to be read: the longest header, the longest text, and a byte that tells a longer text. What comes after it changes nothing

@@ -2,7 +2,7 @@
 -- Assumes nothing.
 use mathlib.Core.Path.{sym, _∙_}
 use borrow.Author.Needs.{needs}
-use Rattle.frame.proofs.Seen.{seen-utf8, all-valid, seen-form, seen-lent, seen-room, seen-written}
+use Rattle.frame.proofs.Seen.{seen-utf8, all-valid, seen-form, seen-same, seen-lent, seen-room, seen-written}
 use Rattle.frame.proofs.by_survey.Statement.{statement}
 use Rattle.frame.proofs.by_survey.Tie as tie
 
@@ -48,11 +48,11 @@ returns-4 c =
     let l = seen-room (a .job) (a .borrows) (a .text .now) (a .output .now) (c .before .before .before .before .before .before .before .before .before .before .before .before .pre .0) (c .before .before .before .before .before .before .before .before .before .before .before .before .pre .1) (c .before .before .before .before .before .before .before .before .before .survey .result) (c .before .before .before .before .before .before .before .before .before .survey .ensures) (c .before .before .before .before .before .before .before .if1 .left) (c .before .before .before .before .before .if2 .left) (sym (c .before .before .before .before .lends .ensures) ∙ c .before .before .before .if3 .left) (c .before .if4 .taken) in
     (c .refusal3 .ensures ∙ l .0, l .1)
 
-fill-requires : tie.Need-fill-requires
-fill-requires c κs =
+put-result-requires : tie.Need-put-result-requires
+put-result-requires c κs =
     let a = c .before .before .before .before .before .before .before .before .before .before .before .before .args in
     let v = all-valid (a .job) (a .borrows) (a .text .now) (a .output .now) (c .before .before .before .before .before .before .before .before .before .before .before .before .pre .0) (c .before .before .before .before .before .before .before .before .before .before .before .before .pre .1) (c .before .before .before .before .before .before .before .before .before .survey .result) (c .before .before .before .before .before .before .before .before .before .survey .ensures) (c .before .before .before .before .before .before .before .if1 .left) in
-    (c .before .before .before .before .before .before .before .before .before .survey .ensures .long v, c .before .if4 .left, v)
+    (c .before .before .before .before .before .before .before .before .before .survey .ensures .long v, c .before .if4 .left, v, seen-same (a .job) (a .borrows) (a .text .now) (a .output .now) (c .before .before .before .before .before .before .before .before .before .before .before .before .pre .0) (c .before .before .before .before .before .before .before .before .before .before .before .before .pre .1) (c .before .before .before .before .before .before .before .before .before .survey .result) (c .before .before .before .before .before .before .before .before .before .survey .ensures) (c .before .before .before .before .before .before .before .if1 .left) (c .before .before .before .before .before .if2 .left))
 
 passed-requires-2 : tie.Need-passed-requires-2
 passed-requires-2 c κs = search needs
@@ -64,7 +64,7 @@ returns-5 : tie.Need-returns-5
 returns-5 c =
     let a = c .before .before .before .before .before .before .before .before .before .before .before .before .before .before .before .before .args in
     let l = seen-written (a .job) (a .borrows) (a .text .now) (a .output .now) (c .before .before .before .before .before .before .before .before .before .before .before .before .before .before .before .before .pre .0) (c .before .before .before .before .before .before .before .before .before .before .before .before .before .before .before .before .pre .1) (c .before .before .before .before .before .before .before .before .before .before .before .before .before .survey .result) (c .before .before .before .before .before .before .before .before .before .before .before .before .before .survey .ensures) (c .before .before .before .before .before .before .before .before .before .before .before .if1 .left) (c .before .before .before .before .before .before .before .before .before .if2 .left) (sym (c .before .before .before .before .before .before .before .before .lends .ensures) ∙ c .before .before .before .before .before .before .before .if3 .left) (c .before .before .before .before .before .if4 .left) in
-    (c .passed2 .ensures ∙ l .0, c .before .before .before .fill .ensures .1 ∙ l .1)
+    (c .passed2 .ensures ∙ l .0, c .before .before .before .put-result .ensures .1 ∙ l .1)
 
 pub by-survey-spec : {M : Type 1} → statement M
 by-survey-spec =
@@ -80,7 +80,7 @@ by-survey-spec =
     returns-3
     refusal-requires-3
     returns-4
-    fill-requires
+    put-result-requires
     passed-requires-2
     same-length
     returns-5)
