@@ -3,3 +3,4 @@ pub mod Found
 pub mod Once
 pub mod Rows
 pub mod Seen
+pub mod Plain

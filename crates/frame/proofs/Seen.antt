@@ -56,7 +56,7 @@ module _ (job : Job) (borrows : Bool) (t out : List ℕ) where
   seen-nothing e = bad-row (ruleAt job) borrows t out (ap (λ (b : Bool). cond b (some (ruleBy job)) none) (cleared (known job) e))
 
   module _ (something : not (known job) ≡ false) where
-    rule-is : ruleAt job ≡ some (ruleBy job)
+    pub rule-is : ruleAt job ≡ some (ruleBy job)
     rule-is = ap (λ (b : Bool). cond b (some (ruleBy job)) none) (flipped (known job) something)
 
     pub seen-long : textLimit < size t → Left (answer 1 0 0 0) out

@@ -13,7 +13,7 @@ ghost use Prim.Native.Nat.{_≤_};
 ghost use lib.ListN.{length};
 ghost use Rattle.rules.specs.Refusals.{answer, answerBy, outBy, answerOf, outOf};
 ghost use Rattle.rules.specs.Contexts.{contextOf};
-ghost use Rattle.frame.specs.Jobs.{known, ruleAt};
+ghost use Rattle.frame.specs.Jobs.{known, ruleAt, Unchanged};
 use crate::job::Job;
 use rules::Answer;
 use rules::Operation;
@@ -103,7 +103,26 @@ fn convert(job: Job, borrows: bool, text: &[u8], output: &mut [u8]) -> Answer
     }
 }
 
-// A call of an operation in the context of a number: every public call is one of these.
+// A call of a job on a text that it leaves as it is.
+fn unchanged(job: Job, borrows: bool, text: &[u8], output: &mut [u8]) -> Answer
+    requires { ⌜ Unchanged job (now text) ⌝ }
+    ensures { λ r. ⌜ (r ≡ answerBy (ruleAt job) borrows (now (text .entry)) (now (output .entry))) × (now (output .exit) ≡ outBy (ruleAt job) borrows (now (text .entry)) (now (output .entry))) ⌝ }
+{
+    if job::is_nothing(job) {
+        return refusal(5, 0, 0);
+    }
+    if borrows {
+        return passed(text.len(), true);
+    }
+    if output.len() < text.len() {
+        return refusal(3, text.len(), 0);
+    }
+    plain::put(text, output);
+    passed(text.len(), true)
+}
+
+// A call of an operation in the context of a number: every public call is one of these. A plain text, as most names are, needs nothing of what the
+// job would do; context 6 is the unquoted attribute, in which fewer bytes are plain.
 pub fn call(
     operation: Operation,
     context: u32,
@@ -113,5 +132,9 @@ pub fn call(
 ) -> Answer
     ensures { λ r. ⌜ (r ≡ answerOf operation (contextOf context) borrows (now (text .entry)) (now (output .entry))) × (now (output .exit) ≡ outOf operation (contextOf context) borrows (now (text .entry)) (now (output .entry))) ⌝ }
 {
-    convert(job::job_of(operation, context), borrows, text, output)
+    let job = job::job_of(operation, context);
+    if plain::is_plain(context == 6, text) {
+        return unchanged(job, borrows, text, output);
+    }
+    convert(job, borrows, text, output)
 }

@@ -1,0 +1,3 @@
+-- The laws of plain texts.
+pub mod Kept
+pub mod Eights

@@ -1,0 +1,2 @@
+-- The bytes that every operation leaves as they are.
+pub mod Plain

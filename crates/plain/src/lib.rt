@@ -1,0 +1,141 @@
+// Texts that every operation leaves as they are, such as most names: found by many bytes at a time, and copied.
+ghost use mathlib.Core.Bool.{true, false, not};
+ghost use mathlib.Core.Path.{_≡_};
+ghost use Prim.Native.Nat.{ℕ, _+_, _≤_, _<_};
+ghost use lib.ListN.{length, take};
+ghost use Rattle.rules.specs.Bytes.{over};
+ghost use Rattle.parts.specs.First.{Free};
+ghost use Rattle.plain.specs.Plain.{plain, oddAt};
+
+// Whether a byte is not plain, by the rule of unquoted attributes where `strict` holds. It has no branch, so that many are tested at once.
+fn is_odd(strict: bool, b: u8) -> bool
+    ensures { λ r. ⌜ r ≡ not (plain strict b) ⌝ }
+{
+    if strict {
+        return !parts::is_letter_or_digit(b);
+    }
+    !parts::is_within(32, 127, b)
+        | (b == b'"')
+        | (b == b'&')
+        | (b == b'\'')
+        | (b == b'/')
+        | (b == b'<')
+        | (b == b'>')
+        | (b == b'\\')
+}
+
+// Whether one of the `size` bytes from a place on is not plain: false only where none is. The loop has no way out but its end, so that they are
+// one vector.
+fn has_odd(strict: bool, text: &[u8], at: usize, size: usize) -> bool
+    requires { ⌜ at + size ≤ length (now text) ⌝ }
+    ensures { λ r. ⌜ (r ≡ false → Free (oddAt strict (now (text .entry))) at (at + size)) ⌝ }
+{
+    let mut hit = false;
+    let mut j: usize = 0;
+    while j < size {
+        hit = hit | is_odd(strict, text[at + j]);
+        j += 1;
+    }
+    hit
+}
+
+// Where the next bytes begin that are taken together, of a text that is done up to a place: there, or where fewer are left at the last of them.
+fn next(done: usize, last: usize) -> usize
+    ensures { λ r. ⌜ (r ≤ done) × (r ≤ last) × ((n : ℕ) → 0 < n → done < last + n → done < r + n) ⌝ }
+{
+    if done < last { done } else { last }
+}
+
+// Whether each byte of a text is plain: true only where it is so. It takes `size` bytes together, and at the end the last of them, some again.
+fn all_plain(strict: bool, text: &[u8], size: usize) -> bool
+    requires { ⌜ (0 < size) × (size ≤ length (now text)) ⌝ }
+    ensures { λ r. ⌜ (r ≡ true → Free (oddAt strict (now (text .entry))) 0 (length (now (text .entry)))) ⌝ }
+{
+    let last = text.len() - size;
+    let mut done: usize = 0;
+    while done < text.len() {
+        let at = next(done, last);
+        if has_odd(strict, text, at, size) {
+            return false;
+        }
+        done = at + size;
+    }
+    true
+}
+
+// The longest text that is looked at. By the rule of unquoted attributes that is any text that a call takes; by the other rule a short one, since
+// each job has a look of its own that is quicker for long ones.
+fn longest(strict: bool) -> usize
+    ensures { λ r. ⌜ r ≤ 65536 ⌝ }
+{
+    if strict { 65536 } else { 64 }
+}
+
+// Whether each byte of a text of eight or more is plain: true only where it is so. The longer it is, the more are tested together.
+pub fn is_plain(strict: bool, text: &[u8]) -> bool
+    ensures { λ r. ⌜ (r ≡ true → (8 ≤ length (now (text .entry))) × (length (now (text .entry)) ≤ 65536) × Free (oddAt strict (now (text .entry))) 0 (length (now (text .entry)))) ⌝ }
+{
+    if longest(strict) < text.len() {
+        return false;
+    }
+    if 64 < text.len() {
+        return all_plain(strict, text, 64);
+    }
+    if 16 <= text.len() {
+        return all_plain(strict, text, 16);
+    }
+    if 8 <= text.len() {
+        return all_plain(strict, text, 8);
+    }
+    false
+}
+
+// Writes the first eight bytes of a text to the start of `output`: all are read first, so that it is one load and one store.
+fn put_eight(text: &[u8], output: &mut [u8])
+    requires { ⌜ (8 ≤ length (now text)) × (8 ≤ length (now output)) ⌝ }
+    ensures { λ _. ⌜ now (output .exit) ≡ over (take 8 (now (text .entry))) (now (output .entry)) ⌝ }
+{
+    let a = text[0];
+    let b = text[1];
+    let c = text[2];
+    let d = text[3];
+    let e = text[4];
+    let f = text[5];
+    let g = text[6];
+    let h = text[7];
+    output[0] = a;
+    output[1] = b;
+    output[2] = c;
+    output[3] = d;
+    output[4] = e;
+    output[5] = f;
+    output[6] = g;
+    output[7] = h;
+}
+
+// Writes a text of eight bytes or more by eights.
+fn put_eights(text: &[u8], output: &mut [u8]) -> usize
+    requires { ⌜ (8 ≤ length (now text)) × (length (now text) ≤ length (now output)) ⌝ }
+    ensures { λ r. ⌜ (r ≡ length (now (text .entry))) × (now (output .exit) ≡ over (now (text .entry)) (now (output .entry))) ⌝ }
+{
+    let last = text.len() - 8;
+    let mut done: usize = 0;
+    while done < text.len() {
+        let at = next(done, last);
+        put_eight(&text[at..], &mut output[at..]);
+        done = at + 8;
+    }
+    done
+}
+
+// Writes a text of eight bytes or more to the start of `output` and returns its length, as `parts::put` does, but quicker where it is short; what
+// lies past it keeps its values.
+pub fn put(text: &[u8], output: &mut [u8]) -> usize
+    requires { ⌜ (8 ≤ length (now text)) × (length (now text) ≤ length (now output)) ⌝ }
+    ensures { λ r. ⌜ (r ≡ length (now (text .entry))) × (now (output .exit) ≡ over (now (text .entry)) (now (output .entry))) ⌝ }
+{
+    if 64 < text.len() {
+        return parts::put(text, output);
+    }
+    put_eights(text, output)
+}
