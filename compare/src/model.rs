@@ -180,7 +180,7 @@ fn browse(text: &str) -> Outcome {
 }
 
 /// What a browser takes one reference for: from its `&` to its `;`.
-fn browsed(reference: &str) -> Cow<str> {
+fn browsed(reference: &str) -> Cow<'_, str> {
     let body = &reference[1..reference.len() - 1];
     let hex = body.strip_prefix("#x").or_else(|| body.strip_prefix("#X"));
     let (digits, base) = match (hex, body.strip_prefix('#')) {
