@@ -1,6 +1,6 @@
 -- The rule of the table of names: each statement is one test, computed over all its rows; what a looked-up name gives follows from it.
 -- Assumes nothing.
-use mathlib.Core.Bool.{Bool, true, false, _&&_, _||_, cond}
+use mathlib.Core.Bool.{Bool, true, false, _&&_, _||_}
 use mathlib.Core.Option.{Option, none, some, Option·some-injective, Option·none-ne-some}
 use mathlib.Core.Path.{_≡_, refl, subst}
 use mathlib.Core.List.{List, [], _∷_}
@@ -108,12 +108,3 @@ pack-kept (suc k) (b ∷ v) h t =
 pub value-packed : (body v : List ℕ) → lookup names body ≡ some v → unpackTo 6 (pack v) ≡ v
 value-packed body v e =
     pack-kept 6 v (value-size body v e .1) (and-right (inside (1, 6) (length v)) (all (inside (1, 255)) v) (value-short body v e))
-
--- As many bytes are unpacked as are asked for, or fewer.
-pub unpack-most : (k n : ℕ) → length (unpackTo k n) ≤ k
-unpack-most zero n = omega arith
-unpack-most (suc k) n = go (eqb n 0) (unpack-most k (n / 256))
-  where
-    go : (b : Bool) → length (unpackTo k (n / 256)) ≤ k → length (cond b [] ((n % 256) ∷ unpackTo k (n / 256))) ≤ suc k
-    go true h = omega arith
-    go false h = omega arith
