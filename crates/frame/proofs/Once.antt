@@ -9,7 +9,7 @@ use native.Mathlib.Omega.{arith}
 use lib.Dec.{eqb}
 use lib.ListN.{length as size}
 use Rattle.rules.specs.Bytes.{over}
-use Rattle.rules.specs.Moves.{Move, Rule, taken, result, replaced, place, through}
+use Rattle.rules.specs.Moves.{Move, Rule, taken, result, replaced, through}
 use Rattle.rules.specs.Utf8.{validTo}
 use Rattle.rules.specs.Refusals.{answer, textLimit, sameOf}
 use Rattle.frame.proofs.Rows.{Leaves, utf8-row, written-row}

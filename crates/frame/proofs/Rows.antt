@@ -10,7 +10,7 @@ use lib.Dec.{ltb, eqb}
 use lib.ListN.{length as size}
 use Rattle.rules.specs.Moves.{Move, Rule, result, replaced, place, through}
 use Rattle.rules.specs.Utf8.{validTo}
-use Rattle.rules.specs.Refusals.{Case, bad-context, too-long, not-utf8, not-a-form, lent, no-room, written, judge, caseBy, answer, answerAt, outAt, textLimit, answerBy, outBy}
+use Rattle.rules.specs.Refusals.{Case, too-long, not-utf8, not-a-form, lent, no-room, written, judge, caseBy, answer, answerAt, outAt, textLimit, answerBy, outBy}
 use Rattle.rules.specs.declared.Answer.{Answer}
 use Rattle.rules.proofs.Refused.{chosen}
 

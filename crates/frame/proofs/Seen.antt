@@ -1,7 +1,7 @@
 -- What a survey has shown settles the rows of the refusal table: Rows, said of the numbers that the code holds.
 -- Assumes nothing.
 use mathlib.Core.Bool.{Bool, true, false, not, _&&_, cond}
-use mathlib.Core.Option.{Option, none, some}
+use mathlib.Core.Option.{none, some}
 use mathlib.Core.Path.{_≡_, refl, sym, ap, _∙_, subst}
 use mathlib.Core.List.{List}
 use Prim.Native.Nat.{ℕ, _≤_, _<_}
@@ -10,7 +10,7 @@ use borrow.Author.Tests.{eqb-true}
 use lib.Dec.{eqb}
 use lib.ListN.{length as size}
 use Rattle.rules.specs.Bytes.{over}
-use Rattle.rules.specs.Moves.{Move, Rule, result, replaced, place, taken, through}
+use Rattle.rules.specs.Moves.{Move, result, replaced, place, taken, through}
 use Rattle.rules.specs.Utf8.{validTo}
 use Rattle.rules.specs.Refusals.{answer, textLimit, sameOf}
 use Rattle.rules.specs.declared.Answer.{Answer}

@@ -12,7 +12,7 @@ use lib.Dec.{T, eqb, eqb→eq, T-not}
 use lib.ListN.{length, drop}
 use lib.Seq.{drop-append-seam}
 use Rattle.rules.specs.Bytes.{All, all, join, stands, Range}
-use Rattle.rules.specs.Moves.{Move, keep, swap, stop, takes, andThen, moves, taken, result, replaced, place, through, from}
+use Rattle.rules.specs.Moves.{Move, keep, swap, stop, takes, andThen, moves, result, replaced, place, through, from}
 use Rattle.rules.specs.Utf8.{IsChar, IsText, sequenceAt, keepChar, validTo}
 use Rattle.rules.specs.Tables.{Row, rowAt, value, rows, replacedChars}
 use Rattle.rules.specs.Units.{IsUnit}

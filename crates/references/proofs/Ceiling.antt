@@ -9,11 +9,10 @@ use mathlib.Core.List.{List, [], _∷_}
 use Prim.Native.Nat.{ℕ, _+_, _*_, _≤_, _<_}
 use native.Mathlib.Nat.{le-mul-of-pos-right}
 use native.Mathlib.Omega.{arith}
-use borrow.Author.Tests.{ltb-true, ltb-false, leb-true, leb-false, lt-ltb, le-ltb, le-leb, lt-leb}
-use lib.Dec.{leb, ltb}
+use borrow.Author.Tests.{leb-true, leb-false, lt-ltb, le-ltb, lt-leb}
+use lib.Dec.{leb}
 use lib.ListN.{length, drop, getD, drop-of-length-le}
 use Rattle.rules.specs.Bytes.{inside}
-use Rattle.rules.specs.Utf8.{utf8}
 use Rattle.rules.specs.References.{digit, hexDigitAt, digits, number, scalar, charOf}
 use Rattle.rules.proofs.Loops.{drop-next}
 use Rattle.references.specs.declared.Numbers.{Numbers}

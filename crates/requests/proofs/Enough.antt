@@ -12,12 +12,12 @@ use lib.Dec.{T, eqb, leb, ltb, leb→le}
 use lib.ListN.{length as size, take, drop, length-take}
 use lib.Seq.{take-all, take-nil}
 use Rattle.rules.specs.Bytes.{ascii, all, first, stands}
-use Rattle.rules.specs.Moves.{Move, Rule, through, result, replaced, place}
+use Rattle.rules.specs.Moves.{Rule, through, result, replaced, place}
 use Rattle.rules.specs.Utf8.{validTo}
 use Rattle.rules.specs.Contexts.{Label, contextNames, operationNames}
 use Rattle.rules.specs.Operations.{ruleOf}
 use Rattle.rules.specs.Refusals.{Call, Case, movesOf, caseBy, answer, answerAt}
-use Rattle.rules.specs.Program.{line, textOf, contextLine, requestOf, printed, shown, printedCall, entityOf}
+use Rattle.rules.specs.Program.{line, textOf, contextLine, printed, shown, printedCall, entityOf}
 use Rattle.rules.specs.declared.Named.{Named}
 use Rattle.rules.specs.declared.Operation.{Operation}
 use Rattle.rules.proofs.Tests.{and-left, and-right}

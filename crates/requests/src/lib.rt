@@ -3,14 +3,13 @@
 mod lines;
 mod page;
 
-ghost use mathlib.Core.Bool.{false};
 ghost use mathlib.Core.Option.{none};
 ghost use mathlib.Core.Path.{_≡_};
 ghost use Prim.Native.Nat.{_≤_};
 ghost use lib.ListN.{length};
 ghost use Rattle.rules.specs.Bytes.{over};
 ghost use Rattle.rules.specs.Contexts.{contextOf};
-ghost use Rattle.rules.specs.Refusals.{answer, answerOf, outOf};
+ghost use Rattle.rules.specs.Refusals.{answer};
 ghost use Rattle.rules.specs.Program.{entityOf, requestOf, contextLine, textOf, printedCall};
 ghost use Rattle.requests.specs.Asked.{asked, answerTo, outputOf, refused, printedBy, Prints};
 use crate::lines::ContextLine;

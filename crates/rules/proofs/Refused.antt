@@ -8,18 +8,16 @@ use mathlib.Core.Path.{_≡_, refl, sym, ap, _∙_, subst}
 use mathlib.Core.List.{List}
 use Prim.Native.Nat.{ℕ, _≤_, _<_}
 use native.Mathlib.Omega.{arith}
-use borrow.Author.Tests.{ltb-true, ltb-false, lt-ltb, le-ltb, eqb-true, eq-eqb}
+use borrow.Author.Tests.{ltb-true, ltb-false, lt-ltb, eqb-true, eq-eqb}
 use lib.Dec.{ltb, eqb}
 use lib.ListN.{length as size}
 use Rattle.rules.specs.Bytes.{All}
 use Rattle.rules.specs.Moves.{Move, Rule, result, replaced, place, taken, through}
 use Rattle.rules.specs.Utf8.{IsText, validTo}
-use Rattle.rules.specs.Units.{IsForm}
 use Rattle.rules.specs.Encoding.{encodeStep, rawStep}
 use Rattle.rules.specs.References.{browseStep}
 use Rattle.rules.specs.Operations.{decodeStep, ruleOf, readTo}
-use Rattle.rules.specs.Refusals.{Call, Case, bad-context, too-long, not-utf8, not-a-form, lent, no-room, written, earlier, NoForm, Says, Given, movesOf, movesIn, judge, caseBy, caseOf, answerAt}
-use Rattle.rules.specs.declared.Context.{Context}
+use Rattle.rules.specs.Refusals.{Call, Case, bad-context, too-long, not-utf8, not-a-form, lent, no-room, written, earlier, NoForm, Says, Given, movesOf, movesIn, judge, caseBy, caseOf}
 use Rattle.rules.specs.declared.Context.the-variants.{InHtml, InScript, InStyle}
 use Rattle.rules.specs.declared.Operation.{Operation}
 use Rattle.rules.specs.declared.Operation.the-variants.{Encode, Decode, Read, Browse}

@@ -6,7 +6,7 @@ use mathlib.Core.List.{List, [], _∷_, _++_, map}
 use Prim.Native.Nat.{ℕ, zero, suc, _+_, _-_, _*_, _%_}
 use lib.Dec.{leb, eqb}
 use lib.ListN.{length as size}
-use Rattle.rules.specs.Bytes.{ascii, count, join, only, all, Range, inside, oneOf, sameBytes}
+use Rattle.rules.specs.Bytes.{ascii, count, join, only, Range, inside, oneOf, sameBytes}
 use Rattle.rules.specs.Moves.{Move, keep, swap, stop}
 use Rattle.rules.specs.Utf8.{validTo}
 use Rattle.rules.specs.Contexts.{Label, label, contextOf}
@@ -15,12 +15,11 @@ use Rattle.rules.specs.Encoding.{closes}
 use Rattle.rules.specs.Refusals.{answer}
 use Rattle.rules.specs.Answers.{referenceMove, escapeMove, replacementMove}
 use Rattle.rules.specs.Program.{printed, entityOf}
-use Rattle.rules.specs.Examples.{Example, passesIn, example, stays, refusedIn, refused, holdsIn, holds}
-use Rattle.rules.specs.declared.Html.the-variants.{TextMinimal, Text, DoubleQuoted, SingleQuoted, Quoted, Safe, Unquoted}
+use Rattle.rules.specs.Examples.{Example, passesIn, example, stays, refusedIn, refused, holds}
+use Rattle.rules.specs.declared.Html.the-variants.{TextMinimal, Text, Quoted, Safe, Unquoted}
 use Rattle.rules.specs.declared.Quotes.the-variants.{Single, Double, Both}
 use Rattle.rules.specs.declared.Context.the-variants.{InHtml, InScript, InStyle}
-use Rattle.rules.specs.declared.Named.{Named}
-use Rattle.rules.specs.declared.Named.the-variants.{Units, ScriptRaw, Unknown}
+use Rattle.rules.specs.declared.Named.the-variants.{Units, ScriptRaw}
 use Rattle.rules.specs.declared.Operation.{Operation}
 use Rattle.rules.specs.declared.Operation.the-variants.{Encode, Decode, Read, Browse}
 use Rattle.rules.specs.declared.DecodedEntityValue.the-variants.{Named as NamedText, Character}

@@ -9,7 +9,7 @@ use lib.ListN.{length as size, drop}
 use Rattle.rules.specs.Bytes.{ascii, first, stands}
 use Rattle.rules.specs.Moves.{result}
 use Rattle.rules.specs.Contexts.{Label, contextNames, operationNames}
-use Rattle.rules.specs.Refusals.{Call, Case, caseOf, movesIn, answer, answerAt}
+use Rattle.rules.specs.Refusals.{Call, caseOf, movesIn, answer, answerAt}
 use Rattle.rules.specs.declared.Answer.{Answer}
 use Rattle.rules.specs.declared.Named.{Named}
 use Rattle.rules.specs.declared.Operation.{Operation}

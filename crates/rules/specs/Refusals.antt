@@ -13,7 +13,6 @@ use Rattle.rules.specs.Utf8.{IsText, validTo}
 use Rattle.rules.specs.Units.{IsForm}
 use Rattle.rules.specs.Operations.{ruleOf}
 use Rattle.rules.specs.declared.Answer.{Answer}
-use Rattle.rules.specs.declared.Context.{Context}
 use Rattle.rules.specs.declared.Named.{Named}
 use Rattle.rules.specs.declared.Named.the-variants.{Units, ScriptRaw, Unknown}
 use Rattle.rules.specs.declared.Operation.{Operation}

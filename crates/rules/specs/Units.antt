@@ -2,7 +2,7 @@
 -- Assumes nothing.
 use mathlib.Core.Bool.{not}
 use mathlib.Core.Path.{_≡_}
-use mathlib.Core.List.{List, [], _∷_, _++_, map}
+use mathlib.Core.List.{List, [], _∷_, map}
 use Prim.Native.Nat.{ℕ}
 use Rattle.rules.specs.Bytes.{In, All, count, only, oneOf}
 use Rattle.rules.specs.Moves.{Move, keep, swap, stop, taken}

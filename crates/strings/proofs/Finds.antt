@@ -13,7 +13,7 @@ use borrow.Author.Tests.{ne-eqb, le-ltb, eqb-true, eqb-false, ltb-true, ltb-fals
 use lib.Bits.{bitAnd, and-zero-l}
 use lib.Dec.{T, eqb, ltb, eqb→eq}
 use lib.ListN.{length, drop, getD}
-use Rattle.rules.specs.Bytes.{ascii, all, count, stands, sameBytes}
+use Rattle.rules.specs.Bytes.{ascii, stands, sameBytes}
 use Rattle.rules.specs.Moves.{Move, keep, swap, stop, takes, gives}
 use Rattle.rules.specs.Tables.{Row, rowAt, key, table}
 use Rattle.rules.specs.Encoding.{write, keepByte, encodeStep}

@@ -4,7 +4,7 @@ use mathlib.Core.Path.{refl, _∙_}
 use borrow.Author.Needs.{needs}
 use Rattle.rules.proofs.Whole.{decode-whole}
 use Rattle.rules.specs.Operations.{decodeStep}
-use Rattle.rules.specs.Moves.{through, result}
+use Rattle.rules.specs.Moves.{through}
 use Rattle.escapes.specs.Strings.{stringOf}
 use Rattle.frame.proofs.Found.{invalid-found, decoded-found}
 use Rattle.frame.proofs.decoding.survey_escapes.Tie as tie

@@ -2,7 +2,7 @@
 -- Assumes nothing.
 use mathlib.Core.Path.{refl, _∙_}
 use borrow.Author.Needs.{needs}
-use Rattle.rules.specs.Moves.{through, result}
+use Rattle.rules.specs.Moves.{through}
 use Rattle.references.specs.Taking.{stepBy}
 use Rattle.frame.proofs.Found.{invalid-found, decoded-found, references-whole}
 use Rattle.frame.proofs.decoding.survey_references.Tie as tie

@@ -6,7 +6,7 @@ use borrow.Author.Needs.{needs}
 use lib.Dec.{eqb}
 use lib.ListN.{length}
 use Rattle.rules.specs.Encoding.{rawStep}
-use Rattle.rules.specs.Moves.{through, result}
+use Rattle.rules.specs.Moves.{through}
 use Rattle.frame.proofs.Found.{invalid-found, raw-found}
 use Rattle.frame.proofs.encoding.survey_raw.Tie as tie
 use Rattle.frame.proofs.encoding.survey_raw.Statement.{statement}

@@ -7,7 +7,7 @@ use borrow.Author.Needs.{needs}
 use lib.Dec.{eqb}
 use lib.ListN.{length}
 use Rattle.rules.specs.Encoding.{encodeStep}
-use Rattle.rules.specs.Moves.{through, result}
+use Rattle.rules.specs.Moves.{through}
 use Rattle.rules.specs.declared.Context.the-variants.{InScript, InStyle}
 use Rattle.frame.proofs.Found.{invalid-found, encode-found}
 use Rattle.frame.proofs.encoding.survey_string.Tie as tie

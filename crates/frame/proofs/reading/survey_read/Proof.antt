@@ -4,7 +4,7 @@ use mathlib.Core.Path.{_∙_}
 use native.Mathlib.Omega.{arith}
 use borrow.Author.Needs.{needs}
 use Rattle.rules.specs.Reading.{readStep}
-use Rattle.rules.specs.Moves.{through, result}
+use Rattle.rules.specs.Moves.{through}
 use Rattle.frame.proofs.Found.{invalid-found}
 use Rattle.frame.proofs.reading.survey_read.Tie as tie
 use Rattle.frame.proofs.reading.survey_read.Statement.{statement}
