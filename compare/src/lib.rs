@@ -15,20 +15,33 @@ pub struct Answer {
     pub place: u64,
 }
 
-#[cfg(feature = "archive")]
+/// A call as the archive exports it. On x86-64 it is the C call of include/lintelrye.h, which gets the address of the answer as a hidden first argument.
+#[cfg(all(feature = "archive", target_arch = "x86_64"))]
 type Exported = unsafe extern "C" fn(u32, *const u8, usize, *mut u8, usize) -> Answer;
 
+/// The same call in the archive of tools/native, for other machines: the address of the answer is the first argument there too.
+#[cfg(all(feature = "archive", not(target_arch = "x86_64")))]
+type Exported = unsafe extern "C" fn(*mut Answer, u32, *const u8, usize, *mut u8, usize) -> *mut Answer;
+
 #[cfg(feature = "archive")]
-#[link(name = "lintelrye_c", kind = "static")]
-extern "C" {
-    fn lintelrye_encode(c: u32, t: *const u8, n: usize, o: *mut u8, m: usize) -> Answer;
-    fn lintelrye_encode_borrowing(c: u32, t: *const u8, n: usize, o: *mut u8, m: usize) -> Answer;
-    fn lintelrye_decode(c: u32, t: *const u8, n: usize, o: *mut u8, m: usize) -> Answer;
-    fn lintelrye_decode_borrowing(c: u32, t: *const u8, n: usize, o: *mut u8, m: usize) -> Answer;
-    fn lintelrye_read(c: u32, t: *const u8, n: usize, o: *mut u8, m: usize) -> Answer;
-    fn lintelrye_read_borrowing(c: u32, t: *const u8, n: usize, o: *mut u8, m: usize) -> Answer;
-    fn lintelrye_browse(c: u32, t: *const u8, n: usize, o: *mut u8, m: usize) -> Answer;
-    fn lintelrye_browse_borrowing(c: u32, t: *const u8, n: usize, o: *mut u8, m: usize) -> Answer;
+macro_rules! exported {
+    ($($name:ident)*) => {
+        #[link(name = "lintelrye_c", kind = "static")]
+        extern "C" {
+            $(
+                #[cfg(target_arch = "x86_64")]
+                fn $name(c: u32, t: *const u8, n: usize, o: *mut u8, m: usize) -> Answer;
+                #[cfg(not(target_arch = "x86_64"))]
+                fn $name(a: *mut Answer, c: u32, t: *const u8, n: usize, o: *mut u8, m: usize) -> *mut Answer;
+            )*
+        }
+    };
+}
+
+#[cfg(feature = "archive")]
+exported! {
+    lintelrye_encode lintelrye_encode_borrowing lintelrye_decode lintelrye_decode_borrowing
+    lintelrye_read lintelrye_read_borrowing lintelrye_browse lintelrye_browse_borrowing
 }
 
 /// The four operations.
@@ -80,10 +93,22 @@ impl Call {
         })
     }
 
+    #[cfg(target_arch = "x86_64")]
     #[inline]
     pub fn make(self, context: u32, text: &[u8], output: &mut [u8]) -> Answer {
         // SAFETY: both slices are valid for their lengths, and a borrowed text and a mutably borrowed output do not overlap.
         unsafe { (self.0)(context, text.as_ptr(), text.len(), output.as_mut_ptr(), output.len()) }
+    }
+
+    #[cfg(not(target_arch = "x86_64"))]
+    #[inline]
+    pub fn make(self, context: u32, text: &[u8], output: &mut [u8]) -> Answer {
+        let mut answer = std::mem::MaybeUninit::uninit();
+        // SAFETY: as on x86-64; and the call writes the whole answer.
+        unsafe {
+            (self.0)(answer.as_mut_ptr(), context, text.as_ptr(), text.len(), output.as_mut_ptr(), output.len());
+            answer.assume_init()
+        }
     }
 }
 
