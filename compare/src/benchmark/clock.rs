@@ -15,9 +15,11 @@ pub struct Effort {
     pub round: Duration,
 }
 
-/// Medians in nanoseconds per byte of the text.
+/// Medians in nanoseconds per byte of the text; where instructions are counted, their number per byte.
 pub struct Row {
     pub case: Case,
+    /// The most that `ratio` may be. Counts have no limit.
+    pub limit: Option<f64>,
     /// The library.
     pub ours: f64,
     /// The crate alone.
@@ -37,7 +39,7 @@ impl Row {
     }
 
     pub fn above(&self) -> bool {
-        self.case.limit().map_or(false, |limit| self.ratio() > limit)
+        self.limit.map_or(false, |limit| self.ratio() > limit)
     }
 }
 
@@ -106,13 +108,14 @@ pub fn measure(case: Case, rooms: &mut Rooms, effort: &Effort) -> Row {
     }
     let part = |i: usize, quarters: usize| times[i][(times[i].len() - 1) * quarters / 4];
     let spread = |i: usize| (part(i, 3) - part(i, 1)) / part(i, 2);
-    Row { ours: part(0, 2), alone: part(1, 2), checked: part(2, 2), copied: part(3, 2), spread: spread(0).max(spread(2)), case }
+    let spread = spread(0).max(spread(2));
+    Row { limit: case.limit(), case, ours: part(0, 2), alone: part(1, 2), checked: part(2, 2), copied: part(3, 2), spread }
 }
 
-type Pass<'a> = Box<dyn FnMut() + 'a>;
+pub type Pass<'a> = Box<dyn FnMut() + 'a>;
 
 /// The four passes over the texts of a case: ours, the crate alone, the crate after from_utf8, a copy.
-fn passes<'a>(case: &'a Case, rooms: &'a mut Rooms) -> [Pass<'a>; 4] {
+pub fn passes<'a>(case: &'a Case, rooms: &'a mut Rooms) -> [Pass<'a>; 4] {
     let Rooms { ours, alone, checked, copied } = rooms;
     let (call, theirs) = (Call::find(case.operation, case.borrowing), case.theirs());
     let each = move || case.texts.iter().map(|text| keep(text.as_str()));

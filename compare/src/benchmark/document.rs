@@ -1,25 +1,70 @@
-//! docs/BENCHMARKS.md: what was measured, how, and every median.
+//! docs/BENCHMARKS.md: what was measured, how, and every median. docs/INSTRUCTIONS.md: what was counted, and what that says.
 
 use crate::clock::{Effort, Row};
+use crate::machine::machine;
 use crate::report::{above, classes, each_once, escaped, families, highest, worst};
 use compare::CONTEXTS;
 
-/// The whole document.
-pub fn document(rows: &[Row], facts: &[(&str, String)], effort: &Effort) -> String {
+/// The document of the times.
+pub fn times(rows: &[Row], facts: &[(&str, String)], effort: &Effort) -> String {
     let mut text = String::from("# Benchmarks\n\n");
     text +=
-        "`compare/run benchmark --write` wrote this page and its picture. The numbers are from that one run, on the machine that is named here.\n\n";
-    text += "| | |\n|---|---|\n";
-    for (name, fact) in facts {
-        text += &format!("| {} | {} |\n", name, fact);
-    }
+        "`compare/run benchmark --write` wrote this page and its picture. The numbers are from that one run, on the machine that is named here.\n";
+    text += "[INSTRUCTIONS.md](INSTRUCTIONS.md) counts the instructions of the x86-64 code on the same texts.\n\n";
+    text += &table(facts);
     text += &format!("| steadiness | {} |\n", steadiness(rows));
     text += &method(effort);
     text += &limits(rows);
-    text += &matrix(rows);
+    text += &format!("\n## Worst ratio by class\n\nOurs over crate + utf8. Bold is above the limit; `read` has none.\n\n{}", matrix(rows));
     text += "\n![The worst ratio of each family of contexts, by class](benchmarks.svg)\n";
     text + &lines(rows)
 }
+
+/// The document of the counts.
+pub fn counts(rows: &[Row], facts: &[(&str, String)]) -> String {
+    let compiler = if machine() == "x86_64" { "" } else { DEBIAN };
+    format!("{}{}{}{}{}{}", COUNTS, table(facts), COUNTED, compiler, WORST_COUNTS, matrix(rows))
+}
+
+/// The facts as a table.
+fn table(facts: &[(&str, String)]) -> String {
+    let row = |(name, fact): &(&str, String)| format!("| {} | {} |\n", name, fact);
+    format!("| | |\n|---|---|\n{}", facts.iter().map(row).collect::<String>())
+}
+
+const COUNTS: &str = "\
+# Instructions on x86-64
+
+`compare/run benchmark --instructions --write` wrote this page. It holds the instructions that the archive's own code executes beside those of the crate,
+on the texts of [BENCHMARKS.md](BENCHMARKS.md), which says what the sides and the classes are.
+
+";
+
+const COUNTED: &str = "
+## How it is counted
+
+Both sides run in one process under an emulator, whose plugin compare/instructions.c counts each instruction as it is executed. A side passes over the
+texts once to warm up and once to be counted; what counting takes itself is left out. Another run gives the same counts. The emulated processor is the
+model qemu64, for which the C library's memcpy copies by SSE2. Before a line is counted, the results of both sides are compared byte for byte.
+
+## What it says, and what not
+
+It says how much the x86-64 code of the archive does for a text, beside what the crate does for it. A count is no time: it knows nothing of the cache,
+of branches that the processor guesses wrong or of instructions that run side by side, and an instruction over sixteen bytes counts as much as one over
+a single byte. So the limits, which are about times, are not judged here.
+";
+
+const DEBIAN: &str = "
+The crate is compiled by Debian's rustc here, with Debian's `std` for x86-64, as no other is at hand. Where BENCHMARKS.md names a newer one, its code
+generation and its `from_utf8` are newer too, and would give other counts.
+";
+
+const WORST_COUNTS: &str = "
+## Worst ratio by class
+
+Instructions of ours over those of the crate after `from_utf8`, in the worst of the family's contexts. Below 1 the library executes fewer.
+
+";
 
 /// How far apart the rounds were.
 fn steadiness(rows: &[Row]) -> String {
@@ -41,7 +86,7 @@ of the text. Before a line is measured, the results of both sides are compared b
 
 | side | what is timed |
 |---|---|
-| ours | the copying call (or the borrowing one, where the line says so) of the archive, into a buffer that has room |
+| ours | the copying call (or the borrowing one, where the line says so), into a buffer that has room |
 | crate | the function of html-escape that ends in `_to_vec`, into a vector that is cleared and keeps its capacity |
 | crate + utf8 | the same after `std::str::from_utf8`: the library takes bytes and checks them in every call, the crate takes text that was checked before |
 | memcpy | a copy of the text |
@@ -70,8 +115,8 @@ fn limits(rows: &[Row]) -> String {
     let mut text = format!("\n## The limits\n\n{}\n\n| | classes | at most | worst | in | |\n|---|---|---|---|---|---|\n", above(rows));
     for family in families(rows) {
         let of_family = || rows.iter().filter(|row| row.case.family() == family);
-        for limit in each_once(of_family().filter_map(|row| row.case.limit())) {
-            let under = || of_family().filter(|row| row.case.limit() == Some(limit));
+        for limit in each_once(of_family().filter_map(|row| row.limit)) {
+            let under = || of_family().filter(|row| row.limit == Some(limit));
             let classes = each_once(under().map(|row| row.case.class)).join(", ");
             if let Some(row) = highest(under()) {
                 let place = format!("{}, {}", CONTEXTS[row.case.context], row.case.class);
@@ -86,7 +131,7 @@ fn limits(rows: &[Row]) -> String {
 /// The worst ratio of each family in each class.
 fn matrix(rows: &[Row]) -> String {
     let families = families(rows);
-    let mut text = format!("\n## Worst ratio by class\n\nBold is above the limit; `read` has none.\n\n| | {} |\n", families.join(" | "));
+    let mut text = format!("| | {} |\n", families.join(" | "));
     text += &format!("|---{}|\n", "|---".repeat(families.len()));
     for class in classes(rows) {
         let cell = |family: &&str| match worst(rows, family, class) {

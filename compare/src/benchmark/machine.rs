@@ -2,23 +2,42 @@
 
 use std::process::Command;
 
-/// The facts of the document's first table: a name and what it was.
-pub fn facts(root: &str) -> Vec<(&'static str, String)> {
+/// The facts of a document's table: a name and what it was. `counted` is where an emulator counted instructions and no processor was measured.
+pub fn facts(root: &str, counted: bool) -> Vec<(&'static str, String)> {
+    let emulator = || format!("none: {} executes the x86-64 code, on {}", first_line(said("qemu-x86_64", &["--version"])), machine());
+    let size = size(&format!("{}/target/staticlib/liblintelrye_c.a", root));
     vec![
-        ("processor", format!("{} ({})", processor(), std::env::consts::ARCH)),
+        ("processor", if counted { emulator() } else { format!("{} ({})", processor(), machine()) }),
         ("date", said("date", &["-u", "+%Y-%m-%d"])),
         ("the crate", format!("html-escape 0.3.0, compiled by {} in cargo's release profile with opt-level 3", rustc())),
-        ("the library", format!("the static archive that `rt staticlib lintelrye_c` writes, by {}", said("rt", &["version"]))),
-        ("its size", size(&format!("{}/target/staticlib/liblintelrye_c.a", root))),
+        ("the library", library(counted || machine() == "x86_64")),
+        ("the archive", format!("x86-64 code, which `rt staticlib lintelrye_c` writes, by {}; {}", said("rt", &["version"]), size)),
     ]
 }
 
-/// The model name of the first processor.
+/// The kind of the machine that runs this, or runs the emulator.
+pub fn machine() -> String {
+    std::env::var("LINTELRYE_MACHINE").unwrap_or_else(|_| std::env::consts::ARCH.into())
+}
+
+/// What of the library was run: the archive itself, or what tools/native compiles for this machine.
+fn library(itself: bool) -> String {
+    if itself {
+        return "the static archive itself".to_string();
+    }
+    let how = "the archive's LLVM module, by the archive's own compiler with the same options (-O3); the archive itself was not run";
+    format!("compiled for {} by `tools/native`: {}", machine(), how)
+}
+
+/// The model name of the first processor, from /proc/cpuinfo or from `lscpu`.
 fn processor() -> String {
+    let value = |about: &str, name: &str| -> Option<String> {
+        let line = about.lines().find(|line| line.trim_start().to_lowercase().starts_with(name))?;
+        Some(line.split(':').nth(1)?.trim().to_string())
+    };
     let about = std::fs::read_to_string("/proc/cpuinfo").unwrap_or_default();
-    let model = about.lines().find(|line| line.starts_with("model name"));
-    let name = model.and_then(|line| line.split(':').nth(1));
-    name.map_or("a processor that /proc/cpuinfo gives no model name of".into(), |name| name.trim().to_string())
+    let name = value(&about, "model name").or_else(|| value(&said("lscpu", &[]), "model name"));
+    name.unwrap_or_else(|| "a processor that neither /proc/cpuinfo nor lscpu gives a model name of".into())
 }
 
 /// The compiler that compare/run uses.
@@ -26,13 +45,17 @@ fn rustc() -> String {
     said(&std::env::var("LINTELRYE_RUSTC").unwrap_or_else(|_| "rustc".into()), &["--version"])
 }
 
-/// What a program prints.
+/// What a program prints, in English.
 fn said(program: &str, words: &[&str]) -> String {
-    match Command::new(program).args(words).output() {
+    match Command::new(program).args(words).env("LC_ALL", "C").output() {
         Ok(output) if output.status.success() => String::from_utf8_lossy(&output.stdout).trim().to_string(),
-        Ok(_) => format!("(`{} {}` failed)", program, words.join(" ")),
+        Ok(_) => format!("(`{}` failed)", program),
         Err(_) => format!("(`{}` is not installed here)", program),
     }
+}
+
+fn first_line(text: String) -> String {
+    text.lines().next().unwrap_or_default().to_string()
 }
 
 /// The code and the constants of the archive, by `size -A`, which prints the name and the size of each section.
@@ -43,7 +66,7 @@ fn size(archive: &str) -> String {
         chosen.filter_map(|line| line.split_whitespace().nth(1)?.parse::<usize>().ok()).sum()
     };
     match sum(".text") {
-        0 => format!("not measured: {}", sections),
+        0 => format!("its size was not found out: {}", first_line(sections)),
         code => format!("{} bytes of code (.text) and {} bytes of constants (.rodata)", code, sum(".rodata")),
     }
 }

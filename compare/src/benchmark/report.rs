@@ -3,17 +3,17 @@
 use crate::clock::Row;
 use compare::{call, Operation, CONTEXTS};
 
-/// The head of the table that is printed.
-pub const HEAD: &str = concat!(
-    "                                                        ns per byte                        ours over\n",
-    "operation and context                   class           ours   crate  +utf8  memcpy    crate  +utf8  memcpy"
-);
+/// The head of the table that is printed. `unit` is what is measured.
+pub fn head(unit: &str) -> String {
+    let over = format!("{:56}{:35}ours over", "", format!("{} per byte", unit));
+    over + "\noperation and context                   class           ours   crate  +utf8  memcpy    crate  +utf8  memcpy"
+}
 
 /// One line of the table.
 pub fn line(row: &Row) -> String {
     let case = &row.case;
     let place = format!("{} {}", case.family(), CONTEXTS[case.context]);
-    let mark = match case.limit() {
+    let mark = match row.limit {
         Some(limit) if row.above() => format!("  above {:.2}", limit),
         _ => String::new(),
     };
@@ -22,7 +22,7 @@ pub fn line(row: &Row) -> String {
     format!("{:39} {:14} {}   {}{}", place, case.class, medians, ratios, mark)
 }
 
-/// The worst ratio of each family in each class, as lines of text.
+/// The worst ratio of each family in each class, as lines of text; where there are limits, how many rows are above theirs.
 pub fn summary(rows: &[Row]) -> String {
     let mut text = String::from("worst ratio, ours over the crate after from_utf8 (* above the limit):\n");
     for family in families(rows) {
@@ -30,7 +30,10 @@ pub fn summary(rows: &[Row]) -> String {
         let cell = |row: &Row| format!("{} {:.2}{}", row.case.class, row.ratio(), if row.above() { "*" } else { "" });
         text += &format!("{:24} {}\n", family, worst.map(cell).collect::<Vec<_>>().join(", "));
     }
-    text + &above(rows)
+    match rows.iter().any(|row| row.limit.is_some()) {
+        true => text + &above(rows),
+        false => text.replace(" (* above the limit)", ""),
+    }
 }
 
 /// How many rows are above their limit.

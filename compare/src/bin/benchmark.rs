@@ -1,11 +1,14 @@
 //! Holds the library's speed beside the crate's, both sides in one process.
-//!   compare/run benchmark [--crate PATH] [--quick] [--only WORD] [--write]
+//!   compare/run benchmark [--crate PATH] [--quick] [--only WORD] [--instructions] [--write]
 //! --quick takes fewer rounds; --only takes the lines whose operation, context or class holds WORD; --write writes docs/BENCHMARKS.md and its
-//! picture. Each line of the table is an operation in a context on texts of a class. Both sides must give the same bytes there; where they do
-//! not, it ends with status 1.
+//! picture. --instructions counts the instructions of the x86-64 code under an emulator and times nothing; with --write it writes
+//! docs/INSTRUCTIONS.md. Each line of the table is an operation in a context on texts of a class. Both sides must give the same bytes there; where
+//! they do not, it ends with status 1.
 
 #[path = "../benchmark/clock.rs"]
 mod clock;
+#[path = "../benchmark/count.rs"]
+mod count;
 #[path = "../benchmark/document.rs"]
 mod document;
 #[path = "../benchmark/machine.rs"]
@@ -18,6 +21,7 @@ mod report;
 mod texts;
 
 use clock::{Effort, Rooms, Row};
+use count::Counter;
 use std::process::exit;
 use std::time::Duration;
 
@@ -26,44 +30,33 @@ struct Options {
     only: String,
     /// The repository, where the documents are to be written.
     write: Option<String>,
-    /// Whether an emulator runs this: then times say nothing, and one short round does.
-    emulated: bool,
+    /// The counter, where instructions are counted and nothing is timed.
+    counter: Option<Counter>,
 }
 
 fn main() {
     let options = options();
-    if options.emulated {
-        println!("This processor is not the archive's own: the times are an emulator's and say nothing. What counts is that the bytes are the same.");
-    }
     let rows = rows(&options);
     println!("Both sides gave the same bytes in every line ({}).", rows.len());
-    if !options.emulated {
-        println!("{}", report::summary(&rows));
-    }
+    println!("{}", report::summary(&rows).trim_end());
     if let Some(root) = &options.write {
-        write(&rows, root, &options.effort);
+        write(&rows, root, &options);
     }
 }
 
 /// The words on the command line.
 fn options() -> Options {
-    let emulated = std::env::var_os("LINTELRYE_EMULATED").is_some();
     let effort = Effort { rounds: 21, round: Duration::from_millis(2) };
-    let mut options = Options { effort, only: String::new(), write: None, emulated };
+    let mut options = Options { effort, only: String::new(), write: None, counter: None };
     let mut words = std::env::args().skip(1);
     while let Some(word) = words.next() {
         match word.as_str() {
             "--quick" => options.effort = Effort { rounds: 7, round: Duration::from_millis(1) },
             "--only" => options.only = words.next().unwrap_or_else(|| stop("--only wants a word")),
+            "--instructions" => options.counter = Some(Counter::open().unwrap_or_else(|why| stop(&why))),
             "--write" => options.write = Some(std::env::var("LINTELRYE_ROOT").unwrap_or_else(|_| stop("--write wants to be run by compare/run"))),
-            _ => stop(&format!("unknown word {}; known are --quick, --only WORD, --write", word)),
+            _ => stop(&format!("unknown word {}; known are --quick, --only WORD, --instructions, --write", word)),
         }
-    }
-    if emulated {
-        options.effort = Effort { rounds: 1, round: Duration::from_micros(1) };
-    }
-    if emulated && options.write.is_some() {
-        stop("--write is refused: an emulator runs this, so the times say nothing. It wants an x86-64 processor");
     }
     if options.write.is_some() && !options.only.is_empty() {
         stop("--write wants every line, so it does not go with --only");
@@ -80,13 +73,16 @@ fn stop(words: &str) -> ! {
 fn rows(options: &Options) -> Vec<Row> {
     let mut rooms = Rooms::new();
     let mut rows = Vec::new();
-    println!("{}", report::HEAD);
+    println!("{}", report::head(if options.counter.is_some() { "instructions" } else { "ns" }));
     for case in texts::cases().into_iter().filter(|case| case.name().contains(&options.only)) {
         if let Err(difference) = clock::compare(&case, &mut rooms) {
             println!("different: {}", difference);
             exit(1);
         }
-        let row = clock::measure(case, &mut rooms, &options.effort);
+        let row = match &options.counter {
+            Some(counter) => count::count(case, &mut rooms, counter),
+            None => clock::measure(case, &mut rooms, &options.effort),
+        };
         println!("{}", report::line(&row));
         rows.push(row);
     }
@@ -96,13 +92,20 @@ fn rows(options: &Options) -> Vec<Row> {
     rows
 }
 
-/// Writes the document and its picture.
-fn write(rows: &[Row], root: &str, effort: &Effort) {
-    let facts = machine::facts(root);
-    let about = format!("{}, {}", facts[0].1, facts[1].1);
-    for (name, text) in [("BENCHMARKS.md", document::document(rows, &facts, effort)), ("benchmarks.svg", picture::picture(rows, &about))] {
-        let path = format!("{}/docs/{}", root, name);
-        std::fs::write(&path, text).unwrap_or_else(|error| stop(&format!("{} cannot be written: {}", path, error)));
-        println!("wrote docs/{}", name);
+/// Writes the document: of the counts, or of the times with its picture.
+fn write(rows: &[Row], root: &str, options: &Options) {
+    let facts = machine::facts(root, options.counter.is_some());
+    if options.counter.is_some() {
+        return save(root, "INSTRUCTIONS.md", &document::counts(rows, &facts));
     }
+    let about = format!("{}, {}", facts[0].1, facts[1].1);
+    save(root, "BENCHMARKS.md", &document::times(rows, &facts, &options.effort));
+    save(root, "benchmarks.svg", &picture::picture(rows, &about));
+}
+
+/// Writes one file of docs/.
+fn save(root: &str, name: &str, text: &str) {
+    let path = format!("{}/docs/{}", root, name);
+    std::fs::write(&path, text).unwrap_or_else(|error| stop(&format!("{} cannot be written: {}", path, error)));
+    println!("wrote docs/{}", name);
 }

@@ -3,8 +3,8 @@
 //!
 //!     compare/run soak [--crate PATH] [--pages N]
 //!
-//! Writes docs/SOAK.md and docs/soak.svg. Under an emulator, whose own resident set is all that can be read there, and with another number of
-//! pages, it writes both to target/soak instead. Ends with 1 where the pages differ, a page is refused, or the library's side calls the heap.
+//! Writes docs/SOAK.md and docs/soak.svg; with another number of pages it writes both to target/soak instead. Ends with 1 where the pages differ, a
+//! page is refused, or the library's side calls the heap.
 
 #[path = "../soak/document.rs"]
 mod document;
@@ -85,21 +85,14 @@ fn three_ways(pages: usize, resident: &Resident) -> [Run; 3] {
 }
 
 /// Where and with what it was measured.
-fn place(root: &str, emulated: bool) -> String {
-    if emulated {
-        return "THIS RUN WAS UNDER AN EMULATOR: the resident set is the emulator's own and says nothing.".to_string();
-    }
-    let facts: Vec<String> = machine::facts(root).iter().map(|(name, fact)| format!("| {} | {} |\n", name, fact)).collect();
+fn place(root: &str) -> String {
+    let facts: Vec<String> = machine::facts(root, false).iter().map(|(name, fact)| format!("| {} | {} |\n", name, fact)).collect();
     format!("It was measured on:\n\n| what | which |\n|---|---|\n{}", facts.concat().trim_end())
 }
 
 fn main() {
     let pages = pages_asked();
     let root = std::env::var("LINTELRYE_ROOT").unwrap_or_else(|_| stop("run me by compare/run soak"));
-    let emulated = std::env::var_os("LINTELRYE_EMULATED").is_some();
-    if emulated {
-        eprintln!("this runs under an emulator: the resident set is the emulator's own, and docs/SOAK.md is not written");
-    }
     let resident = Resident(File::open("/proc/self/status").unwrap_or_else(|_| stop("/proc/self/status cannot be read")));
     let runs = three_ways(pages, &resident);
     let mut tights: Vec<Tight> = Vec::new();
@@ -109,7 +102,7 @@ fn main() {
             break;
         }
     }
-    let text = document::document(pages, &runs, &tights, &place(&root, emulated));
+    let text = document::document(pages, &runs, &tights, &place(&root));
     print!("{}", text);
-    save(&root, pages == PAGES && !emulated, &text, &document::plot(&runs, &tights));
+    save(&root, pages == PAGES, &text, &document::plot(&runs, &tights));
 }
