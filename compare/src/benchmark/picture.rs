@@ -1,4 +1,4 @@
-//! docs/benchmarks.svg: a panel for each family of contexts, in it a bar for each class, and a line at 1.0.
+//! docs/benchmarks.svg: a panel for each family of contexts, in it a bar for each class with a mark at its limit, and a line at 1.0.
 
 use crate::clock::Row;
 use crate::report::{classes, escaped, families, worst};
@@ -8,7 +8,7 @@ const PANEL: f64 = 390.0;
 const LABELS: f64 = 100.0;
 const BARS: f64 = 225.0;
 const STEP: f64 = 18.0;
-const TOP: f64 = 76.0;
+const TOP: f64 = 80.0;
 /// The ratio at the right end of a panel; a longer bar is cut there.
 const END: f64 = 2.5;
 
@@ -16,14 +16,16 @@ const WITHIN: &str = "#2c7fb8";
 const ABOVE: &str = "#d95f0e";
 const FREE: &str = "#8c96a3";
 const ONE: &str = "#b42318";
+const MARK: &str = "#000000";
 const INK: &str = "#1f2328";
 const FAINT: &str = "#57606a";
 
 /// The whole picture. `about` says where the numbers are from.
 pub fn picture(rows: &[Row], about: &str) -> String {
     let mut text = words(20.0, 28.0, 18, "start", INK, "Lintelrye beside html-escape 0.3.0 after from_utf8: time over time, below 1.0 is faster");
-    text += &words(20.0, 46.0, 12, "start", FAINT, about);
-    text += &legend(20.0, 64.0);
+    let about = format!("{}. A bar is the worst of the family's contexts; where the ratio is above {:.1} the bar is cut.", about, END);
+    text += &words(20.0, 47.0, 12, "start", FAINT, &about);
+    text += &legend(20.0, 68.0);
     let mut y = TOP;
     for line in families(rows).chunks(COLUMNS) {
         let panels: Vec<Vec<&Row>> = line.iter().map(|family| of(rows, family)).collect();
@@ -45,18 +47,19 @@ fn of<'a>(rows: &'a [Row], family: &str) -> Vec<&'a Row> {
 
 /// What the colours mean.
 fn legend(x: f64, y: f64) -> String {
-    let mut text = words(x + 740.0, y, 12, "start", FAINT, "A bar is the worst of the family's contexts.");
-    for (i, (colour, meaning)) in
-        [(WITHIN, "within the limit (black mark)"), (ABOVE, "above the limit"), (FREE, "no limit"), (ONE, "1.0")].iter().enumerate()
-    {
-        let x = x + [0.0, 220.0, 400.0, 580.0][i];
-        text += &block(x, y - 9.0, 12.0, 10.0, colour);
+    let bars = [(WITHIN, "within the limit"), (ABOVE, "above the limit"), (FREE, "no limit")];
+    let lines = [(MARK, "the limit"), (ONE, "1.0: as long as the crate takes")];
+    let mut text = String::new();
+    for (i, (colour, meaning)) in bars.iter().chain(&lines).enumerate() {
+        let x = x + [0.0, 150.0, 300.0, 410.0, 510.0][i];
+        let width = if i < bars.len() { 12.0 } else { 3.0 };
+        text += &block(x + 12.0 - width, y - 10.0, width, 12.0, colour);
         text += &words(x + 18.0, y, 12, "start", INK, meaning);
     }
     text
 }
 
-/// A family: its name, the scale, and its bars.
+/// A family: its name, the scale, its bars, the line at 1.0, and the marks at the limits.
 fn panel(rows: &[&Row], family: &str, x: f64, y: f64) -> String {
     let (left, top, height) = (x + LABELS, y + 32.0, rows.len() as f64 * STEP);
     let mut text = words(x, y + 20.0, 14, "start", INK, family);
@@ -69,21 +72,30 @@ fn panel(rows: &[&Row], family: &str, x: f64, y: f64) -> String {
     for (i, row) in rows.iter().enumerate() {
         text += &bar(row, left, top + i as f64 * STEP);
     }
-    text + &block(left + BARS / END - 0.75, top - 3.0, 1.5, height + 6.0, ONE)
+    text += &block(left + width(1.0) - 0.75, top - 3.0, 1.5, height + 6.0, ONE);
+    for (i, limit) in rows.iter().enumerate().filter_map(|(i, row)| Some((i, row.limit?))) {
+        text += &block(left + width(limit) - 1.5, top + i as f64 * STEP + 1.0, 3.0, STEP - 2.0, MARK);
+    }
+    text
 }
 
-/// One bar: its class to the left, its ratio to the right, and a mark at its limit.
+/// How far to the right a ratio is.
+fn width(ratio: f64) -> f64 {
+    BARS * ratio.min(END) / END
+}
+
+/// One bar: its class to the left, its ratio to the right; two gaps where it is cut.
 fn bar(row: &Row, left: f64, top: f64) -> String {
-    let width = |ratio: f64| BARS * ratio.min(END) / END;
-    let colour = match row.case.limit() {
+    let colour = match row.limit {
         None => FREE,
         Some(_) if row.above() => ABOVE,
         Some(_) => WITHIN,
     };
     let mut text = words(left - 6.0, top + 13.0, 12, "end", INK, row.case.class);
     text += &block(left, top + 3.0, width(row.ratio()), STEP - 6.0, colour);
-    if let Some(limit) = row.case.limit() {
-        text += &block(left + width(limit) - 1.0, top + 1.0, 2.0, STEP - 2.0, "#000000");
+    if row.ratio() > END {
+        text += &block(left + BARS - 10.0, top + 3.0, 2.0, STEP - 6.0, "#ffffff");
+        text += &block(left + BARS - 6.0, top + 3.0, 2.0, STEP - 6.0, "#ffffff");
     }
     text + &words(left + BARS + 42.0, top + 13.0, 12, "end", INK, &format!("{:.2}", row.ratio()))
 }
