@@ -48,6 +48,14 @@ pub struct Run {
     pub samples: Vec<Sample>,
 }
 
+impl Run {
+    /// The resident set in KiB: before the first page, after a hundredth of the pages, after the last.
+    pub fn resident(&self) -> [u64; 3] {
+        let at = |i: usize| self.samples.get(i).map_or(0, |sample| sample.resident);
+        [at(0), at(1), at(self.samples.len() - 1)]
+    }
+}
+
 /// Fills all pages in one way. Measuring and showing how far it is call the heap nowhere.
 pub fn run(name: &'static str, pages: usize, resident: &Resident, mut fill: impl FnMut(&Log, &mut Mark)) -> Run {
     let mut run = Run { name, mark: Mark::default(), calls: 0, bytes: 0, most: 0, samples: Vec::with_capacity(SAMPLES + 1) };

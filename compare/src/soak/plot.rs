@@ -3,6 +3,8 @@
 pub struct Line {
     pub name: String,
     pub colour: &'static str,
+    /// A dashed line lies above the others, so that a line below it can be seen.
+    pub dashed: bool,
     pub points: Vec<(f64, f64)>,
 }
 
@@ -14,10 +16,10 @@ pub struct Panel {
 }
 
 const WIDTH: f64 = 780.0;
-const HEIGHT: f64 = 270.0;
+const HEIGHT: f64 = 310.0;
 const LEFT: f64 = 84.0;
 const RIGHT: f64 = 44.0;
-const TOP: f64 = 58.0;
+const TOP: f64 = 92.0;
 const BOTTOM: f64 = 52.0;
 
 /// A number with commas between its thousands.
@@ -48,43 +50,54 @@ fn stroke(x1: f64, y1: f64, x2: f64, y2: f64, style: &str) -> String {
     format!("<line x1=\"{:.1}\" y1=\"{:.1}\" x2=\"{:.1}\" y2=\"{:.1}\" {}/>\n", x1, y1, x2, y2, style)
 }
 
-/// One panel, in its own coordinates. The first line lies on top.
+/// The ticks of an axis: 0, and every step up to the end.
+fn ticks(step: f64, end: f64) -> impl Iterator<Item = f64> {
+    (0..=(end / step + 0.001) as u32).map(move |i| f64::from(i) * step)
+}
+
+/// One panel, in its own coordinates. Of the lines that are not dashed the first lies on top.
 fn panel(panel: &Panel) -> String {
     let most = |pick: fn(&(f64, f64)) -> f64| panel.lines.iter().flat_map(|l| l.points.iter().map(pick)).fold(1.0, f64::max);
     let (across, up) = (most(|p| p.0), most(|p| p.1));
     let (wide, high) = (WIDTH - LEFT - RIGHT, HEIGHT - TOP - BOTTOM);
-    let (step_across, step_up) = (step(across), step(up));
-    let top = (up / step_up).ceil() * step_up;
+    let top = (up / step(up)).ceil() * step(up);
     let x = |v: f64| LEFT + v / across * wide;
     let y = |v: f64| TOP + high - v / top * high;
     let mut svg = format!("<text x=\"{:.1}\" y=\"20\" font-weight=\"bold\">{}</text>\n", LEFT, panel.title);
-    let mut tick = 0.0;
-    while tick <= top + step_up / 2.0 {
+    for tick in ticks(step(up), top) {
         svg += &stroke(LEFT, y(tick), WIDTH - RIGHT, y(tick), "stroke=\"#e4e4e4\"");
         svg += &text(LEFT - 8.0, y(tick) + 4.0, "end", &grouped(tick as u64));
-        tick += step_up;
     }
-    tick = 0.0;
-    while tick <= across {
+    for tick in ticks(step(across), across) {
         svg += &stroke(x(tick), TOP + high, x(tick), TOP + high + 5.0, "stroke=\"#666\"");
         svg += &text(x(tick), TOP + high + 19.0, "middle", &grouped(tick as u64));
-        tick += step_across;
     }
     svg += &stroke(LEFT, TOP + high, WIDTH - RIGHT, TOP + high, "stroke=\"#666\"");
     svg += &text(LEFT + wide / 2.0, HEIGHT - 14.0, "middle", panel.across);
     let middle = TOP + high / 2.0;
     svg += &format!("<text x=\"20\" y=\"{:.1}\" text-anchor=\"middle\" transform=\"rotate(-90 20 {:.1})\">{}</text>\n", middle, middle, panel.up);
-    let mut place = LEFT;
-    let mut curves = String::new();
-    for line in &panel.lines {
-        svg += &stroke(place, 38.0, place + 18.0, 38.0, &format!("stroke=\"{}\" stroke-width=\"3\"", line.colour));
-        svg += &text(place + 24.0, 42.0, "start", &line.name);
-        place += 24.0 + 6.6 * line.name.len() as f64 + 22.0;
+    svg += &legend(&panel.lines);
+    let (dashed, drawn): (Vec<&Line>, Vec<&Line>) = panel.lines.iter().partition(|line| line.dashed);
+    for line in drawn.into_iter().rev().chain(dashed) {
         let points: Vec<String> = line.points.iter().map(|p| format!("{:.1},{:.1}", x(p.0), y(p.1))).collect();
-        let curve = format!("<polyline points=\"{}\" fill=\"none\" stroke=\"{}\" stroke-width=\"2\"/>\n", points.join(" "), line.colour);
-        curves.insert_str(0, &curve);
+        svg += &format!("<polyline points=\"{}\" fill=\"none\" {}/>\n", points.join(" "), style(line));
     }
-    svg + &curves
+    svg
+}
+
+/// The names of the lines, one below the other.
+fn legend(lines: &[Line]) -> String {
+    let entry = |(i, line): (usize, &Line)| {
+        let y = 38.0 + 17.0 * i as f64;
+        stroke(LEFT, y, LEFT + 22.0, y, &style(line)) + &text(LEFT + 30.0, y + 4.0, "start", &line.name)
+    };
+    lines.iter().enumerate().map(entry).collect()
+}
+
+/// How a line is drawn.
+fn style(line: &Line) -> String {
+    let dashes = if line.dashed { " stroke-dasharray=\"6 6\"" } else { "" };
+    format!("stroke=\"{}\" stroke-width=\"2.5\"{}", line.colour, dashes)
 }
 
 /// The panels as one picture.
