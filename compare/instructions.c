@@ -13,7 +13,8 @@
 
 #define ASK 7777777
 
-struct block; /* a stretch of instructions without a jump, which the emulator translates at once */
+struct block;       /* a stretch of instructions without a jump, which the emulator translates at once */
+struct instruction; /* one of them */
 
 typedef void translated(uint64_t plugin, struct block *block);
 typedef void called(uint64_t plugin, unsigned processor, int64_t number, uint64_t a, uint64_t b, uint64_t c, uint64_t d, uint64_t e, uint64_t f,
@@ -21,7 +22,8 @@ typedef void called(uint64_t plugin, unsigned processor, int64_t number, uint64_
 
 extern size_t qemu_plugin_tb_n_insns(const struct block *block);
 extern void qemu_plugin_register_vcpu_tb_trans_cb(uint64_t plugin, translated *callback);
-extern void qemu_plugin_register_vcpu_tb_exec_inline(struct block *block, int operation, void *place, uint64_t number);
+extern struct instruction *qemu_plugin_tb_get_insn(const struct block *block, size_t index);
+extern void qemu_plugin_register_vcpu_insn_exec_inline(struct instruction *instruction, int operation, void *place, uint64_t number);
 extern void qemu_plugin_register_vcpu_syscall_cb(uint64_t plugin, called *callback);
 
 enum { ADD = 0 }; /* the only operation: adds the number to the 64 bits at the place */
@@ -31,11 +33,13 @@ int qemu_plugin_version = 1;
 static uint64_t executed;
 static int file = -1;
 
-/* Has the length of a block added each time that it is executed. */
+/* Has 1 added each time that an instruction is executed. Not by whole blocks: the length that is given for a block at the end of a page of memory can
+ * hold an instruction that belongs to the next. */
 static void count(uint64_t plugin, struct block *block)
 {
     (void)plugin;
-    qemu_plugin_register_vcpu_tb_exec_inline(block, ADD, &executed, qemu_plugin_tb_n_insns(block));
+    for (size_t i = 0; i < qemu_plugin_tb_n_insns(block); i++)
+        qemu_plugin_register_vcpu_insn_exec_inline(qemu_plugin_tb_get_insn(block, i), ADD, &executed, 1);
 }
 
 /* Writes the count where it is asked for. */

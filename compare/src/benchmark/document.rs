@@ -44,8 +44,9 @@ const COUNTED: &str = "
 ## How it is counted
 
 Both sides run in one process under an emulator, whose plugin compare/instructions.c counts each instruction as it is executed. A side passes over the
-texts once to warm up and once to be counted; what counting takes itself is left out. Another run gives the same counts. The emulated processor is the
-model qemu64, for which the C library's memcpy copies by SSE2. Before a line is counted, the results of both sides are compared byte for byte.
+texts once to warm up and once to be counted; what counting takes itself is left out. The emulated processor is the model qemu64, for which the C
+library's memcpy copies by SSE2. Another run gives the same ratios: what depends on where a text lies in memory is a thousandth of an instruction per
+byte. Before a line is counted, the results of both sides are compared byte for byte.
 
 ## What it says, and what not
 
