@@ -13,7 +13,8 @@ use Rattle.rules.specs.Encoding.{encodeStep}
 use Rattle.rules.specs.declared.Html.{Html}
 use Rattle.rules.specs.declared.Html.the-variants.{Unquoted}
 use Rattle.rules.proofs.Tests.{same-bytes}
-use Rattle.html.specs.Written.{written, few, unquoted}
+use Rattle.plain.specs.Plain.{unquoted}
+use Rattle.html.specs.Written.{written, few}
 use Rattle.html.specs.Words.{wordOf, eight}
 use Rattle.html.proofs.Seven.{seven-bytes, agree}
 

@@ -14,7 +14,8 @@ use Rattle.rules.specs.Operations.{encodeOf}
 use Rattle.rules.specs.declared.Html.{Html}
 use Rattle.rules.specs.declared.Html.the-variants.{Unquoted}
 use Rattle.rules.specs.declared.Context.the-variants.{InHtml}
-use Rattle.html.specs.Written.{written, few, unquoted}
+use Rattle.plain.specs.Plain.{unquoted}
+use Rattle.html.specs.Written.{written, few}
 use Rattle.html.specs.Gains.{gainOf, gainsOf, Grows}
 use Rattle.html.specs.declared.gains.Gains.{Gains}
 use Rattle.html.proofs.Seven.{agree}

@@ -7,7 +7,8 @@ use lib.ListN.{length, getD}
 use Rattle.rules.specs.Operations.{encodeOf}
 use Rattle.rules.specs.declared.Html.{Html}
 use Rattle.rules.specs.declared.Context.the-variants.{InHtml}
-use Rattle.html.specs.Written.{written, few, unquoted}
+use Rattle.plain.specs.Plain.{unquoted}
+use Rattle.html.specs.Written.{written, few}
 use Rattle.html.specs.declared.gains.Gains.{Gains}
 
 -- By how many bytes what is written for a byte is longer.

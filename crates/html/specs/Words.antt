@@ -5,7 +5,8 @@ use mathlib.Core.List.{List, [], _∷_}
 use Prim.Native.Nat.{ℕ, _+_, _*_, _/_, _%_}
 use lib.ListN.{length, take, drop}
 use Rattle.rules.specs.declared.Html.{Html}
-use Rattle.html.specs.Written.{written, few, unquoted}
+use Rattle.plain.specs.Plain.{unquoted}
+use Rattle.html.specs.Written.{written, few}
 use Rattle.html.specs.declared.words.Words.{Words}
 
 -- Bytes as a number, the first the lowest.

@@ -21,13 +21,3 @@ few SingleQuoted = false
 few Quoted = false
 few Safe = false
 few Unquoted = false
-
--- It replaces every ASCII byte that is no letter or digit.
-abbrev pub unquoted : Html → Bool
-unquoted TextMinimal = false
-unquoted Text = false
-unquoted DoubleQuoted = false
-unquoted SingleQuoted = false
-unquoted Quoted = false
-unquoted Safe = false
-unquoted Unquoted = true

@@ -5,7 +5,7 @@ use mathlib.Core.List.{List, [], _∷_, _++_, append-assoc, append-nil}
 use mathlib.Core.Option.{Option, none, some}
 use Prim.Native.Nat.{ℕ, zero, suc, _+_, _-_, _≤_, _<_}
 use native.Mathlib.Omega.{arith}
-use borrow.Author.Tests.{lt-ltb, leb-false}
+use borrow.Author.Tests.{lt-ltb}
 use lib.ListN.{length, take, drop, getD, length-append, take-append-drop, drop-of-length-le}
 use lib.Seq.{length-take-le, take-add, take-take}
 use Rattle.rules.specs.Bytes.{All, join, fits, Range, inside}
@@ -16,8 +16,7 @@ use Rattle.rules.proofs.Tests.{first-sound, fits-length}
 use Rattle.rules.proofs.Chars.{sequence-pos}
 use Rattle.rules.proofs.Tables.{table-reads}
 use Rattle.rules.proofs.Valid.{valid-iff}
-use Rattle.parts.specs.First.{Free}
-use Rattle.utf8.specs.Check.{tailsOf, isHigh}
+use Rattle.utf8.specs.Check.{tailsOf}
 use Rattle.utf8.proofs.Chars.{char-here, char-of}
 
 pub no-text : IsText []
@@ -46,10 +45,6 @@ ascii-text (x ∷ t) f = char-text (x ∷ []) t (ascii-char x (f 0 (omega arith)
 -- A text of ASCII is valid.
 pub ascii-valid : (t : List ℕ) → ((k : ℕ) → k < length t → getD t k 0 < 128) → validTo t ≡ length t
 ascii-valid t f = valid-iff t .0 (ascii-text t f)
-
--- The same, where the test of a byte above ASCII passes nowhere.
-pub free-valid : (t : List ℕ) → Free (isHigh t) 0 (length t) → validTo t ≡ length t
-free-valid t f = ascii-valid t (λ k h. leb-false 128 (getD t k 0) (f k (omega arith) h))
 
 -- ---- how far a text is valid
 

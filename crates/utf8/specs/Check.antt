@@ -8,10 +8,6 @@ use lib.Dec.{eqb, leb, ltb}
 use lib.ListN.{getD, replicate}
 use Rattle.rules.specs.Bytes.{Range, inside}
 
--- The byte at place k of a text is not ASCII.
-abbrev pub isHigh : List ℕ → ℕ → Bool
-isHigh t k = leb 0x80 (getD t k 0)
-
 -- The byte d can start a character.
 abbrev pub isStart : ℕ → Bool
 isStart d = ltb d 0x80 || leb 0xC2 d && leb d 0xF4

@@ -1,15 +1,13 @@
 // How far a text is valid UTF-8, and the character that stands at its head. A text is read by parts: 128 bytes that are all ASCII, or up to 227
 // bytes each of which fits after the three before it, are passed by counting; the rest is read character by character. The tests of single bytes
 // have no branch and the counts no early end, so that many bytes are tested at once.
-ghost use mathlib.Core.Bool.{true, false};
 ghost use mathlib.Core.Path.{_≡_};
 ghost use Prim.Native.Nat.{ℕ, suc, _+_, _≤_, _<_};
 ghost use lib.ListN.{length, take, drop, getD};
 ghost use Rattle.rules.specs.Bytes.{fits, inside};
 ghost use Rattle.rules.specs.Moves.{takes};
 ghost use Rattle.rules.specs.Utf8.{IsText, charStep, validTo};
-ghost use Rattle.parts.specs.First.{Free};
-ghost use Rattle.utf8.specs.Check.{isHigh, isStart, onward, tailsOf, isOpen, fitsAfter, headsFit, AllFit, pendingIn};
+ghost use Rattle.utf8.specs.Check.{isStart, onward, tailsOf, isOpen, fitsAfter, headsFit, AllFit, pendingIn};
 
 // Whether a byte can start a character.
 fn is_start(d: u8) -> bool
@@ -217,49 +215,10 @@ fn plain_to(text: &[u8], i: usize) -> usize
     k
 }
 
-// Whether one of the sixteen bytes from a place on is not ASCII: false only where none is. The loop has no way out but its end, so that the
-// sixteen are one vector.
-fn has_high(text: &[u8], at: usize) -> bool
-    requires { ⌜ at + 16 ≤ length (now text) ⌝ }
-    ensures { λ r. ⌜ (r ≡ false → Free (isHigh (now (text .entry))) at (at + 16)) ⌝ }
-{
-    let mut hit = false;
-    let mut j: usize = 0;
-    while j < 16 {
-        hit = hit | (128 <= text[at + j]);
-        j += 1;
-    }
-    hit
-}
-
-// Whether a short text is ASCII: true only where it is. The last sixteen bytes are tested together, some of them again, in place of a rest.
-fn is_short_ascii(text: &[u8]) -> bool
-    ensures { λ r. ⌜ (r ≡ true → Free (isHigh (now (text .entry))) 0 (length (now (text .entry)))) ⌝ }
-{
-    if text.len() < 16 {
-        return false;
-    }
-    if 64 < text.len() {
-        return false;
-    }
-    let last = text.len() - 16;
-    let mut i: usize = 0;
-    while i < last {
-        if has_high(text, i) {
-            return false;
-        }
-        i += 16;
-    }
-    !has_high(text, last)
-}
-
-// The length of the longest valid prefix: by parts as far as they go, then plainly. Names and the like are ASCII as a rule, and looked at first.
+// The length of the longest valid prefix: by parts as far as they go, then plainly.
 pub fn valid_to(text: &[u8]) -> usize
     ensures { λ r. ⌜ (r ≡ validTo (now (text .entry))) × (r ≤ length (now (text .entry))) ⌝ }
 {
-    if is_short_ascii(text) {
-        return text.len();
-    }
     let mut i: usize = 0;
     while i < text.len() {
         let n = ahead(text, i);

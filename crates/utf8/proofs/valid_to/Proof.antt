@@ -1,11 +1,10 @@
--- `valid_to` meets its contract: what is ASCII is valid, and up to `i` the text is. The measure is what is left of it.
+-- `valid_to` meets its contract: up to `i` the text is valid. The measure is what is left of it.
 -- Assumes nothing.
-use mathlib.Core.Path.{sym}
 use Prim.Native.Nat.{_-_, _≤_}
 use borrow.Author.Needs.{needs}
 use lib.ListN.{length, take}
 use Rattle.rules.specs.Utf8.{IsText}
-use Rattle.utf8.proofs.Texts.{no-text, valid-here, end-no-char, free-valid}
+use Rattle.utf8.proofs.Texts.{no-text, valid-here, end-no-char}
 use Rattle.utf8.proofs.valid_to.Statement.{statement}
 use Rattle.utf8.proofs.valid_to.Tie as tie
 
@@ -14,12 +13,6 @@ Inv-loop text i₀ i = (i ≤ length text) × IsText (take i text)
 
 abbrev μ-loop : tie.MeasureT-loop
 μ-loop text i₀ i = length text - i
-
-is-short-ascii-requires : tie.Need-is-short-ascii-requires Inv-loop μ-loop
-is-short-ascii-requires c κs = search needs
-
-returns : tie.Need-returns Inv-loop μ-loop
-returns c = (sym (free-valid (c .before .before .before .args .text .now) (c .before .is-short-ascii .ensures (c .if1 .taken))), search needs)
 
 loop-holds : tie.Need-loop-holds Inv-loop μ-loop
 loop-holds c = (search needs, no-text)
@@ -30,8 +23,8 @@ ahead-requires c κs = (search needs, c .before .loop .inv .1)
 plain-to-requires : tie.Need-plain-to-requires Inv-loop μ-loop
 plain-to-requires c κs = (search needs, c .before .before .before .loop .inv .1)
 
-returns-2 : tie.Need-returns-2 Inv-loop μ-loop
-returns-2 c = c .plain-to .ensures
+returns : tie.Need-returns Inv-loop μ-loop
+returns c = c .plain-to .ensures
 
 loop-less : tie.Need-loop-less Inv-loop μ-loop
 loop-less c = search needs
@@ -39,9 +32,9 @@ loop-less c = search needs
 loop-again : tie.Need-loop-again Inv-loop μ-loop
 loop-again c = let h = c .before .ahead .ensures in (h .1, h .2)
 
-returns-3 : tie.Need-returns-3 Inv-loop μ-loop
-returns-3 c =
-    let t = c .before .before .before .before .before .args .text .now in
+returns-2 : tie.Need-returns-2 Inv-loop μ-loop
+returns-2 c =
+    let t = c .before .before .before .args .text .now in
     let l = c .before .loop in
     (valid-here t (l .i) (search needs) (l .inv .1) (end-no-char t (l .i) (c .loop-test .left)), search needs)
 
@@ -51,12 +44,10 @@ valid-to-spec =
     (tie.spec
     Inv-loop
     μ-loop
-    is-short-ascii-requires
-    returns
     loop-holds
     ahead-requires
     plain-to-requires
-    returns-2
+    returns
     loop-less
     loop-again
-    returns-3)
+    returns-2)
