@@ -25,21 +25,23 @@ pub pair-digits : (b : ℕ) → b < 256 → pairOf (hexDigit (b / 16)) (hexDigit
 unfolding pairOf digitOf
 pair-digits b h = eqb→eq (pairOf (hexDigit (b / 16)) (hexDigit (b % 16))) b (every-byte again tt b h)
 
+-- A byte in a range is no less than its first.
+pub inside-above : (lo hi a : ℕ) → inside (lo, hi) a ≡ true → lo ≤ a
+inside-above lo hi a e = leb→le lo a (and-left (leb lo a) (leb a hi) (subst T (sym e) tt))
+
+-- Nor more than its last.
+pub inside-beneath : (lo hi a : ℕ) → inside (lo, hi) a ≡ true → a ≤ hi
+inside-beneath lo hi a e = leb→le a hi (and-right (leb lo a) (leb a hi) (subst T (sym e) tt))
+
 -- A byte that has a value is the digit of that value.
 digit-of : (a : ℕ) → digitOf a < 16 → hexDigit (digitOf a) ≡ a
 unfolding digitOf
 digit-of a h = go (inside (48, 57) a) refl (inside (65, 70) a) refl h
   where
-    above : (lo hi : ℕ) → inside (lo, hi) a ≡ true → lo ≤ a
-    above lo hi e = leb→le lo a (and-left (leb lo a) (leb a hi) (subst T (sym e) tt))
-
-    beneath : (lo hi : ℕ) → inside (lo, hi) a ≡ true → a ≤ hi
-    beneath lo hi e = leb→le a hi (and-right (leb lo a) (leb a hi) (subst T (sym e) tt))
-
     go : (p : Bool) → inside (48, 57) a ≡ p → (q : Bool) → inside (65, 70) a ≡ q → cond p (a - 48) (cond q (a - 55) 16) < 16
         → hexDigit (cond p (a - 48) (cond q (a - 55) 16)) ≡ a
-    go true e q f h = rw (lt-ltb (a - 48) 10 (omega (arith, beneath 48 57 e))) (omega (arith, above 48 57 e))
-    go false e true f h = rw (le-ltb (a - 55) 10 (omega (arith, above 65 70 f))) (omega (arith, above 65 70 f))
+    go true e q f h = rw (lt-ltb (a - 48) 10 (omega (arith, inside-beneath 48 57 a e))) (omega (arith, inside-above 48 57 a e))
+    go false e true f h = rw (le-ltb (a - 55) 10 (omega (arith, inside-above 65 70 a f))) (omega (arith, inside-above 65 70 a f))
     go false e false f h = absurd (omega arith)
 
 pair-of : (x y : ℕ) → x < 16 → y < 16 → hexPair (16 * x + y) ≡ hexDigit x ∷ hexDigit y ∷ []

@@ -7,9 +7,13 @@ use lib.Dec.{ltb}
 use lib.ListN.{length, drop}
 use Rattle.rules.specs.Bytes.{stands, inside}
 
+-- The value of a letter that is an upper-case hex digit, 16 for any other byte.
+abbrev pub letterOf : ℕ → ℕ
+letterOf b = cond (inside (65, 70) b) (b - 55) 16
+
 -- The value of an upper-case hex digit, 16 for any other byte.
 unfoldable pub digitOf : ℕ → ℕ
-digitOf b = cond (inside (48, 57) b) (b - 48) (cond (inside (65, 70) b) (b - 55) 16)
+digitOf b = cond (inside (48, 57) b) (b - 48) (letterOf b)
 
 -- The value of two of them, 256 where one is none.
 unfoldable pub pairOf : ℕ → ℕ → ℕ

@@ -2,29 +2,30 @@
 ghost use mathlib.Core.Path.{_≡_};
 ghost use mathlib.Core.List.{_++_};
 ghost use Prim.Native.Nat.{_≤_};
-ghost use lib.ListN.{length};
 ghost use Rattle.rules.specs.Bytes.{ascii};
 ghost use Rattle.rules.specs.Encoding.{closes};
-ghost use Rattle.escapes.specs.Hex.{digitOf, pairOf, hexBefore, hexBetween};
+ghost use Rattle.escapes.specs.Hex.{letterOf, digitOf, pairOf, hexBefore, hexBetween};
 ghost use Rattle.escapes.specs.Strings.{nameOf};
 
-// The value of an upper-case hex digit, 16 for any other byte.
-fn digit(b: u8) -> u32
-    ensures { λ r. ⌜ (r ≡ digitOf b) × (r ≤ 16) ⌝ }
+// The value of a letter that is an upper-case hex digit, 16 for any other byte.
+fn letter(b: u8) -> u32
+    ensures { λ r. ⌜ (r ≡ letterOf b) × (r ≤ 16) ⌝ }
 {
-    if b < 48 {
-        return 16;
-    }
-    if b <= 57 {
-        return (b - 48) as u32;
-    }
-    if b < 65 {
-        return 16;
-    }
-    if b <= 70 {
+    if parts::is_within(b'A', b'F', b) {
         return (b - 55) as u32;
     }
     16
+}
+
+// The value of an upper-case hex digit, 16 for any other byte. Both kinds are looked at, so that no branch has to guess which of them stands there.
+fn digit(b: u8) -> u32
+    ensures { λ r. ⌜ (r ≡ digitOf b) × (r ≤ 16) ⌝ }
+{
+    let other = letter(b);
+    if parts::is_within(b'0', b'9', b) {
+        return (b - 48) as u32;
+    }
+    other
 }
 
 // The value of two of them, 256 where one is none.

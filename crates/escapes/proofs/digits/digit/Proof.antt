@@ -1,42 +1,34 @@
--- `digit` meets its contract: each return is one range of the definition.
+-- `digit` meets its contract: a digit by its range, any other byte as a letter.
 -- Assumes nothing.
+use mathlib.Core.Path.{sym, _∙_}
 use native.Mathlib.Omega.{arith}
-use borrow.Author.Tests.{lt-leb, le-leb}
 use borrow.Author.Needs.{needs}
 use Rattle.escapes.specs.Hex.{digitOf}
-use Rattle.escapes.proofs.digits.digit.Tie as tie
+use Rattle.escapes.proofs.Hex.{inside-above, inside-beneath}
 use Rattle.escapes.proofs.digits.digit.Statement.{statement}
+use Rattle.escapes.proofs.digits.digit.Tie as tie
 
-returns : tie.Need-returns
-unfolding digitOf
-returns c = (rw (lt-leb 48 _ (c .if1 .taken), lt-leb 65 (c .before .args .b) (omega arith)), search needs)
+letter-requires : tie.Need-letter-requires
+letter-requires c κs = search needs
+
+is-within-requires : tie.Need-is-within-requires
+is-within-requires c κs = search needs
+
+sub-result : tie.Need-sub-result
+sub-result c = omega (arith, inside-above 48 57 (c .before .before .before .args .b) (sym (c .before .is-within .ensures) ∙ c .if1 .taken))
 
 cast-result : tie.Need-cast-result
 cast-result c = search needs
 
+returns : tie.Need-returns
+unfolding digitOf
+returns c = let e = sym (c .before .is-within .ensures) ∙ c .if1 .taken in (rw e, omega (arith, inside-beneath 48 57 (c .before .before .before .args .b) e))
+
 returns-2 : tie.Need-returns-2
 unfolding digitOf
-returns-2 c = (rw (le-leb 48 _ (c .before .if1 .left), le-leb _ 57 (c .if2 .taken)), search needs)
-
-returns-3 : tie.Need-returns-3
-unfolding digitOf
-returns-3 c = (rw (le-leb 48 _ (c .before .before .if1 .left), lt-leb _ 57 (c .before .if2 .left), lt-leb 65 _ (c .if3 .taken)), search needs)
-
-sub-result : tie.Need-sub-result
-sub-result c = search needs
-
-cast-result-2 : tie.Need-cast-result-2
-cast-result-2 c = search needs
-
-returns-4 : tie.Need-returns-4
-unfolding digitOf
-returns-4 c = (rw (le-leb 48 _ (c .before .before .before .if1 .left), lt-leb _ 57 (c .before .before .if2 .left), le-leb 65 _ (c .before .if3 .left), le-leb _ 70 (c .if4 .taken)), search needs)
-
-returns-5 : tie.Need-returns-5
-unfolding digitOf
-returns-5 c = (rw (le-leb 48 _ (c .before .before .before .if1 .left), lt-leb _ 57 (c .before .before .if2 .left), le-leb 65 _ (c .before .if3 .left), lt-leb _ 70 (c .if4 .left)), search needs)
+returns-2 c = (rw (sym (c .before .is-within .ensures) ∙ c .if1 .left) (c .before .before .letter .ensures .0), c .before .before .letter .ensures .1)
 
 pub digit-spec : {M : Type 1} → statement M
 digit-spec =
     tie.close
-    (tie.spec returns cast-result returns-2 returns-3 sub-result cast-result-2 returns-4 returns-5)
+    (tie.spec letter-requires is-within-requires sub-result cast-result returns returns-2)
