@@ -4,7 +4,7 @@ use mathlib.Core.Bool.{Bool, true, false, _&&_}
 use mathlib.Core.Option.{Option, none, some}
 use mathlib.Core.Path.{_≡_, refl, sym, ap, _∙_, subst}
 use mathlib.Core.List.{List, [], _∷_, _++_, map}
-use Prim.Native.Nat.{ℕ, suc, _+_, _≤_, _<_}
+use Prim.Native.Nat.{ℕ, suc, _+_, _<_}
 use native.Mathlib.Omega.{arith}
 use lib.Dec.{T, leb, ltb, eqb, leb→le, ltb→lt, eqb→eq}
 use lib.ListN.{length, take, length-append}
@@ -18,7 +18,7 @@ use Rattle.rules.specs.Reading.{undo}
 use Rattle.rules.specs.declared.Escape.{Escape}
 use Rattle.rules.specs.declared.Escape.the-variants.{Taken, Nothing}
 use Rattle.rules.proofs.Tests.{and-left, and-right, all-in, any-in, first-sound, none-fits, in-map, map-in, stands-split}
-use Rattle.escapes.specs.Finds.{undone, Within, Finds}
+use Rattle.escapes.specs.Finds.{Finds}
 
 -- ---- part by part
 
@@ -37,8 +37,11 @@ pub finds-first : (xs ys : List Row) {s : List ℕ} {n c : ℕ} → Finds xs s (
 finds-first xs ys {s} f = record { undoes = λ other. undo-append xs ys s other ∙ f .undoes (undo (rowAt value ys s) other); within = f .within }
 
 -- Where nothing is, the second part counts.
+pub undo-second : (xs ys : List Row) (s : List ℕ) (other : Move) → Finds xs s Nothing → undo (rowAt value (xs ++ ys) s) other ≡ undo (rowAt value ys s) other
+undo-second xs ys s other f = undo-append xs ys s other ∙ f .undoes (undo (rowAt value ys s) other)
+
 pub finds-second : (xs ys : List Row) {s : List ℕ} {r : Escape} → Finds xs s Nothing → Finds ys s r → Finds (xs ++ ys) s r
-finds-second xs ys {s} f g = record { undoes = λ other. undo-append xs ys s other ∙ f .undoes (undo (rowAt value ys s) other) ∙ g .undoes other; within = g .within }
+finds-second xs ys {s} f g = record { undoes = λ other. undo-second xs ys s other f ∙ g .undoes other; within = g .within }
 
 -- ---- row by row
 

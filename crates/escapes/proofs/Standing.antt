@@ -6,7 +6,7 @@ use mathlib.Core.List.{List, [], _∷_, _++_}
 use Prim.Native.Nat.{ℕ, _≤_}
 use native.Mathlib.Omega.{arith}
 use lib.Dec.{T, eqb, eqb→eq}
-use lib.ListN.{length, take, getD, length-append}
+use lib.ListN.{length, take, length-append}
 use lib.Seq.{take-append-le}
 use Rattle.rules.specs.Bytes.{ascii, stands, oneOf}
 use Rattle.rules.specs.Encoding.{closes}
@@ -29,7 +29,3 @@ closes-slash name (x ∷ y ∷ s) e =
     let a = eqb→eq x 92 (or-false (eqb x 92) (and-left (oneOf (92 ∷ []) x) (oneOf (47 ∷ []) y && closes name s) t)) in
     let b = eqb→eq y 47 (or-false (eqb y 47) (and-left (oneOf (47 ∷ []) y) (closes name s) (and-right (oneOf (92 ∷ []) x) (oneOf (47 ∷ []) y && closes name s) t))) in
     ((λ i. a i ∷ b i ∷ []), omega arith)
-
--- Nor is a byte of it.
-pub stands-byte : (p s : List ℕ) (k b : ℕ) → ((r : List ℕ) → getD (p ++ r) k 0 ≡ b) → stands p s ≡ true → getD s k 0 ≡ b
-stands-byte p s k b f e = let (r, x) = stands-split p s (subst T (sym e) tt) in ap (λ (l : List ℕ). getD l k 0) x ∙ f r

@@ -4,26 +4,24 @@ use mathlib.Core.Bool.{Bool, true, false, not, _&&_, _||_, cond}
 use mathlib.Core.Logic.{_⊎_, inl, inr, ⊎-elim}
 use mathlib.Core.Path.{_≡_, refl, sym, ap, _∙_, subst}
 use mathlib.Core.List.{List, [], _∷_, _++_, map}
-use Prim.Native.Nat.{ℕ, zero, suc, _+_, _-_, _≤_, _<_}
+use Prim.Native.Nat.{ℕ, zero, suc, _+_, _-_, _/_, _%_, _≤_, _<_}
 use native.Mathlib.Omega.{arith}
 use lib.Dec.{T, eqb, eqb→eq, eqb-refl, ltb, ltb→lt, T-not}
 use lib.ListN.{length, take, drop, getD, length-drop}
 use borrow.Author.Tests.{eqb-true, ltb-true}
-use Rattle.rules.specs.Bytes.{ascii, In, all, any, count, stands, oneOf}
+use Rattle.rules.specs.Bytes.{ascii, In, all, count, stands, oneOf}
 use Rattle.rules.specs.Answers.{escapeMove}
-use Rattle.rules.specs.Escapes.{afterLess}
+use Rattle.rules.specs.Escapes.{afterLess, escapeBy}
 use Rattle.rules.specs.Operations.{decodeStep}
-use Rattle.rules.specs.Reading.{undo}
-use Rattle.rules.specs.Tables.{Row, rowAt, value, slashed, scriptHex, styleHex, rows}
-use Rattle.rules.specs.Moves.{keep, before}
+use Rattle.rules.specs.Tables.{Row, value, slashed, rows}
+use Rattle.rules.specs.Moves.{keep, swap, before}
 use Rattle.rules.specs.Utf8.{utf8}
-use Rattle.rules.specs.declared.Context.{Context}
 use Rattle.rules.specs.declared.Context.the-variants.{InScript, InStyle}
 use Rattle.rules.specs.declared.Quotes.{Quotes}
 use Rattle.rules.specs.declared.Quotes.the-variants.{Single, Double, Both}
 use Rattle.rules.specs.declared.Escape.{Escape}
 use Rattle.rules.specs.declared.Escape.the-variants.{Taken, Nothing}
-use Rattle.rules.proofs.Tests.{and-both, or-cases, all-in, any-in, any-intro}
+use Rattle.rules.proofs.Tests.{and-both, or-cases, all-in, any-intro}
 use Rattle.rules.proofs.EveryByte.{every-byte}
 use Rattle.rules.proofs.Decoder.{at-mark}
 use Rattle.rules.proofs.Loops.{drop-next}
@@ -32,8 +30,8 @@ use Rattle.parts.proofs.Filled.{lent-rest}
 use Rattle.seek.specs.Places.{Nearest}
 use Rattle.escapes.specs.Finds.{Within, Finds}
 use Rattle.escapes.specs.Hex.{hexBetween}
-use Rattle.escapes.specs.Strings.{stringOf, nameOf, slashedBytes, afterSlash, hexEscape, isHexed, lineSeparator, paragraphSeparator, separators, escapeChar, escapeOf}
-use Rattle.escapes.proofs.Finding.{one-of-in, Coded, finds-byte, finds-no-byte, finds-first, finds-second, finds-later, finds-end}
+use Rattle.escapes.specs.Strings.{stringOf, nameOf, slashedBytes, plainQuote, afterSlash, hexEscape, isHexed, lineSeparator, paragraphSeparator, separators, hexRow, hexedBytes, hexRows, unslashedRows, escapeOf}
+use Rattle.escapes.proofs.Finding.{one-of-in, utf8-ascii, Coded, finds-byte, finds-no-byte, finds-first, finds-second, undo-second, finds-later, finds-end}
 use Rattle.escapes.proofs.Hex.{pair-digits, stands-between}
 use Rattle.escapes.proofs.Standing.{stands-take}
 
@@ -54,6 +52,24 @@ slash-long (x ∷ []) h = absurd (h (omega arith))
 slash-long (x ∷ y ∷ s) h = refl
 
 -- ---- a byte after a backslash
+
+-- The bytes that are written so: the backslash and the two quotes but the one that is plain.
+pub slashed-but : (q : Quotes) (b : ℕ) → oneOf (slashedBytes q) b ≡ cond (eqb b (plainQuote q)) false (oneOf (ascii "\\'\"") b)
+slashed-but q b = go (eqb b (plainQuote q)) refl
+  where
+    plain : (q : Quotes) → oneOf (slashedBytes q) (plainQuote q) ≡ false
+    plain Single = refl
+    plain Double = refl
+    plain Both = refl
+
+    other : (q : Quotes) → eqb b (plainQuote q) ≡ false → oneOf (slashedBytes q) b ≡ oneOf (ascii "\\'\"") b
+    other Single e = rw e
+    other Double e = rw e
+    other Both e = refl
+
+    go : (p : Bool) → eqb b (plainQuote q) ≡ p → oneOf (slashedBytes q) b ≡ cond p false (oneOf (ascii "\\'\"") b)
+    go true e = ap (oneOf (slashedBytes q)) (eqb-true b (plainQuote q) e) ∙ plain q
+    go false e = other q e
 
 no-zero : (q : Quotes) → In 0 (slashedBytes q) → ⊥
 no-zero q i = all-in (λ (b : ℕ). ltb 0 b) (slashedBytes q) (go q) 0 i
@@ -83,16 +99,6 @@ slashed-coded q = record { finds = λ b i r. refl; sound = slashed-sound q; keys
 
 -- ---- two hex digits
 
--- The row of a byte that is written so.
-abbrev hexRow : Bool → ℕ → Row
-hexRow true b = styleHex b
-hexRow false b = scriptHex b
-
--- The bytes that are.
-abbrev hexedBytes : Bool → List ℕ
-hexedBytes true = count 1 31 ++ 0x3C ∷ []
-hexedBytes false = count 0 32 ++ 0x3C ∷ []
-
 hexed-small : (style : Bool) → T (all (λ (b : ℕ). ltb b 128) (hexedBytes style))
 hexed-small true = tt
 hexed-small false = tt
@@ -117,23 +123,24 @@ hex-coded false = record {
   small = tt;
 }
 
--- These bytes are those that pass the test.
-hexed-in : (style : Bool) (v : ℕ) → isHexed style v ≡ true → In v (hexedBytes style)
-hexed-in style v e =
-    one-of-in (hexedBytes style) v
-    (go (or-cases (not (isHexed style v)) (oneOf (hexedBytes style) v) (every-byte (λ (v : ℕ). not (isHexed style v) || oneOf (hexedBytes style) v) (ok style) v below)))
+-- What passes the test is a byte.
+pub hexed-byte : (style : Bool) (v : ℕ) → isHexed style v ≡ true → v < 256
+hexed-byte style v e = ⊎-elim (λ p. omega (arith, eqb-true v 60 p)) (λ p. omega (arith, ltb-true v 32 p)) (small (eqb v 60) (ltb v 32) (not (style && eqb v 0)) e)
   where
-    ok : (style : Bool) → T (all (λ (v : ℕ). not (isHexed style v) || oneOf (hexedBytes style) v) (count 0 256))
-    ok true = tt
-    ok false = tt
-
     small : (p q r : Bool) → (p || (q && r)) ≡ true → (p ≡ true) ⊎ (q ≡ true)
     small true q r e = inl refl
     small false true r e = inr refl
     small false false r e = inr e
 
-    below : v < 256
-    below = ⊎-elim (λ p. omega (arith, eqb-true v 60 p)) (λ p. omega (arith, ltb-true v 32 p)) (small (eqb v 60) (ltb v 32) (not (style && eqb v 0)) e)
+-- These bytes are those that pass the test.
+hexed-in : (style : Bool) (v : ℕ) → isHexed style v ≡ true → In v (hexedBytes style)
+hexed-in style v e =
+    one-of-in (hexedBytes style) v
+    (go (or-cases (not (isHexed style v)) (oneOf (hexedBytes style) v) (every-byte (λ (v : ℕ). not (isHexed style v) || oneOf (hexedBytes style) v) (ok style) v (hexed-byte style v e))))
+  where
+    ok : (style : Bool) → T (all (λ (v : ℕ). not (isHexed style v) || oneOf (hexedBytes style) v) (count 0 256))
+    ok true = tt
+    ok false = tt
 
     go : T (not (isHexed style v)) ⊎ T (oneOf (hexedBytes style) v) → T (oneOf (hexedBytes style) v)
     go (inl t) = absurd (T-not (isHexed style v) t (subst T (sym e) tt))
@@ -148,7 +155,7 @@ hexed-out style v e i = subst T e (all-in (isHexed style) (hexedBytes style) (go
 
 -- ---- the whole table
 
-string-rows : (style : Bool) (q : Quotes) → rows (stringOf style q) ≡ map slashed (slashedBytes q) ++ (map (hexRow style) (hexedBytes style) ++ separators style)
+string-rows : (style : Bool) (q : Quotes) → rows (stringOf style q) ≡ map slashed (slashedBytes q) ++ unslashedRows style
 string-rows true Single = refl
 string-rows true Double = refl
 string-rows true Both = refl
@@ -156,48 +163,69 @@ string-rows false Single = refl
 string-rows false Double = refl
 string-rows false Both = refl
 
-module _ (style : Bool) (q : Quotes) (s : List ℕ) where
-  abbrev hexes : List Row
-  hexes = map (hexRow style) (hexedBytes style)
+-- Two hex digits of a byte that the string writes so.
+pub finds-hexed : (style : Bool) (s : List ℕ) → isHexed style (hexEscape style s) ≡ true → Finds (hexRows style) s (Taken 4 (hexEscape style s))
+finds-hexed style s e = finds-byte (hex-coded style) s (hexed-in style (hexEscape style s) e)
 
+-- Where they are not, no such row stands.
+pub finds-no-hexed : (style : Bool) (s : List ℕ) → isHexed style (hexEscape style s) ≡ false → Finds (hexRows style) s Nothing
+finds-no-hexed style s e = finds-no-byte (hex-coded style) s (hexed-out style (hexEscape style s) e)
+
+-- A number that tells one in hex tells the first of all that have no backslash before their byte.
+pub finds-told : (style : Bool) (s : List ℕ) (n : ℕ) → (n ≡ 0 → ⊥) → Finds (hexRows style) s (escapeOf n) → Finds (unslashedRows style) s (escapeOf n)
+finds-told style s zero h f = absurd (h refl)
+finds-told style s (suc n) h f = finds-first (hexRows style) (separators style) f
+
+-- Where it is 0, the separators count.
+pub finds-rest : (style : Bool) (s : List ℕ) (n : ℕ) {r : Escape} → n ≡ 0 → Finds (hexRows style) s (escapeOf n) → Finds (separators style) s r → Finds (unslashedRows style) s r
+finds-rest style s n h f g = finds-second (hexRows style) (separators style) (subst (λ (n : ℕ). Finds (hexRows style) s (escapeOf n)) h f) g
+
+module _ (style : Bool) (q : Quotes) (s : List ℕ) where
   no-slashed : oneOf (slashedBytes q) (afterSlash s) ≡ false → Finds (map slashed (slashedBytes q)) s Nothing
   no-slashed e = finds-no-byte (slashed-coded q) s (λ i. subst T e (any-intro (eqb (afterSlash s)) (slashedBytes q) (afterSlash s) i (eqb-refl (afterSlash s))))
 
   -- A backslash and a byte that the string writes so.
   pub finds-slashed : oneOf (slashedBytes q) (afterSlash s) ≡ true → Finds (rows (stringOf style q)) s (Taken 2 (afterSlash s))
-  finds-slashed e = rw (string-rows style q) (finds-first (map slashed (slashedBytes q)) (hexes ++ separators style) (finds-byte (slashed-coded q) s (one-of-in (slashedBytes q) (afterSlash s) (subst T (sym e) tt))))
+  finds-slashed e = rw (string-rows style q) (finds-first (map slashed (slashedBytes q)) (unslashedRows style) (finds-byte (slashed-coded q) s (one-of-in (slashedBytes q) (afterSlash s) (subst T (sym e) tt))))
 
-  -- Two hex digits of a byte that it writes so.
-  pub finds-hexed : oneOf (slashedBytes q) (afterSlash s) ≡ false → isHexed style (hexEscape style s) ≡ true → Finds (rows (stringOf style q)) s (Taken 4 (hexEscape style s))
-  finds-hexed e f =
-      rw (string-rows style q)
-      (finds-second (map slashed (slashedBytes q)) (hexes ++ separators style) (no-slashed e)
-      (finds-first hexes (separators style) (finds-byte (hex-coded style) s (hexed-in style (hexEscape style s) f))))
-
-  -- Neither: what is left are U+2028 and U+2029.
-  pub finds-rest : {r : Escape} → oneOf (slashedBytes q) (afterSlash s) ≡ false → isHexed style (hexEscape style s) ≡ false → Finds (separators style) s r
-      → Finds (rows (stringOf style q)) s r
-  finds-rest e f g =
-      rw (string-rows style q)
-      (finds-second (map slashed (slashedBytes q)) (hexes ++ separators style) (no-slashed e)
-      (finds-second hexes (separators style) (finds-no-byte (hex-coded style) s (hexed-out style (hexEscape style s) f)) g))
+  -- Where it is none, the other rows count.
+  pub finds-unslashed : {r : Escape} → oneOf (slashedBytes q) (afterSlash s) ≡ false → Finds (unslashedRows style) s r → Finds (rows (stringOf style q)) s r
+  finds-unslashed e f = rw (string-rows style q) (finds-second (map slashed (slashedBytes q)) (unslashedRows style) (no-slashed e) f)
 
 -- ---- decode
 
-decode-string : (style : Bool) (q : Quotes) (p : ℕ) (s : List ℕ) → decodeStep (stringOf style q) p s ≡ undo (rowAt value (rows (stringOf style q)) s) (afterLess (nameOf style) p s)
+decode-string : (style : Bool) (q : Quotes) (p : ℕ) (s : List ℕ) → decodeStep (stringOf style q) p s ≡ escapeBy (nameOf style) (rows (stringOf style q)) p s
 unfolding decodeStep
 decode-string true q p s = refl
 decode-string false q p s = refl
 
+-- A backslash and a byte that the string writes so give way to the byte.
+decode-slashed : (style : Bool) (q : Quotes) (p : ℕ) (s : List ℕ) → oneOf (slashedBytes q) (afterSlash s) ≡ true
+    → (decodeStep (stringOf style q) p s ≡ swap (take 2 s) (afterSlash s ∷ [])) × (2 ≤ length s)
+decode-slashed style q p s e =
+    let f = finds-slashed style q s e in
+    let small = ltb→lt (afterSlash s) 128 (all-in (λ (b : ℕ). ltb b 128) (slashedBytes q) (slashed-small q) (afterSlash s) (one-of-in (slashedBytes q) (afterSlash s) (subst T (sym e) tt))) in
+    (decode-string style q p s ∙ f .undoes (afterLess (nameOf style) p s) ∙ ap (swap (take 2 s)) (utf8-ascii (afterSlash s) small), f .within .1)
+
+-- Where it is none, the other rows and the rules after `<` decide.
+decode-unslashed : (style : Bool) (q : Quotes) (p : ℕ) (s : List ℕ) → oneOf (slashedBytes q) (afterSlash s) ≡ false
+    → escapeBy (nameOf style) (unslashedRows style) p s ≡ decodeStep (stringOf style q) p s
+decode-unslashed style q p s e =
+    sym
+    (decode-string style q p s
+    ∙ ap (λ (table : List Row). escapeBy (nameOf style) table p s) (string-rows style q)
+    ∙ undo-second (map slashed (slashedBytes q)) (unslashedRows style) s (afterLess (nameOf style) p s) (no-slashed style q s e))
+
 -- A row that is found is undone.
-pub decode-found : (style : Bool) (q : Quotes) (p : ℕ) (s : List ℕ) (n c : ℕ) → Finds (rows (stringOf style q)) s (Taken n c)
-    → escapeMove s (Taken n c) ≡ decodeStep (stringOf style q) p s
-decode-found style q p s n c f = sym (decode-string style q p s ∙ f .undoes (afterLess (nameOf style) p s))
+pub row-found : (style : Bool) (p : ℕ) (s : List ℕ) (n : ℕ) → (n ≡ 0 → ⊥) → Finds (unslashedRows style) s (escapeOf n)
+    → escapeMove s (escapeOf n) ≡ escapeBy (nameOf style) (unslashedRows style) p s
+row-found style p s zero h f = absurd (h refl)
+row-found style p s (suc n) h f = sym (f .undoes (afterLess (nameOf style) p s))
 
 -- Where there is none, the rules after `<` decide.
-pub decode-after : (style : Bool) (q : Quotes) (p : ℕ) (s : List ℕ) → Finds (rows (stringOf style q)) s Nothing
-    → afterLess (nameOf style) p s ≡ decodeStep (stringOf style q) p s
-decode-after style q p s f = sym (decode-string style q p s ∙ f .undoes (afterLess (nameOf style) p s))
+pub row-after : (style : Bool) (p : ℕ) (s : List ℕ) → Finds (unslashedRows style) s Nothing
+    → afterLess (nameOf style) p s ≡ escapeBy (nameOf style) (unslashedRows style) p s
+row-after style p s f = sym (f .undoes (afterLess (nameOf style) p s))
 
 -- Between two backslashes each byte is kept.
 pub string-quiet : (style : Bool) (q : Quotes) (t : List ℕ) (i e : ℕ) → Nearest t i 92 e → Keeps (decodeStep (stringOf style q)) t i e
@@ -209,20 +237,24 @@ string-quiet style q t i e near k h l =
     go true = at-mark (InStyle q)
     go false = at-mark (InScript q)
 
--- What the reader of escapes answers at place e, lent the rest of the text, is the move there.
-escape-here : (c : Context) (t : List ℕ) (e p : ℕ) (r : Escape) → p ≡ before t e
-    → escapeMove (take (length t - e) (drop e t)) r ≡ decodeStep c p (take (length t - e) (drop e t)) → decodeStep c (before t e) (drop e t) ≡ escapeMove (drop e t) r
-escape-here c t e p r h f = rw (← h, ← lent-rest e t) (sym f)
+-- A byte b that the string writes with a backslash before it, at place e: the two give way to it.
+pub slashed-here : (style : Bool) (q : Quotes) (t : List ℕ) (e b : ℕ) → b ≡ afterSlash (take (length t - e) (drop e t)) → oneOf (slashedBytes q) b ≡ true
+    → (decodeStep (stringOf style q) (before t e) (drop e t) ≡ swap (take 2 (drop e t)) (b ∷ [])) × (e + 2 ≤ length t)
+slashed-here style q t e b h f =
+    let h : b ≡ afterSlash (drop e t) = rw (← lent-rest e t) h in
+    let d = decode-slashed style q (before t e) (drop e t) (ap (oneOf (slashedBytes q)) (sym h) ∙ f) in
+    (rw h (d .0), omega (arith, rw length-drop at (d .1)))
 
--- The answer r, made of the length n that was found.
-pub told-here : (style : Bool) (q : Quotes) (t : List ℕ) (e p n : ℕ) (r : Escape) → p ≡ before t e → r ≡ escapeOf style n (take (length t - e) (drop e t))
-    → (escapeMove (take (length t - e) (drop e t)) (escapeOf style n (take (length t - e) (drop e t))) ≡ decodeStep (stringOf style q) p (take (length t - e) (drop e t)))
-    × Within (escapeOf style n (take (length t - e) (drop e t))) (take (length t - e) (drop e t))
+-- Where it is not so, what the reader of the others answers there, lent the rest of the text, is the move.
+pub told-here : (style : Bool) (q : Quotes) (t : List ℕ) (e b p : ℕ) (r r′ : Escape) → b ≡ afterSlash (take (length t - e) (drop e t)) → oneOf (slashedBytes q) b ≡ false
+    → p ≡ before t e → r ≡ r′
+    → (escapeMove (take (length t - e) (drop e t)) r′ ≡ escapeBy (nameOf style) (unslashedRows style) p (take (length t - e) (drop e t)))
+    × Within r′ (take (length t - e) (drop e t))
     → (decodeStep (stringOf style q) (before t e) (drop e t) ≡ escapeMove (drop e t) r) × Within r (take (length t - e) (drop e t))
-told-here style q t e p n r h told f = (
-  escape-here (stringOf style q) t e p r h (subst (λ (r : Escape). escapeMove (take (length t - e) (drop e t)) r ≡ decodeStep (stringOf style q) p (take (length t - e) (drop e t))) (sym told) (f .0)),
-  subst (λ (r : Escape). Within r (take (length t - e) (drop e t))) (sym told) (f .1),
-)
+told-here style q t e b p r r′ h f k told g =
+    let rest = take (length t - e) (drop e t) in
+    let d = decode-unslashed style q p rest (ap (oneOf (slashedBytes q)) (sym h) ∙ f) in
+    (rw (← k, ← lent-rest e t, told) (sym (g .0 ∙ d)), rw told (g .1))
 
 -- And it stays within the text.
 pub within-rest : (t : List ℕ) (e n c : ℕ) → Within (Taken n c) (take (length t - e) (drop e t)) → (1 ≤ n) × (e + n ≤ length t) × (length (utf8 c) ≤ n) × (c < 0x10000)
@@ -233,17 +265,19 @@ pub before-at : (t : List ℕ) (i : ℕ) → (i ≡ 0 → ⊥) → getD t (i - 1
 before-at t zero h = absurd (h refl)
 before-at t (suc i) h = let e : suc i - 1 ≡ i = omega arith in rw e
 
--- ---- an escape by its length
+-- ---- an escape as a number
 
--- Some bytes are taken.
-pub escape-some : (style : Bool) (n : ℕ) (s : List ℕ) → (n ≡ 0 → ⊥) → escapeOf style n s ≡ Taken n (escapeChar style n s)
-escape-some style zero s h = absurd (h refl)
-escape-some style (suc n) s h = refl
+-- A number that is not 0 tells an escape.
+pub escape-some : (n : ℕ) → (n ≡ 0 → ⊥) → escapeOf n ≡ Taken (n / 65536) (n % 65536)
+escape-some zero h = absurd (h refl)
+escape-some (suc n) h = refl
 
--- No more than there are.
-pub within-most : (style : Bool) (n : ℕ) (s : List ℕ) → Within (escapeOf style n s) s → n ≤ length s
-within-most style zero s w = omega arith
-within-most style (suc n) s w = w .1
+-- Four bytes of a hex escape.
+pub escape-hexed : (v : ℕ) → v < 256 → escapeOf (0x40000 + v) ≡ Taken 4 v
+escape-hexed v h =
+    let d : (0x40000 + v) / 65536 ≡ 4 = omega arith in
+    let m : (0x40000 + v) % 65536 ≡ v = omega arith in
+    escape-some (0x40000 + v) (λ z. omega arith) ∙ rw (d, m)
 
 -- The byte after a backslash, by the first two bytes.
 pub slash-taken : (s : List ℕ) (b : ℕ) → take 2 s ≡ 0x5C ∷ b ∷ [] → afterSlash s ≡ b

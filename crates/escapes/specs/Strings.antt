@@ -1,16 +1,16 @@
 -- The script and style strings as the code names them, and which bytes each kind of escape stands for.
 -- Assumes nothing.
 use mathlib.Core.Bool.{Bool, true, false, not, _&&_, _||_, cond}
-use mathlib.Core.List.{List, [], _∷_}
-use Prim.Native.Nat.{ℕ, zero, suc}
+use mathlib.Core.List.{List, [], _∷_, _++_, map}
+use Prim.Native.Nat.{ℕ, zero, suc, _/_, _%_}
 use lib.Dec.{ltb, eqb}
 use lib.ListN.{getD}
-use Rattle.rules.specs.Bytes.{ascii}
+use Rattle.rules.specs.Bytes.{ascii, count}
 use Rattle.rules.specs.declared.Quotes.{Quotes}
 use Rattle.rules.specs.declared.Quotes.the-variants.{Single, Double, Both}
 use Rattle.rules.specs.declared.Context.{Context}
 use Rattle.rules.specs.declared.Context.the-variants.{InScript, InStyle}
-use Rattle.rules.specs.Tables.{Row}
+use Rattle.rules.specs.Tables.{Row, scriptHex, styleHex}
 use Rattle.rules.specs.declared.Escape.{Escape}
 use Rattle.rules.specs.declared.Escape.the-variants.{Taken, Nothing}
 use Rattle.escapes.specs.Hex.{hexBetween}
@@ -34,6 +34,12 @@ quotesOf Both = 0x27 ∷ 0x22 ∷ []
 -- The bytes that are written with a backslash before them.
 abbrev pub slashedBytes : Quotes → List ℕ
 slashedBytes q = 0x5C ∷ quotesOf q
+
+-- The quote that it does not escape, 0 where it escapes both.
+abbrev pub plainQuote : Quotes → ℕ
+plainQuote Single = 0x22
+plainQuote Double = 0x27
+plainQuote Both = 0
 
 -- The byte after a backslash at the head of s, 0 where there is none.
 abbrev pub afterSlash : List ℕ → ℕ
@@ -62,11 +68,25 @@ abbrev pub separators : Bool → List Row
 separators true = []
 separators false = lineSeparator ∷ paragraphSeparator ∷ []
 
--- The number of the character that an escape of n bytes at the head of s stands for. `\u2028` and `\u2029` differ in their last byte.
-abbrev pub escapeChar : Bool → ℕ → List ℕ → ℕ
-escapeChar style n s = cond (eqb n 2) (afterSlash s) (cond (eqb n 6) (cond (eqb (getD s 5 0) 0x38) 0x2028 0x2029) (hexEscape style s))
+-- The row of a byte that is written in hex.
+abbrev pub hexRow : Bool → ℕ → Row
+hexRow true b = styleHex b
+hexRow false b = scriptHex b
 
--- The escape of n bytes at the head of s, or nothing where n is 0.
-abbrev pub escapeOf : Bool → ℕ → List ℕ → Escape
-escapeOf style zero s = Nothing
-escapeOf style (suc n) s = Taken (suc n) (escapeChar style (suc n) s)
+-- The bytes that are.
+abbrev pub hexedBytes : Bool → List ℕ
+hexedBytes true = count 1 31 ++ 0x3C ∷ []
+hexedBytes false = count 0 32 ++ 0x3C ∷ []
+
+-- Their rows.
+abbrev pub hexRows : Bool → List Row
+hexRows style = map (hexRow style) (hexedBytes style)
+
+-- The rows of the string but those with a backslash before the byte.
+abbrev pub unslashedRows : Bool → List Row
+unslashedRows style = hexRows style ++ separators style
+
+-- The escape that a number tells: how many bytes it has, times 65536, and the number of its character; nothing where it is 0.
+abbrev pub escapeOf : ℕ → Escape
+escapeOf zero = Nothing
+escapeOf (suc n) = Taken (suc n / 65536) (suc n % 65536)

@@ -6,42 +6,47 @@ ghost use lib.ListN.{length};
 ghost use Rattle.rules.specs.Bytes.{over};
 ghost use Rattle.rules.specs.Moves.{through, replaced, before};
 ghost use Rattle.rules.specs.Answers.{escapeMove};
-ghost use Rattle.rules.specs.Escapes.{afterLess};
+ghost use Rattle.rules.specs.Escapes.{afterLess, escapeBy};
 ghost use Rattle.rules.specs.Operations.{decodeStep, decodeOf};
 ghost use Rattle.escapes.specs.Finds.{Within};
-ghost use Rattle.escapes.specs.Strings.{stringOf, nameOf, escapeOf};
+ghost use Rattle.escapes.specs.Strings.{stringOf, nameOf, unslashedRows, escapeOf};
 use rules::Escape;
 use rules::Quotes;
 
 pub mod digits;
 pub mod rows;
 
-// How many bytes one of the two escapes of older pages has, where the byte before in the input is `<`, or 0: `\!--` yields `!` for the `\!`, and
-// `\/` yields `/` before the element's name and a terminator.
-fn after_less(style: bool, before: u8, rest: &[u8]) -> usize
-    ensures { λ r. ⌜ (escapeMove (now (rest .entry)) (escapeOf style r (now (rest .entry))) ≡ afterLess (nameOf style) before (now (rest .entry))) × Within (escapeOf style r (now (rest .entry))) (now (rest .entry)) ⌝ }
+// One of the two escapes of older pages, where the byte before in the input is `<`, as a number that tells an escape, or 0: `\!--` yields `!` for
+// the `\!`, and `\/` yields `/` before the element's name and a terminator.
+fn after_less(style: bool, before: u8, rest: &[u8]) -> u32
+    ensures { λ r. ⌜ (escapeMove (now (rest .entry)) (escapeOf r) ≡ afterLess (nameOf style) before (now (rest .entry))) × Within (escapeOf r) (now (rest .entry)) ⌝ }
 {
     if before != b'<' {
         return 0;
     }
     if heads::starts(b"\\!--", rest) {
-        return 2;
+        return 0x20021;
     }
     if digits::closes_element(style, rest) {
-        return 2;
+        return 0x2002F;
     }
     0
 }
 
-// How many bytes the escape at the backslash that `rest` begins with has, or 0: first match counts. `before` is the byte before it in the input.
-fn escape_length(style: bool, quotes: Quotes, before: u8, rest: &[u8]) -> usize
-    ensures { λ r. ⌜ (escapeMove (now (rest .entry)) (escapeOf style r (now (rest .entry))) ≡ decodeStep (stringOf style quotes) before (now (rest .entry))) × Within (escapeOf style r (now (rest .entry))) (now (rest .entry)) ⌝ }
+// The escape at the backslash that `rest` begins with, where no byte follows that is written with a backslash before it, as a number that tells an
+// escape, or 0: first match counts. `before` is the byte before it in the input.
+fn unslashed(style: bool, before: u8, rest: &[u8]) -> u32
+    ensures { λ r. ⌜ (escapeMove (now (rest .entry)) (escapeOf r) ≡ escapeBy (nameOf style) (unslashedRows style) before (now (rest .entry))) × Within (escapeOf r) (now (rest .entry)) ⌝ }
 {
-    let n = rows::row_length(style, quotes, rest);
-    if n == 0 {
-        return after_less(style, before, rest);
+    let hex = rows::hex_row(style, rest);
+    if hex != 0 {
+        return hex;
     }
-    n
+    let separator = rows::separator(style, rest);
+    if separator != 0 {
+        return separator;
+    }
+    after_less(style, before, rest)
 }
 
 // The byte before place `i` of the text, 0 at its start.
@@ -61,7 +66,8 @@ pub struct Measured {
     pub same: bool,
 }
 
-// Measures what decode makes of a text in a script or style string. What stands between two backslashes counts as it is.
+// Measures what decode makes of a text in a script or style string. What stands between two backslashes counts as it is. A backslash and a byte
+// are looked for before any other escape: that takes two bytes and no call.
 pub fn measure(style: bool, quotes: Quotes, text: &[u8]) -> Measured
     requires { ⌜ length (now text) ≤ 65536 ⌝ }
     ensures { λ r. ⌜ (r .length ≡ length (decodeOf (stringOf style quotes) (now (text .entry)))) × (r .same ≡ eqb (replaced (through (decodeStep (stringOf style quotes)) (now (text .entry)))) 0) ⌝ }
@@ -76,8 +82,15 @@ pub fn measure(style: bool, quotes: Quotes, text: &[u8]) -> Measured
             i = e;
             continue;
         }
-        let size = escape_length(style, quotes, byte_before(text, i), &text[i..]);
-        let Escape::Taken(n, c) = rows::escape_of(style, size, &text[i..]) else {
+        let b = rows::after_slash(&text[i..]);
+        if rows::is_slashed(quotes, b) {
+            length += 1;
+            escapes += 1;
+            i += 2;
+            continue;
+        }
+        let code = unslashed(style, byte_before(text, i), &text[i..]);
+        let Escape::Taken(n, c) = rows::escape_of(code) else {
             length += 1;
             i += 1;
             continue;
@@ -107,8 +120,15 @@ pub fn write(style: bool, quotes: Quotes, text: &[u8], output: &mut [u8]) -> Mea
             i = e;
             continue;
         }
-        let size = escape_length(style, quotes, byte_before(text, i), &text[i..]);
-        let Escape::Taken(n, c) = rows::escape_of(style, size, &text[i..]) else {
+        let b = rows::after_slash(&text[i..]);
+        if rows::is_slashed(quotes, b) {
+            at += parts::put(&[b], &mut output[at..]);
+            escapes += 1;
+            i += 2;
+            continue;
+        }
+        let code = unslashed(style, byte_before(text, i), &text[i..]);
+        let Escape::Taken(n, c) = rows::escape_of(code) else {
             let past = i + 1;
             at += parts::put(&text[i..past], &mut output[at..]);
             i = past;

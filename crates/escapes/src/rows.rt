@@ -1,32 +1,48 @@
 // The escapes that a script or style string writes, read from the written side.
-ghost use mathlib.Core.Bool.{false};
 ghost use mathlib.Core.Path.{_≡_};
-ghost use Prim.Native.Nat.{_≤_};
-ghost use lib.ListN.{length};
-ghost use Rattle.rules.specs.Bytes.{oneOf};
+ghost use Rattle.rules.specs.Bytes.{ascii, oneOf};
 ghost use Rattle.rules.specs.Tables.{rows};
 ghost use Rattle.escapes.specs.Finds.{Finds};
-ghost use Rattle.escapes.specs.Strings.{stringOf, slashedBytes, afterSlash, hexEscape, isHexed, separators, escapeChar, escapeOf};
+ghost use Rattle.escapes.specs.Strings.{stringOf, slashedBytes, plainQuote, afterSlash, hexEscape, isHexed, separators, hexRows, escapeOf};
 use crate::digits;
 use rules::Escape;
 use rules::Quotes;
 
-// Whether the string writes the byte with a backslash before it.
-fn is_slashed(quotes: Quotes, b: u8) -> bool
-    ensures { λ r. ⌜ r ≡ oneOf (slashedBytes quotes) b ⌝ }
+// Whether a byte is the backslash or a quote. As a match on constants it is one test of a set, in which no branch has to guess which of them it is.
+fn is_mark(b: u8) -> bool
+    ensures { λ r. ⌜ r ≡ oneOf (ascii "\\'\"") b ⌝ }
 {
-    if b == b'\\' {
-        return true;
-    }
-    match quotes {
-        Quotes::Single => b == b'\'',
-        Quotes::Double => b == b'"',
-        Quotes::Both => if b == b'\'' { true } else { b == b'"' },
+    match b {
+        b'\\' => true,
+        b'\'' => true,
+        b'"' => true,
+        _ => false,
     }
 }
 
+// The quote that the string does not escape, 0 where it escapes both.
+fn plain_quote(quotes: Quotes) -> u8
+    ensures { λ r. ⌜ r ≡ plainQuote quotes ⌝ }
+{
+    match quotes {
+        Quotes::Single => b'"',
+        Quotes::Double => b'\'',
+        Quotes::Both => 0,
+    }
+}
+
+// Whether the string writes the byte with a backslash before it.
+pub fn is_slashed(quotes: Quotes, b: u8) -> bool
+    ensures { λ r. ⌜ r ≡ oneOf (slashedBytes quotes) b ⌝ }
+{
+    if b == plain_quote(quotes) {
+        return false;
+    }
+    is_mark(b)
+}
+
 // The byte after a backslash at the head of `rest`, 0 where there is none.
-fn after_slash(rest: &[u8]) -> u8
+pub fn after_slash(rest: &[u8]) -> u8
     ensures { λ r. ⌜ r ≡ afterSlash (now (rest .entry)) ⌝ }
 {
     if rest.len() < 2 {
@@ -76,71 +92,58 @@ fn is_hexed(style: bool, v: u32) -> bool
     true
 }
 
-// How many bytes U+2028 or U+2029, as a script string writes it, has at the head of `rest`; 0 where neither stands there.
-fn separator_length(rest: &[u8]) -> usize
-    ensures { λ r. ⌜ Finds (separators false) (now (rest .entry)) (escapeOf false r (now (rest .entry))) ⌝ }
+// The hex escape at the head of `rest`, if the string writes its byte so, as a number that tells an escape (`escape_of`); 0 where there is none.
+// Numbers pass from function to function in place of answers, which would go through memory in each turn of a loop.
+pub fn hex_row(style: bool, rest: &[u8]) -> u32
+    ensures { λ r. ⌜ Finds (hexRows style) (now (rest .entry)) (escapeOf r) ⌝ }
 {
-    if heads::starts(b"\\u2028", rest) {
-        return 6;
-    }
-    if heads::starts(b"\\u2029", rest) {
-        return 6;
+    let v = hex_escape(style, rest);
+    if is_hexed(style, v) {
+        return 0x40000 + v;
     }
     0
 }
 
-// How many bytes the row of the string's table has whose value stands at the head of `rest`; 0 where none does. Lengths pass from function to
-// function in place of answers, which would go through memory in each turn of a loop.
-pub fn row_length(style: bool, quotes: Quotes, rest: &[u8]) -> usize
-    ensures { λ r. ⌜ Finds (rows (stringOf style quotes)) (now (rest .entry)) (escapeOf style r (now (rest .entry))) ⌝ }
+// U+2028 or U+2029, as a script string writes it, at the head of `rest`, as a number that tells an escape; 0 where neither stands there.
+pub fn separator(style: bool, rest: &[u8]) -> u32
+    ensures { λ r. ⌜ Finds (separators style) (now (rest .entry)) (escapeOf r) ⌝ }
 {
-    let b = after_slash(rest);
-    if is_slashed(quotes, b) {
-        return 2;
-    }
-    if is_hexed(style, hex_escape(style, rest)) {
-        return 4;
-    }
     if style {
         return 0;
     }
-    if b != b'u' {
+    if after_slash(rest) != b'u' {
         return 0;
     }
-    separator_length(rest)
+    if heads::starts(b"\\u2028", rest) {
+        return 0x62028;
+    }
+    if heads::starts(b"\\u2029", rest) {
+        return 0x62029;
+    }
+    0
 }
 
-// The number of the character that the escape of `n` bytes at the head of `rest` stands for.
-fn escape_char(style: bool, n: usize, rest: &[u8]) -> u32
-    requires { ⌜ n ≤ length (now rest) ⌝ }
-    ensures { λ r. ⌜ r ≡ escapeChar style n (now (rest .entry)) ⌝ }
+// The escape that a number tells: its upper half is how many bytes it has, its lower half the number of its character; 0 tells of nothing.
+pub fn escape_of(code: u32) -> Escape
+    ensures { λ r. ⌜ r ≡ escapeOf code ⌝ }
 {
-    if n == 2 {
-        return after_slash(rest) as u32;
-    }
-    if n == 6 {
-        if rest[5] == b'8' {
-            return 0x2028;
-        }
-        return 0x2029;
-    }
-    hex_escape(style, rest)
-}
-
-// The escape of `n` bytes at the head of `rest`, or nothing where `n` is 0.
-pub fn escape_of(style: bool, n: usize, rest: &[u8]) -> Escape
-    requires { ⌜ n ≤ length (now rest) ⌝ }
-    ensures { λ r. ⌜ r ≡ escapeOf style n (now (rest .entry)) ⌝ }
-{
-    if n == 0 {
+    if code == 0 {
         return Escape::Nothing;
     }
-    Escape::Taken(n, escape_char(style, n, rest))
+    Escape::Taken((code / 65536) as usize, code % 65536)
 }
 
 // The row of the string's table whose value stands at the head of `rest`.
 pub fn row_at(style: bool, quotes: Quotes, rest: &[u8]) -> Escape
     ensures { λ r. ⌜ Finds (rows (stringOf style quotes)) (now (rest .entry)) r ⌝ }
 {
-    escape_of(style, row_length(style, quotes, rest), rest)
+    let b = after_slash(rest);
+    if is_slashed(quotes, b) {
+        return Escape::Taken(2, b as u32);
+    }
+    let hex = hex_row(style, rest);
+    if hex != 0 {
+        return escape_of(hex);
+    }
+    escape_of(separator(style, rest))
 }

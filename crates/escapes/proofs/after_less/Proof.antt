@@ -7,7 +7,6 @@ use borrow.Author.Needs.{needs}
 use Rattle.rules.specs.Bytes.{ascii}
 use Rattle.escapes.specs.Strings.{nameOf}
 use Rattle.escapes.proofs.Standing.{stands-within, stands-take, closes-slash}
-use Rattle.escapes.proofs.Strings.{slash-taken}
 use Rattle.escapes.proofs.after_less.Statement.{statement}
 use Rattle.escapes.proofs.after_less.Tie as tie
 
@@ -25,8 +24,7 @@ returns-2 c =
     let s = c .before .before .before .before .before .args .rest .now in
     let h = sym (c .before .starts .ensures) ∙ c .if2 .taken in
     let two = stands-take (ascii "\\!--") s 2 (omega arith) h in
-    let b = slash-taken s 33 two in
-    (rw (c .before .before .before .if1 .left, h, two, b), rw b (omega arith, omega (arith, stands-within (ascii "\\!--") s h), omega arith, omega arith))
+    (rw (c .before .before .before .if1 .left, h, two), (omega arith, omega (arith, stands-within (ascii "\\!--") s h), omega arith, omega arith))
 
 closes-element-requires : tie.Need-closes-element-requires
 closes-element-requires c κs = search needs
@@ -36,8 +34,7 @@ returns-3 c =
     let s = c .before .before .before .before .before .before .before .args .rest .now in
     let h = sym (c .before .closes-element .ensures) ∙ c .if3 .taken in
     let two = closes-slash (nameOf (c .before .before .before .before .before .before .before .args .style)) s h in
-    let b = slash-taken s 47 (two .0) in
-    (rw (c .before .before .before .before .before .if1 .left, ← c .before .before .before .starts .ensures, c .before .before .if2 .left, h, two .0, b), rw b (omega arith, two .1, omega arith, omega arith))
+    (rw (c .before .before .before .before .before .if1 .left, ← c .before .before .before .starts .ensures, c .before .before .if2 .left, h, two .0), (omega arith, two .1, omega arith, omega arith))
 
 returns-4 : tie.Need-returns-4
 returns-4 c = (rw (c .before .before .before .before .before .if1 .left, ← c .before .before .before .starts .ensures, c .before .before .if2 .left, ← c .before .closes-element .ensures, c .if3 .left), tt)

@@ -1,5 +1,6 @@
 -- `measure` meets its contract: what is counted so far, with the length of what the rest gives, is the length of the whole, and so for the replaced places. The measure is what is left of the text.
 -- Assumes nothing.
+use mathlib.Core.List.{[], _∷_}
 use mathlib.Core.Path.{sym, ap, _∙_}
 use Prim.Native.Nat.{ℕ, _-_}
 use native.Mathlib.Omega.{arith}
@@ -13,7 +14,7 @@ use Rattle.rules.specs.Utf8.{utf8}
 use Rattle.seek.proofs.Laws.{nearest-past}
 use Rattle.parts.proofs.Counted.{Counted, counted-start, counted-quiet, counted-keep, counted-swap, counted-end}
 use Rattle.escapes.specs.Strings.{stringOf}
-use Rattle.escapes.proofs.Strings.{string-quiet, told-here, within-rest, within-most}
+use Rattle.escapes.proofs.Strings.{string-quiet, slashed-here, told-here, within-rest}
 use Rattle.escapes.proofs.measure.Statement.{statement}
 use Rattle.escapes.proofs.measure.Tie as tie
 
@@ -57,32 +58,68 @@ loop-again c =
     let quiet = string-quiet (a .style) (a .quotes) t (l .i) e near in
     counted-quiet (l .inv) e (near .after) (near .within) quiet
 
+sub-after-slash : tie.Need-sub-after-slash Inv-loop μ-loop
+sub-after-slash c = search needs
+
+part-after-slash-start : tie.Need-part-after-slash-start Inv-loop μ-loop
+part-after-slash-start c = search needs
+
+part-after-slash-end : tie.Need-part-after-slash-end Inv-loop μ-loop
+part-after-slash-end c = search needs
+
+after-slash-requires : tie.Need-after-slash-requires Inv-loop μ-loop
+after-slash-requires c κs = search needs
+
+is-slashed-requires : tie.Need-is-slashed-requires Inv-loop μ-loop
+is-slashed-requires c κs = search needs
+
+add-length-2 : tie.Need-add-length-2 Inv-loop μ-loop
+add-length-2 c = search needs
+
+add-escapes : tie.Need-add-escapes Inv-loop μ-loop
+add-escapes c = search needs
+
+add-i : tie.Need-add-i Inv-loop μ-loop
+add-i c =
+    let a = c .before .before .before .before .before .before .before .before .before .args in
+    let t = a .text .now in
+    let l = c .before .before .before .before .before .before .before .loop in
+    let two = slashed-here (a .style) (a .quotes) t (l .i) (c .before .before .after-slash .result) (c .before .before .after-slash .ensures) (sym (c .before .is-slashed .ensures) ∙ c .if2 .taken) in
+    omega (arith, two .1)
+
+loop-less-2 : tie.Need-loop-less-2 Inv-loop μ-loop
+loop-less-2 c =
+    let a = c .before .before .before .before .before .before .before .before .before .args in
+    let t = a .text .now in
+    let l = c .before .before .before .before .before .before .before .loop in
+    let two = slashed-here (a .style) (a .quotes) t (l .i) (c .before .before .after-slash .result) (c .before .before .after-slash .ensures) (sym (c .before .is-slashed .ensures) ∙ c .if2 .taken) in
+    omega (arith, two .1)
+
+loop-again-2 : tie.Need-loop-again-2 Inv-loop μ-loop
+loop-again-2 c =
+    let a = c .before .before .before .before .before .before .before .before .before .args in
+    let t = a .text .now in
+    let l = c .before .before .before .before .before .before .before .loop in
+    let two = slashed-here (a .style) (a .quotes) t (l .i) (c .before .before .after-slash .result) (c .before .before .after-slash .ensures) (sym (c .before .is-slashed .ensures) ∙ c .if2 .taken) in
+    counted-swap (l .inv) 2 (c .before .before .after-slash .result ∷ []) (omega arith) (two .1) (omega arith) (two .0)
+
 byte-before-requires : tie.Need-byte-before-requires Inv-loop μ-loop
 byte-before-requires c κs = search needs
 
-sub-escape-length : tie.Need-sub-escape-length Inv-loop μ-loop
-sub-escape-length c = search needs
+sub-unslashed : tie.Need-sub-unslashed Inv-loop μ-loop
+sub-unslashed c = search needs
 
-part-escape-length-start : tie.Need-part-escape-length-start Inv-loop μ-loop
-part-escape-length-start c = search needs
+part-unslashed-start : tie.Need-part-unslashed-start Inv-loop μ-loop
+part-unslashed-start c = search needs
 
-part-escape-length-end : tie.Need-part-escape-length-end Inv-loop μ-loop
-part-escape-length-end c = search needs
+part-unslashed-end : tie.Need-part-unslashed-end Inv-loop μ-loop
+part-unslashed-end c = search needs
 
-escape-length-requires : tie.Need-escape-length-requires Inv-loop μ-loop
-escape-length-requires c κs = search needs
-
-sub-escape-of : tie.Need-sub-escape-of Inv-loop μ-loop
-sub-escape-of c = search needs
-
-part-escape-of-start : tie.Need-part-escape-of-start Inv-loop μ-loop
-part-escape-of-start c = search needs
-
-part-escape-of-end : tie.Need-part-escape-of-end Inv-loop μ-loop
-part-escape-of-end c = search needs
+unslashed-requires : tie.Need-unslashed-requires Inv-loop μ-loop
+unslashed-requires c κs = search needs
 
 escape-of-requires : tie.Need-escape-of-requires Inv-loop μ-loop
-escape-of-requires c κs = within-most (c .before .before .before .before .before .before .before .before .before .args .style) (c .before .escape-length .result) _ (c .before .escape-length .ensures .1)
+escape-of-requires c κs = search needs
 
 enum-known-n : tie.Need-enum-known-n Inv-loop μ-loop
 enum-known-n c = search needs
@@ -90,70 +127,70 @@ enum-known-n c = search needs
 enum-told : tie.Need-enum-told Inv-loop μ-loop
 enum-told c = search needs
 
-add-length-2 : tie.Need-add-length-2 Inv-loop μ-loop
-add-length-2 c = search needs
+add-length-3 : tie.Need-add-length-3 Inv-loop μ-loop
+add-length-3 c = search needs
 
-add-i : tie.Need-add-i Inv-loop μ-loop
-add-i c = search needs
+add-i-2 : tie.Need-add-i-2 Inv-loop μ-loop
+add-i-2 c = search needs
 
-loop-less-2 : tie.Need-loop-less-2 Inv-loop μ-loop
-loop-less-2 c = search needs
+loop-less-3 : tie.Need-loop-less-3 Inv-loop μ-loop
+loop-less-3 c = search needs
 
-loop-again-2 : tie.Need-loop-again-2 Inv-loop μ-loop
-loop-again-2 c =
-    let a = c .before .before .before .before .before .before .before .before .before .before .before .before .args in
+loop-again-3 : tie.Need-loop-again-3 Inv-loop μ-loop
+loop-again-3 c =
+    let a = c .before .before .before .before .before .before .before .before .before .before .before .before .before .before .before .args in
     let t = a .text .now in
-    let l = c .before .before .before .before .before .before .before .before .before .before .loop in
-    let told = told-here (a .style) (a .quotes) t (l .i) (c .before .before .before .before .before .before .byte-before .result) (c .before .before .before .before .escape-length .result) Nothing (c .before .before .before .before .before .before .byte-before .ensures) (sym (c .enum-told .given .1) ∙ c .before .before .escape-of .ensures) (c .before .before .before .before .escape-length .ensures) in
+    let l = c .before .before .before .before .before .before .before .before .before .before .before .before .before .loop in
+    let told = told-here (a .style) (a .quotes) t (l .i) (c .before .before .before .before .before .before .before .before .after-slash .result) (c .before .before .before .before .before .byte-before .result) (Nothing) _ (c .before .before .before .before .before .before .before .before .after-slash .ensures) (sym (c .before .before .before .before .before .before .before .is-slashed .ensures) ∙ c .before .before .before .before .before .before .if2 .left) (c .before .before .before .before .before .byte-before .ensures) (sym (c .enum-told .given .1) ∙ c .before .before .escape-of .ensures) (c .before .before .before .unslashed .ensures) in
     counted-keep (l .inv) (search needs) (told .0)
 
 char-length-requires : tie.Need-char-length-requires Inv-loop μ-loop
 char-length-requires c κs = search needs
 
-add-length-3 : tie.Need-add-length-3 Inv-loop μ-loop
-add-length-3 c =
-    let a = c .before .before .before .before .before .before .before .before .before .before .before .before .before .before .args in
+add-length-4 : tie.Need-add-length-4 Inv-loop μ-loop
+add-length-4 c =
+    let a = c .before .before .before .before .before .before .before .before .before .before .before .before .before .before .before .before .before .args in
     let t = a .text .now in
-    let l = c .before .before .before .before .before .before .before .before .before .before .before .before .loop in
+    let l = c .before .before .before .before .before .before .before .before .before .before .before .before .before .before .before .loop in
     let n = c .before .before .n .given .0 .0 in
     let b = c .before .before .n .given .0 .1 .0 in
-    let told = told-here (a .style) (a .quotes) t (l .i) (c .before .before .before .before .before .before .before .before .byte-before .result) (c .before .before .before .before .before .before .escape-length .result) (Taken n b) (c .before .before .before .before .before .before .before .before .byte-before .ensures) (sym (c .before .before .n .given .1) ∙ c .before .before .before .before .escape-of .ensures) (c .before .before .before .before .before .before .escape-length .ensures) in
+    let told = told-here (a .style) (a .quotes) t (l .i) (c .before .before .before .before .before .before .before .before .before .before .after-slash .result) (c .before .before .before .before .before .before .before .byte-before .result) (Taken n b) _ (c .before .before .before .before .before .before .before .before .before .before .after-slash .ensures) (sym (c .before .before .before .before .before .before .before .before .before .is-slashed .ensures) ∙ c .before .before .before .before .before .before .before .before .if2 .left) (c .before .before .before .before .before .before .before .byte-before .ensures) (sym (c .before .before .n .given .1) ∙ c .before .before .before .before .escape-of .ensures) (c .before .before .before .before .before .unslashed .ensures) in
     let w = within-rest t (l .i) n b (told .1) in
     omega (arith, w .1, w .2, c .char-length .ensures .0)
 
-add-escapes : tie.Need-add-escapes Inv-loop μ-loop
-add-escapes c = search needs
+add-escapes-2 : tie.Need-add-escapes-2 Inv-loop μ-loop
+add-escapes-2 c = search needs
 
-add-i-2 : tie.Need-add-i-2 Inv-loop μ-loop
-add-i-2 c =
-    let a = c .before .before .before .before .before .before .before .before .before .before .before .before .before .before .args in
+add-i-3 : tie.Need-add-i-3 Inv-loop μ-loop
+add-i-3 c =
+    let a = c .before .before .before .before .before .before .before .before .before .before .before .before .before .before .before .before .before .args in
     let t = a .text .now in
-    let l = c .before .before .before .before .before .before .before .before .before .before .before .before .loop in
+    let l = c .before .before .before .before .before .before .before .before .before .before .before .before .before .before .before .loop in
     let n = c .before .before .n .given .0 .0 in
     let b = c .before .before .n .given .0 .1 .0 in
-    let told = told-here (a .style) (a .quotes) t (l .i) (c .before .before .before .before .before .before .before .before .byte-before .result) (c .before .before .before .before .before .before .escape-length .result) (Taken n b) (c .before .before .before .before .before .before .before .before .byte-before .ensures) (sym (c .before .before .n .given .1) ∙ c .before .before .before .before .escape-of .ensures) (c .before .before .before .before .before .before .escape-length .ensures) in
+    let told = told-here (a .style) (a .quotes) t (l .i) (c .before .before .before .before .before .before .before .before .before .before .after-slash .result) (c .before .before .before .before .before .before .before .byte-before .result) (Taken n b) _ (c .before .before .before .before .before .before .before .before .before .before .after-slash .ensures) (sym (c .before .before .before .before .before .before .before .before .before .is-slashed .ensures) ∙ c .before .before .before .before .before .before .before .before .if2 .left) (c .before .before .before .before .before .before .before .byte-before .ensures) (sym (c .before .before .n .given .1) ∙ c .before .before .before .before .escape-of .ensures) (c .before .before .before .before .before .unslashed .ensures) in
     let w = within-rest t (l .i) n b (told .1) in
     omega (arith, w .1)
 
-loop-less-3 : tie.Need-loop-less-3 Inv-loop μ-loop
-loop-less-3 c =
-    let a = c .before .before .before .before .before .before .before .before .before .before .before .before .before .before .args in
+loop-less-4 : tie.Need-loop-less-4 Inv-loop μ-loop
+loop-less-4 c =
+    let a = c .before .before .before .before .before .before .before .before .before .before .before .before .before .before .before .before .before .args in
     let t = a .text .now in
-    let l = c .before .before .before .before .before .before .before .before .before .before .before .before .loop in
+    let l = c .before .before .before .before .before .before .before .before .before .before .before .before .before .before .before .loop in
     let n = c .before .before .n .given .0 .0 in
     let b = c .before .before .n .given .0 .1 .0 in
-    let told = told-here (a .style) (a .quotes) t (l .i) (c .before .before .before .before .before .before .before .before .byte-before .result) (c .before .before .before .before .before .before .escape-length .result) (Taken n b) (c .before .before .before .before .before .before .before .before .byte-before .ensures) (sym (c .before .before .n .given .1) ∙ c .before .before .before .before .escape-of .ensures) (c .before .before .before .before .before .before .escape-length .ensures) in
+    let told = told-here (a .style) (a .quotes) t (l .i) (c .before .before .before .before .before .before .before .before .before .before .after-slash .result) (c .before .before .before .before .before .before .before .byte-before .result) (Taken n b) _ (c .before .before .before .before .before .before .before .before .before .before .after-slash .ensures) (sym (c .before .before .before .before .before .before .before .before .before .is-slashed .ensures) ∙ c .before .before .before .before .before .before .before .before .if2 .left) (c .before .before .before .before .before .before .before .byte-before .ensures) (sym (c .before .before .n .given .1) ∙ c .before .before .before .before .escape-of .ensures) (c .before .before .before .before .before .unslashed .ensures) in
     let w = within-rest t (l .i) n b (told .1) in
     omega (arith, w .0, w .1)
 
-loop-again-3 : tie.Need-loop-again-3 Inv-loop μ-loop
-loop-again-3 c =
-    let a = c .before .before .before .before .before .before .before .before .before .before .before .before .before .before .args in
+loop-again-4 : tie.Need-loop-again-4 Inv-loop μ-loop
+loop-again-4 c =
+    let a = c .before .before .before .before .before .before .before .before .before .before .before .before .before .before .before .before .before .args in
     let t = a .text .now in
-    let l = c .before .before .before .before .before .before .before .before .before .before .before .before .loop in
+    let l = c .before .before .before .before .before .before .before .before .before .before .before .before .before .before .before .loop in
     let n = c .before .before .n .given .0 .0 in
     let b = c .before .before .n .given .0 .1 .0 in
-    let told = told-here (a .style) (a .quotes) t (l .i) (c .before .before .before .before .before .before .before .before .byte-before .result) (c .before .before .before .before .before .before .escape-length .result) (Taken n b) (c .before .before .before .before .before .before .before .before .byte-before .ensures) (sym (c .before .before .n .given .1) ∙ c .before .before .before .before .escape-of .ensures) (c .before .before .before .before .before .before .escape-length .ensures) in
+    let told = told-here (a .style) (a .quotes) t (l .i) (c .before .before .before .before .before .before .before .before .before .before .after-slash .result) (c .before .before .before .before .before .before .before .byte-before .result) (Taken n b) _ (c .before .before .before .before .before .before .before .before .before .before .after-slash .ensures) (sym (c .before .before .before .before .before .before .before .before .before .is-slashed .ensures) ∙ c .before .before .before .before .before .before .before .before .if2 .left) (c .before .before .before .before .before .before .before .byte-before .ensures) (sym (c .before .before .n .given .1) ∙ c .before .before .before .before .escape-of .ensures) (c .before .before .before .before .before .unslashed .ensures) in
     let w = within-rest t (l .i) n b (told .1) in
     rw (c .char-length .ensures .0) (counted-swap (l .inv) n (utf8 b) (w .0) (w .1) (w .2) (told .0))
 
@@ -178,25 +215,32 @@ measure-spec =
     add-length
     loop-less
     loop-again
-    byte-before-requires
-    sub-escape-length
-    part-escape-length-start
-    part-escape-length-end
-    escape-length-requires
-    sub-escape-of
-    part-escape-of-start
-    part-escape-of-end
-    escape-of-requires
-    enum-known-n
-    enum-told
+    sub-after-slash
+    part-after-slash-start
+    part-after-slash-end
+    after-slash-requires
+    is-slashed-requires
     add-length-2
+    add-escapes
     add-i
     loop-less-2
     loop-again-2
-    char-length-requires
+    byte-before-requires
+    sub-unslashed
+    part-unslashed-start
+    part-unslashed-end
+    unslashed-requires
+    escape-of-requires
+    enum-known-n
+    enum-told
     add-length-3
-    add-escapes
     add-i-2
     loop-less-3
     loop-again-3
+    char-length-requires
+    add-length-4
+    add-escapes-2
+    add-i-3
+    loop-less-4
+    loop-again-4
     returns)

@@ -1,36 +1,24 @@
--- `is_slashed` meets its contract, by the quotes that the string escapes.
+-- `is_slashed` meets its contract: the plain quote is no such byte, and every other one is where it is a quote or the backslash.
 -- Assumes nothing.
-use mathlib.Core.Bool.{or-false}
-use borrow.Author.Tests.{ne-eqb}
+use mathlib.Core.Path.{sym, _∙_}
+use borrow.Author.Tests.{eq-eqb, ne-eqb}
+use Rattle.escapes.specs.Strings.{plainQuote}
+use Rattle.escapes.proofs.Strings.{slashed-but}
 use borrow.Author.Needs.{needs}
-use Rattle.escapes.proofs.rows.is_slashed.Tie as tie
 use Rattle.escapes.proofs.rows.is_slashed.Statement.{statement}
+use Rattle.escapes.proofs.rows.is_slashed.Tie as tie
+
+plain-quote-requires : tie.Need-plain-quote-requires
+plain-quote-requires c κs = search needs
 
 returns : tie.Need-returns
-returns c = rw (c .if1 .taken)
+returns c = sym (slashed-but (c .before .before .args .quotes) (c .before .before .args .b) ∙ rw (eq-eqb (c .before .before .args .b) (plainQuote (c .before .before .args .quotes)) (c .if1 .taken ∙ c .before .plain-quote .ensures)))
 
-enum-told : tie.Need-enum-told
-enum-told c = search needs
-
-enum-told-2 : tie.Need-enum-told-2
-enum-told-2 c = search needs
-
-enum-told-3 : tie.Need-enum-told-3
-enum-told-3 c = search needs
+is-mark-requires : tie.Need-is-mark-requires
+is-mark-requires c κs = search needs
 
 returns-2 : tie.Need-returns-2
-returns-2 c = rw (c .enum-told .given .1, ne-eqb _ 92 (c .before .before .if1 .left), or-false)
-
-returns-3 : tie.Need-returns-3
-returns-3 c = rw (c .enum-told2 .given .1, ne-eqb _ 92 (c .before .before .if1 .left), or-false)
-
-returns-4 : tie.Need-returns-4
-returns-4 c = rw (c .before .enum-told3 .given .1, c .if2 .taken)
-
-returns-5 : tie.Need-returns-5
-returns-5 c = rw (c .before .enum-told3 .given .1, ne-eqb _ 92 (c .before .before .before .if1 .left), ne-eqb _ 39 (c .if2 .left), or-false)
+returns-2 c = c .is-mark .ensures ∙ sym (slashed-but (c .before .before .before .args .quotes) (c .before .before .before .args .b) ∙ rw (ne-eqb (c .before .before .before .args .b) (plainQuote (c .before .before .before .args .quotes)) (λ z. c .before .if1 .left (z ∙ sym (c .before .before .plain-quote .ensures)))))
 
 pub is-slashed-spec : {M : Type 1} → statement M
-is-slashed-spec =
-    tie.close
-    (tie.spec returns enum-told enum-told-2 enum-told-3 returns-2 returns-3 returns-4 returns-5)
+is-slashed-spec = tie.close (tie.spec plain-quote-requires returns is-mark-requires returns-2)
