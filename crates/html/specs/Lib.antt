@@ -2,3 +2,4 @@
 pub mod Written
 pub mod Gains
 pub mod Words
+pub mod Keys

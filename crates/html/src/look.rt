@@ -4,12 +4,14 @@ use super::gains::Gains;
 use super::gains::gain;
 use rules::Html;
 ghost use mathlib.Core.Path.{_≡_};
-ghost use mathlib.Core.Bool.{true};
+ghost use mathlib.Core.Bool.{true, false};
 ghost use Prim.Native.Nat.{_≤_, _<_};
 ghost use lib.ListN.{length};
+ghost use Rattle.parts.specs.First.{Free};
 ghost use Rattle.html.specs.Gains.{gainsOf, Grows, Each, Ascii, Calm};
+ghost use Rattle.html.specs.Keys.{keyOf, keysOf, special, specialAt};
 
-// Two numbers of a part of a text, of its bytes and of their growth: counts, or the greatest.
+// What is counted of a part of a text: its bytes that are not ASCII, and their growth.
 pub struct Pair {
     pub high: u8,
     pub grow: u8,
@@ -63,46 +65,74 @@ pub fn count(h: Html, g: Gains, text: &[u8]) -> Scan
     }
 }
 
-// The greater of two.
-fn greater(a: u8, b: u8) -> u8
-    ensures { λ r. ⌜ (a ≤ r) × (b ≤ r) ⌝ }
-{
-    if a < b { b } else { a }
+// What a calm text has none of, besides `&`, `<` and bytes that are not ASCII: `>`, `"`, `'` and `/`, each where the context replaces it, else `&`. With
+// `few` the last three are not looked for.
+pub struct Keys {
+    pub few: bool,
+    pub gt: u8,
+    pub double: u8,
+    pub single: u8,
+    pub slash: u8,
 }
 
-// The greatest byte of a part, and the greatest growth of one. Unlike a count these fit a byte whatever the length.
-fn peak(h: Html, g: Gains, part: &[u8]) -> Pair
-    requires { ⌜ g ≡ gainsOf h ⌝ }
-    ensures { λ r. ⌜ (r .high < 128 → r .grow ≡ 0 → Each (Calm h) (now (part .entry))) ⌝ }
+// The byte where it grows, else `&`.
+fn key(gain: u8, b: u8) -> u8
+    ensures { λ r. ⌜ r ≡ keyOf gain b ⌝ }
 {
-    let mut most: u8 = 0;
-    let mut n: u8 = 0;
+    if gain == 0 { b'&' } else { b }
+}
+
+// The keys of a context, from what is known of it.
+fn keys_of(g: Gains) -> Keys
+    ensures { λ r. ⌜ r ≡ keysOf g ⌝ }
+{
+    Keys {
+        few: g.few,
+        gt: key(g.gt, b'>'),
+        double: key(g.double, b'"'),
+        single: key(g.single, b'\''),
+        slash: key(g.slash, b'/'),
+    }
+}
+
+// Whether a byte is one that a calm text has none of. It has no branch but one that is the same for every byte.
+fn is_special(k: Keys, b: u8) -> bool
+    ensures { λ r. ⌜ r ≡ special k b ⌝ }
+{
+    let most = (127 < b) | (b == b'&') | (b == b'<') | (b == k.gt);
+    if k.few {
+        return most;
+    }
+    most | (b == k.double) | (b == k.single) | (b == k.slash)
+}
+
+// Whether a part has such a byte: false only where it has none. The loop has no way out but its end, so that it is made vector code.
+fn has_special(k: Keys, part: &[u8]) -> bool
+    ensures { λ r. ⌜ (r ≡ false → Free (specialAt k (now (part .entry))) 0 (length (now (part .entry)))) ⌝ }
+{
+    let mut hit = false;
     let mut i: usize = 0;
     while i < part.len() {
-        let b = part[i];
-        most = greater(most, b);
-        n = greater(n, gain(h, g, b));
+        hit = hit | is_special(k, part[i]);
         i += 1;
     }
-    Pair {
-        high: most,
-        grow: n,
-    }
+    hit
 }
 
-// Whether every byte of a text is ASCII and written as itself.
+// Whether every byte of a text is ASCII and written as itself: true only where it is so. In an unquoted attribute it does not look: there such a
+// text is plain, which the frame has found before.
 pub fn is_calm(h: Html, g: Gains, text: &[u8]) -> bool
     requires { ⌜ g ≡ gainsOf h ⌝ }
     ensures { λ r. ⌜ (r ≡ true → Each (Calm h) (now (text .entry))) ⌝ }
 {
+    if g.unquoted {
+        return false;
+    }
+    let k = keys_of(g);
     let mut i: usize = 0;
     while i < text.len() {
         let end = parts::clip(i, text.len(), 1024);
-        let found = peak(h, g, &text[i..end]);
-        if 127 < found.high {
-            return false;
-        }
-        if 0 < found.grow {
+        if has_special(k, &text[i..end]) {
             return false;
         }
         i = end;
