@@ -4,7 +4,7 @@ use mathlib.Core.Bool.{Bool, true, false, not, _&&_, _||_, cond}
 use mathlib.Core.Logic.{_⊎_, inl, inr, ⊎-elim}
 use mathlib.Core.Path.{_≡_, refl, sym, ap, _∙_, subst}
 use mathlib.Core.List.{List, [], _∷_, _++_, map}
-use Prim.Native.Nat.{ℕ, zero, suc, _+_, _-_, _/_, _%_, _≤_, _<_}
+use Prim.Native.Nat.{ℕ, zero, suc, _+_, _-_, _*_, _/_, _%_, _≤_, _<_}
 use native.Mathlib.Omega.{arith}
 use lib.Dec.{T, eqb, eqb→eq, eqb-refl, ltb, ltb→lt, T-not}
 use lib.ListN.{length, take, drop, getD, length-drop}
@@ -272,12 +272,12 @@ pub escape-some : (n : ℕ) → (n ≡ 0 → ⊥) → escapeOf n ≡ Taken (n / 
 escape-some zero h = absurd (h refl)
 escape-some (suc n) h = refl
 
--- Four bytes of a hex escape.
-pub escape-hexed : (v : ℕ) → v < 256 → escapeOf (0x40000 + v) ≡ Taken 4 v
-escape-hexed v h =
-    let d : (0x40000 + v) / 65536 ≡ 4 = omega arith in
-    let m : (0x40000 + v) % 65536 ≡ v = omega arith in
-    escape-some (0x40000 + v) (λ z. omega arith) ∙ rw (d, m)
+-- It is made of how many bytes there are and of the character.
+pub escape-told : (n v : ℕ) → 1 ≤ n → v < 65536 → escapeOf (n * 65536 + v) ≡ Taken n v
+escape-told n v h l =
+    let d : (n * 65536 + v) / 65536 ≡ n = omega arith in
+    let m : (n * 65536 + v) % 65536 ≡ v = omega arith in
+    escape-some (n * 65536 + v) (λ z. omega arith) ∙ rw (d, m)
 
 -- The byte after a backslash, by the first two bytes.
 pub slash-taken : (s : List ℕ) (b : ℕ) → take 2 s ≡ 0x5C ∷ b ∷ [] → afterSlash s ≡ b

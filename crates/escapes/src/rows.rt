@@ -133,17 +133,17 @@ pub fn escape_of(code: u32) -> Escape
     Escape::Taken((code / 65536) as usize, code % 65536)
 }
 
-// The row of the string's table whose value stands at the head of `rest`.
-pub fn row_at(style: bool, quotes: Quotes, rest: &[u8]) -> Escape
-    ensures { λ r. ⌜ Finds (rows (stringOf style quotes)) (now (rest .entry)) r ⌝ }
+// The row of the string's table whose value stands at the head of `rest`, as a number that tells an escape; 0 where none does.
+pub fn row_at(style: bool, quotes: Quotes, rest: &[u8]) -> u32
+    ensures { λ r. ⌜ Finds (rows (stringOf style quotes)) (now (rest .entry)) (escapeOf r) ⌝ }
 {
     let b = after_slash(rest);
     if is_slashed(quotes, b) {
-        return Escape::Taken(2, b as u32);
+        return 0x20000 + (b as u32);
     }
     let hex = hex_row(style, rest);
     if hex != 0 {
-        return escape_of(hex);
+        return hex;
     }
-    escape_of(separator(style, rest))
+    separator(style, rest)
 }

@@ -5,9 +5,10 @@ use mathlib.Core.Bool.{Bool, true, false, not, _&&_, _||_, and-true, and-false, 
 use mathlib.Core.Option.{none}
 use mathlib.Core.Path.{_≡_, refl, sym, ap, _∙_, subst}
 use mathlib.Core.List.{List, [], _∷_, _++_, append-assoc}
-use Prim.Native.Nat.{ℕ, _+_, _-_, _<_}
+use Prim.Native.Nat.{ℕ, _+_, _-_, _≤_, _<_}
 use native.Mathlib.Omega.{arith}
 use lib.Dec.{T, eqb, eqb→eq, eqb-refl, T-not}
+use borrow.Author.Tests.{ne-eqb}
 use lib.ListN.{length, take, drop, getD}
 use Rattle.rules.specs.Bytes.{In, all, any, count, stands, sameBytes, oneOf}
 use Rattle.rules.specs.Moves.{keep, swap, stop, before}
@@ -19,7 +20,7 @@ use Rattle.rules.specs.declared.Html.{Html}
 use Rattle.rules.specs.declared.Context.{Context}
 use Rattle.rules.specs.declared.Context.the-variants.{InHtml, InScript, InStyle}
 use Rattle.rules.specs.declared.Escape.the-variants.{Taken, Nothing}
-use Rattle.rules.proofs.Tests.{and-left, and-right, is-false, all-in, any-in, any-intro, first-none, same-bytes, stands-self, stands-split}
+use Rattle.rules.proofs.Tests.{and-left, and-right, is-false, all-in, any-in, any-intro, first-none, same-bytes, same-in, stands-self, stands-split}
 use Rattle.rules.proofs.Tables.{barred}
 use Rattle.rules.proofs.Every.{every}
 use Rattle.rules.proofs.EveryByte.{every-byte}
@@ -28,9 +29,12 @@ use Rattle.rules.proofs.Quiet.{Keeps}
 use Rattle.parts.proofs.Filled.{lent-rest}
 use Rattle.parts.specs.First.{First}
 use Rattle.escapes.specs.Finds.{Finds}
+use Rattle.escapes.specs.Strings.{escapeOf}
+use Rattle.escapes.proofs.Strings.{within-rest}
 use Rattle.heads.proofs.Standing.{agree, agreed}
 use Rattle.reader.specs.Bars.{htmlBars, barsOf, isBar, isWhole, barAt}
-use Rattle.reader.specs.Units.{byteStep}
+use Rattle.reader.specs.Units.{markOf, byteStep}
+use Rattle.reader.proofs.Placed.{finds-none, has, none-there}
 
 -- ---- replaced characters of one byte, and the longer ones
 
@@ -69,6 +73,10 @@ barred-split ((y ∷ []) ∷ ks) x s =
     (λ i. (and-true (eqb y x) ∙ eqb-swap y x) i || barred-split ks x s i) ∙ sym (or-assoc (eqb x y) (oneOf (ones ks) x) (barred (longs ks) (x ∷ s)))
 barred-split ((y ∷ z ∷ k) ∷ ks) x s =
     ap (λ (b : Bool). stands (y ∷ z ∷ k) (x ∷ s) || b) (barred-split ks x s) ∙ between (stands (y ∷ z ∷ k) (x ∷ s)) (oneOf (ones ks) x) (barred (longs ks) (x ∷ s))
+
+T→true : (b : Bool) → T b → b ≡ true
+T→true true t = refl
+T→true false t = absurd t
 
 -- ---- each context
 
@@ -196,12 +204,34 @@ module _ (c : Context) (t : List ℕ) (bytes : (k : ℕ) → getD t k 0 < 256) w
       let d = drop-next t k b in
       rw d (keeps-plain c (before t k) (getD t k 0) (drop (k + 1) t) (rw d at (sym (bar-at k b) ∙ f .none k h l)))
 
--- What the reader of units answers at place e, lent the rest of the text, is the move there: the unit gives way,
-pub unit-here : (c : Context) (t : List ℕ) (e n ch : ℕ) → Finds (rows c) (take (length t - e) (drop e t)) (Taken n ch)
-    → byteStep c (before t e) (drop e t) ≡ swap (take n (drop e t)) (utf8 ch)
-unit-here c t e n ch f = takes-unit c (before t e) (drop e t) n ch (rw lent-rest at f)
+-- ---- the byte that units begin with
 
--- or nothing can be taken.
-pub no-unit-here : (c : Context) (t : List ℕ) (bytes : (k : ℕ) → getD t k 0 < 256) (i e : ℕ) → First (barAt (barsOf c) t) (length t) i e → e < length t
-    → Finds (rows c) (take (length t - e) (drop e t)) Nothing → byteStep c (before t e) (drop e t) ≡ stop
-no-unit-here c t bytes i e g h f = stops-there c (before t e) (drop e t) (sym (bar-at c t bytes e h) ∙ g .here h) (rw lent-rest at f)
+module _ (c : Context) where
+  -- Every value begins with it, and it is a replaced character.
+  marks : T (all (has 0 (λ (b : ℕ). eqb b (markOf c))) (rows c))
+  marks = every (λ (c : Context). all (has 0 (λ (b : ℕ). eqb b (markOf c))) (rows c)) tt c
+
+  mark-barred : (s : List ℕ) → barred (replacedChars c) (markOf c ∷ s) ≡ true
+  mark-barred s = T→true (barred (replacedChars c) (markOf c ∷ s))
+      (any-intro (λ (k : List ℕ). stands k (markOf c ∷ s)) (replacedChars c) (markOf c ∷ []) (same-in (markOf c ∷ []) (replacedChars c) (every (λ (c : Context). any (sameBytes (markOf c ∷ [])) (replacedChars c)) tt c)) (stands-self (markOf c ∷ []) s))
+
+module _ (c : Context) (t : List ℕ) (i : ℕ) (h : i < length t) where
+  -- What the reader of units, lent the rest of the text, tells at place i is the move there: the unit gives way, and stays within the text.
+  pub unit-here : (n ch code : ℕ) → Taken n ch ≡ escapeOf code → Finds (rows c) (take (length t - i) (drop i t)) (escapeOf code)
+      → (byteStep c (before t i) (drop i t) ≡ swap (take n (drop i t)) (utf8 ch)) × ((1 ≤ n) × (i + n ≤ length t) × (length (utf8 ch) ≤ n) × (ch < 0x10000))
+  unit-here n ch code told f =
+      let g : Finds (rows c) (take (length t - i) (drop i t)) (Taken n ch) = rw told f in
+      (takes-unit c (before t i) (drop i t) n ch (rw lent-rest at g), within-rest t i n ch (g .within))
+
+  -- Where none stands at that byte, nothing can be taken,
+  pub no-unit-here : (code : ℕ) → getD t i 0 ≡ markOf c → Nothing ≡ escapeOf code → Finds (rows c) (take (length t - i) (drop i t)) (escapeOf code)
+      → byteStep c (before t i) (drop i t) ≡ stop
+  no-unit-here code m told f =
+      let g : Finds (rows c) (take (length t - i) (drop i t)) Nothing = rw told f in
+      stops-there c (before t i) (drop i t) (rw (drop-next t i h, m) (mark-barred c (drop (i + 1) t))) (rw lent-rest at g)
+
+  -- nor at another replaced character.
+  pub no-mark-here : (bytes : (k : ℕ) → getD t k 0 < 256) → (getD t i 0 ≡ markOf c → ⊥) → First (barAt (barsOf c) t) (length t) i i → byteStep c (before t i) (drop i t) ≡ stop
+  no-mark-here bytes m f =
+      stops-there c (before t i) (drop i t) (sym (bar-at c t bytes i h) ∙ f .here h)
+      (finds-none (none-there 0 (λ (b : ℕ). eqb b (markOf c)) (rows c) (marks c) (drop i t) (rw (drop-next t i h) (ne-eqb (getD t i 0) (markOf c) m))))

@@ -1,4 +1,5 @@
 pub mod Barred
 pub mod Bytewise
 pub mod Narrow
+pub mod Placed
 pub mod Scanning

@@ -6,7 +6,7 @@ use mathlib.Core.Logic.{inl, inr}
 use mathlib.Core.Option.{Option, none, some}
 use mathlib.Core.Path.{_≡_, refl, sym, ap, _∙_, subst}
 use mathlib.Core.List.{List, [], _∷_, map}
-use Prim.Native.Nat.{ℕ, _<_}
+use Prim.Native.Nat.{ℕ, zero, suc, _+_, _/_, _%_, _<_}
 use native.Mathlib.Omega.{arith}
 use lib.Dec.{T, ltb, ltb→lt}
 use lib.ListN.{take}
@@ -24,12 +24,15 @@ use Rattle.rules.proofs.Tables.{unlike}
 use Rattle.rules.proofs.EveryByte.{every-byte}
 use Rattle.escapes.specs.Finds.{Finds}
 use Rattle.escapes.specs.Hex.{hexBetween}
+use Rattle.escapes.specs.Strings.{escapeOf}
 use Rattle.escapes.proofs.Finding.{Coded, finds-byte, finds-no-byte, utf8-ascii, one-of-in}
 use Rattle.heads.proofs.Standing.{agree, agreed}
 use Rattle.escapes.proofs.Hex.{pair-digits, stands-between}
+use Rattle.escapes.proofs.Strings.{escape-told}
 use Rattle.reader.specs.Bars.{htmlBars, isBar}
 use Rattle.reader.specs.Units.{isOther}
 use Rattle.reader.proofs.Barred.{bar-alone}
+use Rattle.reader.proofs.Placed.{finds-none}
 
 -- ---- a table with some of the rows of another
 
@@ -70,15 +73,12 @@ module _ (q : List ℕ → Bool) (es : List Row) (d : T (distinct (unlike value)
   narrow-row : (o : Option Row) → rowAt value es s ≡ o → rowAt value narrow s ≡ passed (λ (e : Row). q (key e)) o
   narrow-row o e = row-passed (λ (e : Row). q (key e)) es d s ∙ ap (passed (λ (e : Row). q (key e))) e
 
-  finds-nothing : rowAt value narrow s ≡ none → Finds narrow s Nothing
-  finds-nothing e = record { undoes = λ other. ap (λ (o : Option Row). undo o other) e; within = tt }
-
   -- What is not in the larger table is not in the smaller one.
-  finds-none : Finds es s Nothing → Finds narrow s Nothing
-  finds-none f = go (rowAt value es s) refl (f .undoes stop)
+  finds-neither : Finds es s Nothing → Finds narrow s Nothing
+  finds-neither f = go (rowAt value es s) refl (f .undoes stop)
     where
       go : (o : Option Row) → rowAt value es s ≡ o → undo o stop ≡ stop → Finds narrow s Nothing
-      go none e h = finds-nothing (narrow-row none e)
+      go none e h = finds-none (narrow-row none e)
       go (some row) e h = absurd (let z : _≡_ {A = ℕ} 0 1 = cc in omega arith)
 
   module _ (n c : ℕ) (f : Finds es s (Taken n c)) where
@@ -102,7 +102,7 @@ module _ (q : List ℕ → Bool) (es : List Row) (d : T (distinct (unlike value)
 
     -- and no other is.
     finds-dropped : q (utf8 c) ≡ false → Finds narrow s Nothing
-    finds-dropped e = finds-nothing (narrow-found false e)
+    finds-dropped e = finds-none (narrow-found false e)
 
 -- ---- the HTML contexts
 
@@ -120,17 +120,18 @@ html-rows Safe = refl
 html-rows Unquoted = refl
 
 module _ (h : Html) (s : List ℕ) where
-  pub html-none : Finds (htmlRows Unquoted) s Nothing → Finds (htmlRows h) s Nothing
-  html-none f = rw (html-rows h) (finds-none (replaces h) (htmlRows Unquoted) tt s f)
-
   replaced-byte : (b : ℕ) (r : Bool) → b < 128 → isBar (htmlBars h) b ≡ r → replaces h (utf8 b) ≡ r
   replaced-byte b r l e = ap (replaces h) (utf8-ascii b l) ∙ sym (bar-alone h b (omega arith)) ∙ e
 
-  pub html-kept : (n b : ℕ) → b < 128 → isBar (htmlBars h) b ≡ true → Finds (htmlRows Unquoted) s (Taken n b) → Finds (htmlRows h) s (Taken n b)
-  html-kept n b l e f = rw (html-rows h) (finds-kept (replaces h) (htmlRows Unquoted) tt s n b f (replaced-byte b true l e))
+  -- What a number tells of the larger table holds of the smaller one where its character is a bar,
+  pub html-kept : (code : ℕ) → code % 65536 < 128 → isBar (htmlBars h) (code % 65536) ≡ true → Finds (htmlRows Unquoted) s (escapeOf code) → Finds (htmlRows h) s (escapeOf code)
+  html-kept zero l e f = rw (html-rows h) (finds-neither (replaces h) (htmlRows Unquoted) tt s f)
+  html-kept (suc k) l e f = rw (html-rows h) (finds-kept (replaces h) (htmlRows Unquoted) tt s (suc k / 65536) (suc k % 65536) f (replaced-byte (suc k % 65536) true l e))
 
-  pub html-dropped : (n b : ℕ) → b < 128 → isBar (htmlBars h) b ≡ false → Finds (htmlRows Unquoted) s (Taken n b) → Finds (htmlRows h) s Nothing
-  html-dropped n b l e f = rw (html-rows h) (finds-dropped (replaces h) (htmlRows Unquoted) tt s n b f (replaced-byte b false l e))
+  -- and else nothing is found there.
+  pub html-dropped : (code : ℕ) → code % 65536 < 128 → isBar (htmlBars h) (code % 65536) ≡ false → Finds (htmlRows Unquoted) s (escapeOf code) → Finds (htmlRows h) s Nothing
+  html-dropped zero l e f = rw (html-rows h) (finds-neither (replaces h) (htmlRows Unquoted) tt s f)
+  html-dropped (suc k) l e f = rw (html-rows h) (finds-dropped (replaces h) (htmlRows Unquoted) tt s (suc k / 65536) (suc k % 65536) f (replaced-byte (suc k % 65536) false l e))
 
 -- ---- `&#xHH;`
 
@@ -163,10 +164,11 @@ other-out : (v : ℕ) → isOther v ≡ false → In v others → ⊥
 other-out v e i = subst T e (all-in isOther others tt v i)
 
 -- So where the two digits are those of such a byte, its unit is found,
-pub finds-other : (s : List ℕ) (v : ℕ) → v ≡ hexBetween (ascii "&#x") (ascii ";") s → isOther v ≡ true → Finds (map reference others) s (Taken 6 v)
+pub finds-other : (s : List ℕ) (v : ℕ) → v ≡ hexBetween (ascii "&#x") (ascii ";") s → isOther v ≡ true → Finds (map reference others) s (escapeOf (0x60000 + v))
 finds-other s v e t =
-    subst (λ (v : ℕ). Finds (map reference others) s (Taken 6 v)) (sym e)
-    (finds-byte reference-coded s (other-in (hexBetween (ascii "&#x") (ascii ";") s) (subst (λ (v : ℕ). isOther v ≡ true) e t)))
+    rw (escape-told 6 v (omega arith) (omega (arith, other-small v t)))
+    (subst (λ (v : ℕ). Finds (map reference others) s (Taken 6 v)) (sym e)
+    (finds-byte reference-coded s (other-in (hexBetween (ascii "&#x") (ascii ";") s) (subst (λ (v : ℕ). isOther v ≡ true) e t))))
 
 -- and else nothing is.
 pub finds-no-other : (s : List ℕ) (v : ℕ) → v ≡ hexBetween (ascii "&#x") (ascii ";") s → isOther v ≡ false → Finds (map reference others) s Nothing

@@ -1,8 +1,8 @@
--- The units of the HTML contexts, and the strict reader byte by byte.
+-- The units of the contexts, and the strict reader byte by byte.
 -- Assumes nothing.
 use mathlib.Core.Bool.{Bool, not, _&&_, _||_}
 use mathlib.Core.List.{List}
-use Prim.Native.Nat.{ℕ, _<_}
+use Prim.Native.Nat.{ℕ}
 use lib.Dec.{ltb}
 use Rattle.rules.specs.Bytes.{ascii, any, stands, oneOf}
 use Rattle.rules.specs.Moves.{Rule}
@@ -10,17 +10,17 @@ use Rattle.rules.specs.Tables.{rowAt, value, letterOrDigit, rows, replacedChars
 use Rattle.rules.specs.Encoding.{keepByte}
 use Rattle.rules.specs.Reading.{undo, unless}
 use Rattle.rules.specs.declared.Context.{Context}
-use Rattle.rules.specs.declared.Escape.{Escape}
-use Rattle.rules.specs.declared.Escape.the-variants.{Taken, Nothing}
+use Rattle.rules.specs.declared.Context.the-variants.{InHtml, InScript, InStyle}
 
 -- An ASCII byte that is no letter or digit, and has no name.
 abbrev pub isOther : ℕ → Bool
 isOther v = ltb v 128 && not (letterOrDigit v || oneOf (ascii "&<>\"") v)
 
--- What was found stands for an ASCII byte.
-abbrev pub ForByte : Escape → Type 0
-ForByte (Taken n b) = b < 128
-ForByte Nothing = Unit {0}
+-- The byte that every unit of a context begins with.
+abbrev pub markOf : Context → ℕ
+markOf (InHtml h) = 0x26
+markOf (InScript q) = 0x5C
+markOf (InStyle q) = 0x5C
 
 -- read in a context, where one byte is kept in the place of one character.
 unfoldable pub byteStep : Context → Rule

@@ -11,7 +11,7 @@ use rules::Quotes;
 
 // The bytes that a replaced character begins with in an HTML context: a range, five more bytes, and 1 where every ASCII byte that is no letter or
 // digit is one instead.
-pub fn html_bars(h: Html) -> [u8; 8]
+fn html_bars(h: Html) -> [u8; 8]
     ensures { λ r. ⌜ r ≡ htmlBars h ⌝ }
 {
     match h {

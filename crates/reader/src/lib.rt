@@ -8,6 +8,7 @@ ghost use Rattle.rules.specs.Moves.{through, replaced};
 ghost use Rattle.rules.specs.Utf8.{validTo};
 ghost use Rattle.rules.specs.Reading.{readStep};
 ghost use Rattle.rules.specs.Operations.{readOf, readTo};
+use escapes::rows;
 use rules::Context;
 use rules::Escape;
 
@@ -21,35 +22,42 @@ pub struct Measured {
     pub same: bool,
 }
 
-// Measures what read makes of a valid text. Up to the next replaced character all is plain; there a unit has to stand.
+// Measures what read makes of a valid text. A unit has to stand at the byte that units begin with. At any other all is plain up to the next replaced
+// character, and where that stands there itself, nothing can be read.
 pub fn measure(c: Context, text: &[u8]) -> Measured
     requires { ⌜ (length (now text) ≤ 65536) × (validTo (now text) ≡ length (now text)) ⌝ }
     ensures { λ r. ⌜ (r .length ≡ length (readOf c (now (text .entry)))) × (r .place ≡ readTo c (now (text .entry))) × (r .same ≡ eqb (replaced (through (readStep c) (now (text .entry)))) 0) ⌝ }
 {
     let bars = bars::bars_of(c);
+    let mark = units::mark_of(c);
     let mut length: usize = 0;
     let mut units: usize = 0;
     let mut i: usize = 0;
     while i < text.len() {
-        let e = bars::next_bar(&bars, text, i);
-        length += e - i;
-        if e == text.len() {
-            return Measured {
-                length,
-                place: e,
-                same: units == 0,
-            };
+        if text[i] != mark {
+            let e = bars::next_bar(&bars, text, i);
+            if e == i {
+                return Measured {
+                    length,
+                    place: i,
+                    same: units == 0,
+                };
+            }
+            length += e - i;
+            i = e;
+            continue;
         }
-        let Escape::Taken(n, ch) = units::unit(c, &text[e..]) else {
+        let code = units::unit(c, &bars, &text[i..]);
+        let Escape::Taken(n, ch) = rows::escape_of(code) else {
             return Measured {
                 length,
-                place: e,
+                place: i,
                 same: units == 0,
             };
         };
         length += chars::char_length(ch);
         units += 1;
-        i = e + n;
+        i += n;
     }
     Measured {
         length,
@@ -58,25 +66,32 @@ pub fn measure(c: Context, text: &[u8]) -> Measured
     }
 }
 
-// Writes what read makes of a valid text to the start of `output` and returns its length; what lies past it keeps its values.
+// Writes what read makes of a valid text to the start of `output` and returns its length; what lies past it keeps its values. It goes as `measure`
+// does.
 pub fn write(c: Context, text: &[u8], output: &mut [u8]) -> usize
     requires { ⌜ (validTo (now text) ≡ length (now text)) × (length (readOf c (now text)) ≤ length (now output)) ⌝ }
     ensures { λ r. ⌜ (r ≡ length (readOf c (now (text .entry)))) × (now (output .exit) ≡ over (readOf c (now (text .entry))) (now (output .entry))) ⌝ }
 {
     let bars = bars::bars_of(c);
+    let mark = units::mark_of(c);
     let mut at: usize = 0;
     let mut i: usize = 0;
     while i < text.len() {
-        let e = bars::next_bar(&bars, text, i);
-        at += parts::put(&text[i..e], &mut output[at..]);
-        if e == text.len() {
-            return at;
+        if text[i] != mark {
+            let e = bars::next_bar(&bars, text, i);
+            if e == i {
+                return at;
+            }
+            at += parts::put(&text[i..e], &mut output[at..]);
+            i = e;
+            continue;
         }
-        let Escape::Taken(n, ch) = units::unit(c, &text[e..]) else {
+        let code = units::unit(c, &bars, &text[i..]);
+        let Escape::Taken(n, ch) = rows::escape_of(code) else {
             return at;
         };
         at += chars::put_char(ch, &mut output[at..]);
-        i = e + n;
+        i += n;
     }
     at
 }

@@ -1,15 +1,19 @@
 // The unit that a replaced character's row writes, at the head of a text.
+ghost use mathlib.Core.Bool.{cond};
+ghost use mathlib.Core.List.{map};
 ghost use mathlib.Core.Path.{_≡_};
-ghost use Rattle.rules.specs.Bytes.{ascii, oneOf};
-ghost use Rattle.rules.specs.Tables.{htmlRows, rows};
+ghost use Prim.Native.Nat.{_%_, _<_};
+ghost use Rattle.rules.specs.Bytes.{ascii, oneOf, stands};
+ghost use Rattle.rules.specs.Tables.{reference, others, htmlRows, rows};
 ghost use Rattle.rules.specs.declared.Html.the-variants.{Unquoted};
 ghost use Rattle.escapes.specs.Finds.{Finds};
-ghost use Rattle.reader.specs.Units.{isOther, ForByte};
+ghost use Rattle.escapes.specs.Strings.{escapeOf};
+ghost use Rattle.reader.specs.Bars.{htmlBars, barsOf};
+ghost use Rattle.reader.specs.Units.{isOther, markOf};
 use crate::bars;
 use escapes::digits;
 use escapes::rows;
 use rules::Context;
-use rules::Escape;
 use rules::Html;
 
 // Whether the byte has a named reference in `unquoted`.
@@ -42,50 +46,75 @@ fn is_other(v: u32) -> bool
     !is_named(b)
 }
 
-// The unit of `unquoted` at the head of `rest`: a named reference, or `&#xHH;`.
-fn reference(rest: &[u8]) -> Escape
-    ensures { λ r. ⌜ Finds (htmlRows Unquoted) (now (rest .entry)) r × ForByte r ⌝ }
+// A number where the bytes of `value` stand at the head of `rest`, else 0.
+fn named(value: &[u8], code: u32, rest: &[u8]) -> u32
+    ensures { λ r. ⌜ r ≡ cond (stands (now (value .entry)) (now (rest .entry))) code 0 ⌝ }
 {
-    if heads::starts(b"&amp;", rest) {
-        return Escape::Taken(5, 0x26);
+    if heads::starts(value, rest) {
+        return code;
     }
-    if heads::starts(b"&lt;", rest) {
-        return Escape::Taken(4, 0x3C);
-    }
-    if heads::starts(b"&gt;", rest) {
-        return Escape::Taken(4, 0x3E);
-    }
-    if heads::starts(b"&quot;", rest) {
-        return Escape::Taken(6, 0x22);
-    }
+    0
+}
+
+// `&#xHH;` at the head of `rest`, for a byte that `unquoted` writes so, as a number that tells an escape; 0 where none stands there.
+fn numbered(rest: &[u8]) -> u32
+    ensures { λ r. ⌜ Finds (map reference others) (now (rest .entry)) (escapeOf r) × (r % 65536 < 128) ⌝ }
+{
     let v = digits::hex_between(b"&#x", b";", rest);
     if is_other(v) {
-        return Escape::Taken(6, v);
+        return 0x60000 + v;
     }
-    Escape::Nothing
+    0
 }
 
-// The unit of an HTML context: that of `unquoted`, where the context replaces its character.
-fn html_unit(h: Html, rest: &[u8]) -> Escape
-    ensures { λ r. ⌜ Finds (htmlRows h) (now (rest .entry)) r ⌝ }
+// The unit of `unquoted` at the head of `rest`, as a number that tells an escape; 0 where none stands there. The second byte tells which it can be.
+fn reference(rest: &[u8]) -> u32
+    ensures { λ r. ⌜ Finds (htmlRows Unquoted) (now (rest .entry)) (escapeOf r) × (r % 65536 < 128) ⌝ }
 {
-    let Escape::Taken(n, b) = reference(rest) else {
-        return Escape::Nothing;
-    };
-    let bars = bars::html_bars(h);
-    if bars::is_bar(&bars, b as u8) {
-        return Escape::Taken(n, b);
+    if rest.len() < 2 {
+        return 0;
     }
-    Escape::Nothing
+    match rest[1] {
+        b'a' => named(b"&amp;", 0x50026, rest),
+        b'l' => named(b"&lt;", 0x4003C, rest),
+        b'g' => named(b"&gt;", 0x4003E, rest),
+        b'q' => named(b"&quot;", 0x60022, rest),
+        b'#' => numbered(rest),
+        _ => 0,
+    }
 }
 
-// The unit of the context that stands at the head of `rest` for a replaced character.
-pub fn unit(c: Context, rest: &[u8]) -> Escape
-    ensures { λ r. ⌜ Finds (rows c) (now (rest .entry)) r ⌝ }
+// The unit of an HTML context, so told: that of `unquoted`, where its character is one of the context's bars.
+fn html_unit(h: Html, bars: &[u8; 8], rest: &[u8]) -> u32
+    requires { ⌜ now bars ≡ htmlBars h ⌝ }
+    ensures { λ r. ⌜ Finds (htmlRows h) (now (rest .entry)) (escapeOf r) ⌝ }
+{
+    let code = reference(rest);
+    if bars::is_bar(bars, (code % 65536) as u8) {
+        return code;
+    }
+    0
+}
+
+// The unit of the context that stands at the head of `rest`, as a number that tells an escape; 0 where none does. `bars` are those of the context.
+pub fn unit(c: Context, bars: &[u8; 8], rest: &[u8]) -> u32
+    requires { ⌜ now bars ≡ barsOf c ⌝ }
+    ensures { λ r. ⌜ Finds (rows c) (now (rest .entry)) (escapeOf r) ⌝ }
 {
     match c {
-        Context::InHtml(h) => html_unit(h, rest),
+        Context::InHtml(h) => html_unit(h, bars, rest),
         Context::InScript(q) => rows::row_at(false, q, rest),
         Context::InStyle(q) => rows::row_at(true, q, rest),
+    }
+}
+
+// The byte that every unit of the context begins with.
+pub fn mark_of(c: Context) -> u8
+    ensures { λ r. ⌜ r ≡ markOf c ⌝ }
+{
+    match c {
+        Context::InHtml(_) => b'&',
+        Context::InScript(_) => b'\\',
+        Context::InStyle(_) => b'\\',
     }
 }

@@ -1,38 +1,54 @@
--- `write` meets its contract: what is written so far, with what the reader gives of the rest, is the result of the whole. The measure is what is left of the text.
+-- `write` meets its contract: what is written so far, with what the reader gives of the rest, is the result of the whole. The measure is what is
+-- left of the text.
 -- Assumes nothing.
-use mathlib.Core.Path.{ap}
+use mathlib.Core.Path.{sym, ap, _∙_}
 use Prim.Native.Nat.{_-_, _≤_}
 use native.Mathlib.Omega.{arith}
-use borrow.Author.Needs.{needs}
 use lib.ListN.{length}
 use Rattle.rules.proofs.Loops.{from-end, from-stop}
 use Rattle.rules.specs.Operations.{readOf}
 use Rattle.rules.specs.Utf8.{utf8}
 use Rattle.rules.specs.Moves.{result, from}
 use Rattle.reader.specs.Units.{byteStep}
-use Rattle.escapes.proofs.Strings.{within-rest}
-use Rattle.parts.proofs.Counted.{next-quiet, next-swap, filled-all, filled-within, less-left}
+use Rattle.parts.proofs.Counted.{next-quiet, next-swap, filled-all, filled-within}
 use Rattle.parts.proofs.Filled.{Filled, filled-start, filled-room, filled-next, filled-put}
 use Rattle.reader.proofs.Bytewise.{byte-result}
-use Rattle.reader.proofs.Barred.{clear-keeps, unit-here, no-unit-here}
-use Rattle.reader.proofs.write.Tie as tie
+use Rattle.reader.proofs.Barred.{clear-keeps, unit-here, no-unit-here, no-mark-here}
+use borrow.Author.Needs.{needs}
 use Rattle.reader.proofs.write.Statement.{statement}
+use Rattle.reader.proofs.write.Tie as tie
 
 abbrev Inv-loop : tie.InvT-loop
-Inv-loop c text output₀ bars at₀ i₀ output at i =
+Inv-loop c text output₀ bars mark at₀ i₀ output at i =
     (i ≤ length text) × Filled (readOf c text) (result (from (byteStep c) text i)) output₀ output at
 
 abbrev μ-loop : tie.MeasureT-loop
-μ-loop c text output₀ bars at₀ i₀ output at i = length text - i
+μ-loop c text output₀ bars mark at₀ i₀ output at i = length text - i
 
 bars-of-requires : tie.Need-bars-of-requires Inv-loop μ-loop
 bars-of-requires c κs = search needs
 
+mark-of-requires : tie.Need-mark-of-requires Inv-loop μ-loop
+mark-of-requires c κs = search needs
+
 loop-holds : tie.Need-loop-holds Inv-loop μ-loop
-loop-holds c = (search needs, rw (byte-result (c .before .before .before .args .c) (c .before .before .before .args .text .now) (c .before .before .before .pre .0)) (filled-start _ _ (c .before .before .before .pre .1)))
+loop-holds c = (search needs, rw (byte-result (c .before .before .before .before .args .c) (c .before .before .before .before .args .text .now) (c .before .before .before .before .pre .0)) (filled-start _ _ (c .before .before .before .before .pre .1)))
+
+shared-slice-read-if1 : tie.Need-shared-slice-read-if1 Inv-loop μ-loop
+shared-slice-read-if1 c = search needs
 
 next-bar-requires : tie.Need-next-bar-requires Inv-loop μ-loop
 next-bar-requires c κs = search needs
+
+same-length : tie.Need-same-length Inv-loop μ-loop
+same-length c = search needs
+
+returns : tie.Need-returns Inv-loop μ-loop
+returns c =
+    let a = c .before .before .before .before .before .before .before .before .before .before .before .args in
+    let t = a .text .now in
+    let l = c .before .before .before .before .before .before .loop in
+    filled-all (l .inv .1) (ap result (from-stop (byteStep (a .c)) t (l .i) (omega arith) (no-mark-here (a .c) t (l .i) (omega arith) (λ k. c .before .before .before .before .before .before .before .before .before .before .shared-slice-known .given k .fits) (λ z. c .before .before .before .if1 .taken (z ∙ sym (c .before .before .before .before .before .before .before .mark-of .ensures))) (rw (c .before .before .before .before .before .before .before .before .bars-of .ensures, c .if2 .taken) at (c .before .next-bar .ensures)))))
 
 sub-put : tie.Need-sub-put Inv-loop μ-loop
 sub-put c = search needs
@@ -44,25 +60,52 @@ part-put-end : tie.Need-part-put-end Inv-loop μ-loop
 part-put-end c = search needs
 
 sub-put-2 : tie.Need-sub-put-2 Inv-loop μ-loop
-sub-put-2 c = search needs
+sub-put-2 c = filled-within (c .before .before .before .before .before .before .before .loop .inv .1)
 
 part-put-start-2 : tie.Need-part-put-start-2 Inv-loop μ-loop
-part-put-start-2 c = search needs
+part-put-start-2 c = filled-within (c .before .before .before .before .before .before .before .loop .inv .1)
 
 part-put-end-2 : tie.Need-part-put-end-2 Inv-loop μ-loop
 part-put-end-2 c = search needs
 
 put-requires : tie.Need-put-requires Inv-loop μ-loop
-put-requires c κs = filled-room (c .before .before .before .before .before .loop .inv .1) (next-quiet (byteStep (c .before .before .before .before .before .before .before .before .before .args .c)) (c .before .before .before .before .before .before .before .before .before .args .text .now) (c .before .before .before .before .before .loop .i) (c .before .before .next-bar .result) (c .before .before .next-bar .ensures .after) (c .before .before .next-bar .ensures .within) (clear-keeps (c .before .before .before .before .before .before .before .before .before .args .c) (c .before .before .before .before .before .before .before .before .before .args .text .now) (λ k. c .before .before .before .before .before .before .before .before .shared-slice-known .given k .fits) (c .before .before .before .before .before .loop .i) (c .before .before .next-bar .result) (rw (c .before .before .before .before .before .before .bars-of .ensures) at (c .before .before .next-bar .ensures))))
+put-requires c κs =
+    let a = c .before .before .before .before .before .before .before .before .before .before .before .before .before .args in
+    let t = a .text .now in
+    let l = c .before .before .before .before .before .before .before .before .loop in
+    let e = c .before .before .before .next-bar .result in
+    let near = c .before .before .before .next-bar .ensures in
+    let next = next-quiet (byteStep (a .c)) t (l .i) e (near .after) (near .within) (clear-keeps (a .c) t (λ k. c .before .before .before .before .before .before .before .before .before .before .before .before .shared-slice-known .given k .fits) (l .i) e (rw (c .before .before .before .before .before .before .before .before .before .before .bars-of .ensures) at near)) in
+    filled-room (l .inv .1) next
 
 add-at : tie.Need-add-at Inv-loop μ-loop
-add-at c = omega (arith, c .before .before .put .ensures .0, filled-next (c .before .before .before .before .before .before .before .before .loop .inv .1) (next-quiet (byteStep (c .before .before .before .before .before .before .before .before .before .before .before .before .args .c)) (c .before .before .before .before .before .before .before .before .before .before .before .before .args .text .now) (c .before .before .before .before .before .before .before .before .loop .i) (c .before .before .before .before .before .next-bar .result) (c .before .before .before .before .before .next-bar .ensures .after) (c .before .before .before .before .before .next-bar .ensures .within) (clear-keeps (c .before .before .before .before .before .before .before .before .before .before .before .before .args .c) (c .before .before .before .before .before .before .before .before .before .before .before .before .args .text .now) (λ k. c .before .before .before .before .before .before .before .before .before .before .before .shared-slice-known .given k .fits) (c .before .before .before .before .before .before .before .before .loop .i) (c .before .before .before .before .before .next-bar .result) (rw (c .before .before .before .before .before .before .before .before .before .bars-of .ensures) at (c .before .before .before .before .before .next-bar .ensures)))))
+add-at c =
+    let a = c .before .before .before .before .before .before .before .before .before .before .before .before .before .before .before .before .args in
+    let t = a .text .now in
+    let l = c .before .before .before .before .before .before .before .before .before .before .before .loop in
+    let e = c .before .before .before .before .before .before .next-bar .result in
+    let near = c .before .before .before .before .before .before .next-bar .ensures in
+    let next = next-quiet (byteStep (a .c)) t (l .i) e (near .after) (near .within) (clear-keeps (a .c) t (λ k. c .before .before .before .before .before .before .before .before .before .before .before .before .before .before .before .shared-slice-known .given k .fits) (l .i) e (rw (c .before .before .before .before .before .before .before .before .before .before .before .before .before .bars-of .ensures) at near)) in
+    omega (arith, c .before .before .put .ensures .0, filled-next (l .inv .1) next)
 
-same-length : tie.Need-same-length Inv-loop μ-loop
-same-length c = search needs
+loop-less : tie.Need-loop-less Inv-loop μ-loop
+loop-less c =
+    let a = c .before .before .before .before .before .before .before .before .before .before .before .before .before .before .before .before .args in
+    let t = a .text .now in
+    let l = c .before .before .before .before .before .before .before .before .before .before .before .loop in
+    let e = c .before .before .before .before .before .before .next-bar .result in
+    let near = c .before .before .before .before .before .before .next-bar .ensures in
+    omega (arith, near .after, near .within, c .before .before .before .before .before .if2 .left)
 
-returns : tie.Need-returns Inv-loop μ-loop
-returns c = filled-all (filled-put (c .before .before .before .before .before .before .before .before .before .loop .inv .1) (next-quiet (byteStep (c .before .before .before .before .before .before .before .before .before .before .before .before .before .args .c)) (c .before .before .before .before .before .before .before .before .before .before .before .before .before .args .text .now) (c .before .before .before .before .before .before .before .before .before .loop .i) (c .before .before .before .before .before .before .next-bar .result) (c .before .before .before .before .before .before .next-bar .ensures .after) (c .before .before .before .before .before .before .next-bar .ensures .within) (clear-keeps (c .before .before .before .before .before .before .before .before .before .before .before .before .before .args .c) (c .before .before .before .before .before .before .before .before .before .before .before .before .before .args .text .now) (λ k. c .before .before .before .before .before .before .before .before .before .before .before .before .shared-slice-known .given k .fits) (c .before .before .before .before .before .before .before .before .before .loop .i) (c .before .before .before .before .before .before .next-bar .result) (rw (c .before .before .before .before .before .before .before .before .before .before .bars-of .ensures) at (c .before .before .before .before .before .before .next-bar .ensures)))) (c .before .before .before .put .last .1 .0) (c .before .before .before .put .result) (c .before .before .before .put .ensures .0) (c .before .before .before .put .ensures .1)) (ap result (from-end (byteStep (c .before .before .before .before .before .before .before .before .before .before .before .before .before .args .c)) (c .before .before .before .before .before .before .before .before .before .before .before .before .before .args .text .now) (c .before .before .before .before .before .before .next-bar .result) (omega arith)))
+loop-again : tie.Need-loop-again Inv-loop μ-loop
+loop-again c =
+    let a = c .before .before .before .before .before .before .before .before .before .before .before .before .before .before .before .before .args in
+    let t = a .text .now in
+    let l = c .before .before .before .before .before .before .before .before .before .before .before .loop in
+    let e = c .before .before .before .before .before .before .next-bar .result in
+    let near = c .before .before .before .before .before .before .next-bar .ensures in
+    let next = next-quiet (byteStep (a .c)) t (l .i) e (near .after) (near .within) (clear-keeps (a .c) t (λ k. c .before .before .before .before .before .before .before .before .before .before .before .before .before .before .before .shared-slice-known .given k .fits) (l .i) e (rw (c .before .before .before .before .before .before .before .before .before .before .before .before .before .bars-of .ensures) at near)) in
+    (near .within, filled-put (l .inv .1) next (c .before .before .put .last .1 .0) (c .before .before .put .result) (c .before .before .put .ensures .0) (c .before .before .put .ensures .1))
 
 sub-unit : tie.Need-sub-unit Inv-loop μ-loop
 sub-unit c = search needs
@@ -74,7 +117,10 @@ part-unit-end : tie.Need-part-unit-end Inv-loop μ-loop
 part-unit-end c = search needs
 
 unit-requires : tie.Need-unit-requires Inv-loop μ-loop
-unit-requires c κs = search needs
+unit-requires c κs = c .before .before .before .before .before .before .before .bars-of .ensures
+
+escape-of-requires : tie.Need-escape-of-requires Inv-loop μ-loop
+escape-of-requires c κs = search needs
 
 enum-known-n : tie.Need-enum-known-n Inv-loop μ-loop
 enum-known-n c = search needs
@@ -86,37 +132,83 @@ same-length-2 : tie.Need-same-length-2 Inv-loop μ-loop
 same-length-2 c = search needs
 
 returns-2 : tie.Need-returns-2 Inv-loop μ-loop
-returns-2 c = filled-all (filled-put (c .before .before .before .before .before .before .before .before .before .before .before .before .before .loop .inv .1) (next-quiet (byteStep (c .before .before .before .before .before .before .before .before .before .before .before .before .before .before .before .before .before .args .c)) (c .before .before .before .before .before .before .before .before .before .before .before .before .before .before .before .before .before .args .text .now) (c .before .before .before .before .before .before .before .before .before .before .before .before .before .loop .i) (c .before .before .before .before .before .before .before .before .before .before .next-bar .result) (c .before .before .before .before .before .before .before .before .before .before .next-bar .ensures .after) (c .before .before .before .before .before .before .before .before .before .before .next-bar .ensures .within) (clear-keeps (c .before .before .before .before .before .before .before .before .before .before .before .before .before .before .before .before .before .args .c) (c .before .before .before .before .before .before .before .before .before .before .before .before .before .before .before .before .before .args .text .now) (λ k. c .before .before .before .before .before .before .before .before .before .before .before .before .before .before .before .before .shared-slice-known .given k .fits) (c .before .before .before .before .before .before .before .before .before .before .before .before .before .loop .i) (c .before .before .before .before .before .before .before .before .before .before .next-bar .result) (rw (c .before .before .before .before .before .before .before .before .before .before .before .before .before .before .bars-of .ensures) at (c .before .before .before .before .before .before .before .before .before .before .next-bar .ensures)))) (c .before .before .before .before .before .before .before .put .last .1 .0) (c .before .before .before .before .before .before .before .put .result) (c .before .before .before .before .before .before .before .put .ensures .0) (c .before .before .before .before .before .before .before .put .ensures .1)) (ap result (from-stop (byteStep (c .before .before .before .before .before .before .before .before .before .before .before .before .before .before .before .before .before .args .c)) (c .before .before .before .before .before .before .before .before .before .before .before .before .before .before .before .before .before .args .text .now) (c .before .before .before .before .before .before .before .before .before .before .next-bar .result) (omega arith) (no-unit-here (c .before .before .before .before .before .before .before .before .before .before .before .before .before .before .before .before .before .args .c) (c .before .before .before .before .before .before .before .before .before .before .before .before .before .before .before .before .before .args .text .now) (λ k. c .before .before .before .before .before .before .before .before .before .before .before .before .before .before .before .before .shared-slice-known .given k .fits) (c .before .before .before .before .before .before .before .before .before .before .before .before .before .loop .i) (c .before .before .before .before .before .before .before .before .before .before .next-bar .result) (rw (c .before .before .before .before .before .before .before .before .before .before .before .before .before .before .bars-of .ensures) at (c .before .before .before .before .before .before .before .before .before .before .next-bar .ensures)) (omega arith) (rw (c .enum-told .given .1) at (c .before .before .unit .ensures)))))
+returns-2 c =
+    let a = c .before .before .before .before .before .before .before .before .before .before .before .before .before .before .args in
+    let t = a .text .now in
+    let l = c .before .before .before .before .before .before .before .before .before .loop in
+    filled-all (l .inv .1) (ap result (from-stop (byteStep (a .c)) t (l .i) (omega arith) (no-unit-here (a .c) t (l .i) (omega arith) (c .before .before .before .unit .result) (c .before .before .before .before .before .before .if1 .left ∙ c .before .before .before .before .before .before .before .before .before .before .mark-of .ensures) (sym (c .enum-told .given .1) ∙ c .before .before .escape-of .ensures) (c .before .before .before .unit .ensures))))
 
 sub-put-char : tie.Need-sub-put-char Inv-loop μ-loop
-sub-put-char c = filled-within (filled-put (c .before .before .before .before .before .before .before .before .before .before .before .before .before .before .loop .inv .1) (next-quiet (byteStep (c .before .before .before .before .before .before .before .before .before .before .before .before .before .before .before .before .before .before .args .c)) (c .before .before .before .before .before .before .before .before .before .before .before .before .before .before .before .before .before .before .args .text .now) (c .before .before .before .before .before .before .before .before .before .before .before .before .before .before .loop .i) (c .before .before .before .before .before .before .before .before .before .before .before .next-bar .result) (c .before .before .before .before .before .before .before .before .before .before .before .next-bar .ensures .after) (c .before .before .before .before .before .before .before .before .before .before .before .next-bar .ensures .within) (clear-keeps (c .before .before .before .before .before .before .before .before .before .before .before .before .before .before .before .before .before .before .args .c) (c .before .before .before .before .before .before .before .before .before .before .before .before .before .before .before .before .before .before .args .text .now) (λ k. c .before .before .before .before .before .before .before .before .before .before .before .before .before .before .before .before .before .shared-slice-known .given k .fits) (c .before .before .before .before .before .before .before .before .before .before .before .before .before .before .loop .i) (c .before .before .before .before .before .before .before .before .before .before .before .next-bar .result) (rw (c .before .before .before .before .before .before .before .before .before .before .before .before .before .before .before .bars-of .ensures) at (c .before .before .before .before .before .before .before .before .before .before .before .next-bar .ensures)))) (c .before .before .before .before .before .before .before .before .put .last .1 .0) (c .before .before .before .before .before .before .before .before .put .result) (c .before .before .before .before .before .before .before .before .put .ensures .0) (c .before .before .before .before .before .before .before .before .put .ensures .1))
+sub-put-char c = filled-within (c .before .before .before .before .before .before .before .before .before .before .loop .inv .1)
 
 part-put-char-start : tie.Need-part-put-char-start Inv-loop μ-loop
-part-put-char-start c = filled-within (filled-put (c .before .before .before .before .before .before .before .before .before .before .before .before .before .before .loop .inv .1) (next-quiet (byteStep (c .before .before .before .before .before .before .before .before .before .before .before .before .before .before .before .before .before .before .args .c)) (c .before .before .before .before .before .before .before .before .before .before .before .before .before .before .before .before .before .before .args .text .now) (c .before .before .before .before .before .before .before .before .before .before .before .before .before .before .loop .i) (c .before .before .before .before .before .before .before .before .before .before .before .next-bar .result) (c .before .before .before .before .before .before .before .before .before .before .before .next-bar .ensures .after) (c .before .before .before .before .before .before .before .before .before .before .before .next-bar .ensures .within) (clear-keeps (c .before .before .before .before .before .before .before .before .before .before .before .before .before .before .before .before .before .before .args .c) (c .before .before .before .before .before .before .before .before .before .before .before .before .before .before .before .before .before .before .args .text .now) (λ k. c .before .before .before .before .before .before .before .before .before .before .before .before .before .before .before .before .before .shared-slice-known .given k .fits) (c .before .before .before .before .before .before .before .before .before .before .before .before .before .before .loop .i) (c .before .before .before .before .before .before .before .before .before .before .before .next-bar .result) (rw (c .before .before .before .before .before .before .before .before .before .before .before .before .before .before .before .bars-of .ensures) at (c .before .before .before .before .before .before .before .before .before .before .before .next-bar .ensures)))) (c .before .before .before .before .before .before .before .before .put .last .1 .0) (c .before .before .before .before .before .before .before .before .put .result) (c .before .before .before .before .before .before .before .before .put .ensures .0) (c .before .before .before .before .before .before .before .before .put .ensures .1))
+part-put-char-start c = filled-within (c .before .before .before .before .before .before .before .before .before .before .loop .inv .1)
 
 part-put-char-end : tie.Need-part-put-char-end Inv-loop μ-loop
 part-put-char-end c = search needs
 
 put-char-requires : tie.Need-put-char-requires Inv-loop μ-loop
-put-char-requires c κs = let w = within-rest (c .before .before .before .before .before .before .before .before .before .before .before .before .before .before .before .before .before .before .before .args .text .now) (c .before .before .before .before .before .before .before .before .before .before .before .before .next-bar .result) (c .before .before .n .given .0 .0) (c .before .before .n .given .0 .1 .0) ((rw (c .before .before .n .given .1) at (c .before .before .before .before .unit .ensures)) .within) in (omega (arith, w .3), filled-room (filled-put (c .before .before .before .before .before .before .before .before .before .before .before .before .before .before .before .loop .inv .1) (next-quiet (byteStep (c .before .before .before .before .before .before .before .before .before .before .before .before .before .before .before .before .before .before .before .args .c)) (c .before .before .before .before .before .before .before .before .before .before .before .before .before .before .before .before .before .before .before .args .text .now) (c .before .before .before .before .before .before .before .before .before .before .before .before .before .before .before .loop .i) (c .before .before .before .before .before .before .before .before .before .before .before .before .next-bar .result) (c .before .before .before .before .before .before .before .before .before .before .before .before .next-bar .ensures .after) (c .before .before .before .before .before .before .before .before .before .before .before .before .next-bar .ensures .within) (clear-keeps (c .before .before .before .before .before .before .before .before .before .before .before .before .before .before .before .before .before .before .before .args .c) (c .before .before .before .before .before .before .before .before .before .before .before .before .before .before .before .before .before .before .before .args .text .now) (λ k. c .before .before .before .before .before .before .before .before .before .before .before .before .before .before .before .before .before .before .shared-slice-known .given k .fits) (c .before .before .before .before .before .before .before .before .before .before .before .before .before .before .before .loop .i) (c .before .before .before .before .before .before .before .before .before .before .before .before .next-bar .result) (rw (c .before .before .before .before .before .before .before .before .before .before .before .before .before .before .before .before .bars-of .ensures) at (c .before .before .before .before .before .before .before .before .before .before .before .before .next-bar .ensures)))) (c .before .before .before .before .before .before .before .before .before .put .last .1 .0) (c .before .before .before .before .before .before .before .before .before .put .result) (c .before .before .before .before .before .before .before .before .before .put .ensures .0) (c .before .before .before .before .before .before .before .before .before .put .ensures .1)) (next-swap (byteStep (c .before .before .before .before .before .before .before .before .before .before .before .before .before .before .before .before .before .before .before .args .c)) (c .before .before .before .before .before .before .before .before .before .before .before .before .before .before .before .before .before .before .before .args .text .now) (c .before .before .before .before .before .before .before .before .before .before .before .before .next-bar .result) (c .before .before .n .given .0 .0) (utf8 (c .before .before .n .given .0 .1 .0)) (w .0) (w .1) (unit-here (c .before .before .before .before .before .before .before .before .before .before .before .before .before .before .before .before .before .before .before .args .c) (c .before .before .before .before .before .before .before .before .before .before .before .before .before .before .before .before .before .before .before .args .text .now) (c .before .before .before .before .before .before .before .before .before .before .before .before .next-bar .result) (c .before .before .n .given .0 .0) (c .before .before .n .given .0 .1 .0) (rw (c .before .before .n .given .1) at (c .before .before .before .before .unit .ensures)))))
+put-char-requires c κs =
+    let a = c .before .before .before .before .before .before .before .before .before .before .before .before .before .before .before .before .args in
+    let t = a .text .now in
+    let l = c .before .before .before .before .before .before .before .before .before .before .before .loop in
+    let n = c .before .before .n .given .0 .0 in
+    let ch = c .before .before .n .given .0 .1 .0 in
+    let u = unit-here (a .c) t (l .i) (omega arith) n ch (c .before .before .before .before .before .unit .result) (sym (c .before .before .n .given .1) ∙ c .before .before .before .before .escape-of .ensures) (c .before .before .before .before .before .unit .ensures) in
+    let next = next-swap (byteStep (a .c)) t (l .i) n (utf8 ch) (u .1 .0) (u .1 .1) (u .0) in
+    (omega (arith, u .1 .3), filled-room (l .inv .1) next)
 
 add-at-2 : tie.Need-add-at-2 Inv-loop μ-loop
-add-at-2 c = let w = within-rest (c .before .before .before .before .before .before .before .before .before .before .before .before .before .before .before .before .before .before .before .before .before .before .args .text .now) (c .before .before .before .before .before .before .before .before .before .before .before .before .before .before .before .next-bar .result) (c .before .before .before .before .before .n .given .0 .0) (c .before .before .before .before .before .n .given .0 .1 .0) ((rw (c .before .before .before .before .before .n .given .1) at (c .before .before .before .before .before .before .before .unit .ensures)) .within) in omega (arith, c .before .before .put-char .ensures .0, filled-next (filled-put (c .before .before .before .before .before .before .before .before .before .before .before .before .before .before .before .before .before .before .loop .inv .1) (next-quiet (byteStep (c .before .before .before .before .before .before .before .before .before .before .before .before .before .before .before .before .before .before .before .before .before .before .args .c)) (c .before .before .before .before .before .before .before .before .before .before .before .before .before .before .before .before .before .before .before .before .before .before .args .text .now) (c .before .before .before .before .before .before .before .before .before .before .before .before .before .before .before .before .before .before .loop .i) (c .before .before .before .before .before .before .before .before .before .before .before .before .before .before .before .next-bar .result) (c .before .before .before .before .before .before .before .before .before .before .before .before .before .before .before .next-bar .ensures .after) (c .before .before .before .before .before .before .before .before .before .before .before .before .before .before .before .next-bar .ensures .within) (clear-keeps (c .before .before .before .before .before .before .before .before .before .before .before .before .before .before .before .before .before .before .before .before .before .before .args .c) (c .before .before .before .before .before .before .before .before .before .before .before .before .before .before .before .before .before .before .before .before .before .before .args .text .now) (λ k. c .before .before .before .before .before .before .before .before .before .before .before .before .before .before .before .before .before .before .before .before .before .shared-slice-known .given k .fits) (c .before .before .before .before .before .before .before .before .before .before .before .before .before .before .before .before .before .before .loop .i) (c .before .before .before .before .before .before .before .before .before .before .before .before .before .before .before .next-bar .result) (rw (c .before .before .before .before .before .before .before .before .before .before .before .before .before .before .before .before .before .before .before .bars-of .ensures) at (c .before .before .before .before .before .before .before .before .before .before .before .before .before .before .before .next-bar .ensures)))) (c .before .before .before .before .before .before .before .before .before .before .before .before .put .last .1 .0) (c .before .before .before .before .before .before .before .before .before .before .before .before .put .result) (c .before .before .before .before .before .before .before .before .before .before .before .before .put .ensures .0) (c .before .before .before .before .before .before .before .before .before .before .before .before .put .ensures .1)) (next-swap (byteStep (c .before .before .before .before .before .before .before .before .before .before .before .before .before .before .before .before .before .before .before .before .before .before .args .c)) (c .before .before .before .before .before .before .before .before .before .before .before .before .before .before .before .before .before .before .before .before .before .before .args .text .now) (c .before .before .before .before .before .before .before .before .before .before .before .before .before .before .before .next-bar .result) (c .before .before .before .before .before .n .given .0 .0) (utf8 (c .before .before .before .before .before .n .given .0 .1 .0)) (w .0) (w .1) (unit-here (c .before .before .before .before .before .before .before .before .before .before .before .before .before .before .before .before .before .before .before .before .before .before .args .c) (c .before .before .before .before .before .before .before .before .before .before .before .before .before .before .before .before .before .before .before .before .before .before .args .text .now) (c .before .before .before .before .before .before .before .before .before .before .before .before .before .before .before .next-bar .result) (c .before .before .before .before .before .n .given .0 .0) (c .before .before .before .before .before .n .given .0 .1 .0) (rw (c .before .before .before .before .before .n .given .1) at (c .before .before .before .before .before .before .before .unit .ensures)))))
+add-at-2 c =
+    let a = c .before .before .before .before .before .before .before .before .before .before .before .before .before .before .before .before .before .before .before .args in
+    let t = a .text .now in
+    let l = c .before .before .before .before .before .before .before .before .before .before .before .before .before .before .loop in
+    let n = c .before .before .before .before .before .n .given .0 .0 in
+    let ch = c .before .before .before .before .before .n .given .0 .1 .0 in
+    let u = unit-here (a .c) t (l .i) (omega arith) n ch (c .before .before .before .before .before .before .before .before .unit .result) (sym (c .before .before .before .before .before .n .given .1) ∙ c .before .before .before .before .before .before .before .escape-of .ensures) (c .before .before .before .before .before .before .before .before .unit .ensures) in
+    let next = next-swap (byteStep (a .c)) t (l .i) n (utf8 ch) (u .1 .0) (u .1 .1) (u .0) in
+    omega (arith, c .before .before .put-char .ensures .0, filled-next (l .inv .1) next)
 
 add-i : tie.Need-add-i Inv-loop μ-loop
-add-i c = let w = within-rest (c .before .before .before .before .before .before .before .before .before .before .before .before .before .before .before .before .before .before .before .before .before .before .args .text .now) (c .before .before .before .before .before .before .before .before .before .before .before .before .before .before .before .next-bar .result) (c .before .before .before .before .before .n .given .0 .0) (c .before .before .before .before .before .n .given .0 .1 .0) ((rw (c .before .before .before .before .before .n .given .1) at (c .before .before .before .before .before .before .before .unit .ensures)) .within) in omega (arith, w .1)
+add-i c =
+    let a = c .before .before .before .before .before .before .before .before .before .before .before .before .before .before .before .before .before .before .before .args in
+    let t = a .text .now in
+    let l = c .before .before .before .before .before .before .before .before .before .before .before .before .before .before .loop in
+    let n = c .before .before .before .before .before .n .given .0 .0 in
+    let ch = c .before .before .before .before .before .n .given .0 .1 .0 in
+    let u = unit-here (a .c) t (l .i) (omega arith) n ch (c .before .before .before .before .before .before .before .before .unit .result) (sym (c .before .before .before .before .before .n .given .1) ∙ c .before .before .before .before .before .before .before .escape-of .ensures) (c .before .before .before .before .before .before .before .before .unit .ensures) in
+    omega (arith, u .1 .1)
 
-loop-less : tie.Need-loop-less Inv-loop μ-loop
-loop-less c = let w = within-rest (c .before .before .before .before .before .before .before .before .before .before .before .before .before .before .before .before .before .before .before .before .before .before .args .text .now) (c .before .before .before .before .before .before .before .before .before .before .before .before .before .before .before .next-bar .result) (c .before .before .before .before .before .n .given .0 .0) (c .before .before .before .before .before .n .given .0 .1 .0) ((rw (c .before .before .before .before .before .n .given .1) at (c .before .before .before .before .before .before .before .unit .ensures)) .within) in less-left (length (c .before .before .before .before .before .before .before .before .before .before .before .before .before .before .before .before .before .before .before .before .before .before .args .text .now)) (c .before .before .before .before .before .before .before .before .before .before .before .before .before .before .before .before .before .before .loop .i) (c .before .before .before .before .before .before .before .before .before .before .before .before .before .before .before .next-bar .result) (c .before .before .before .before .before .n .given .0 .0) (c .before .before .before .before .before .before .before .before .before .before .before .before .before .before .before .next-bar .ensures .after) (w .0) (w .1)
+loop-less-2 : tie.Need-loop-less-2 Inv-loop μ-loop
+loop-less-2 c =
+    let a = c .before .before .before .before .before .before .before .before .before .before .before .before .before .before .before .before .before .before .before .args in
+    let t = a .text .now in
+    let l = c .before .before .before .before .before .before .before .before .before .before .before .before .before .before .loop in
+    let n = c .before .before .before .before .before .n .given .0 .0 in
+    let ch = c .before .before .before .before .before .n .given .0 .1 .0 in
+    let u = unit-here (a .c) t (l .i) (omega arith) n ch (c .before .before .before .before .before .before .before .before .unit .result) (sym (c .before .before .before .before .before .n .given .1) ∙ c .before .before .before .before .before .before .before .escape-of .ensures) (c .before .before .before .before .before .before .before .before .unit .ensures) in
+    omega (arith, u .1 .0, u .1 .1)
 
-loop-again : tie.Need-loop-again Inv-loop μ-loop
-loop-again c = let w = within-rest (c .before .before .before .before .before .before .before .before .before .before .before .before .before .before .before .before .before .before .before .before .before .before .args .text .now) (c .before .before .before .before .before .before .before .before .before .before .before .before .before .before .before .next-bar .result) (c .before .before .before .before .before .n .given .0 .0) (c .before .before .before .before .before .n .given .0 .1 .0) ((rw (c .before .before .before .before .before .n .given .1) at (c .before .before .before .before .before .before .before .unit .ensures)) .within) in (w .1, filled-put (filled-put (c .before .before .before .before .before .before .before .before .before .before .before .before .before .before .before .before .before .before .loop .inv .1) (next-quiet (byteStep (c .before .before .before .before .before .before .before .before .before .before .before .before .before .before .before .before .before .before .before .before .before .before .args .c)) (c .before .before .before .before .before .before .before .before .before .before .before .before .before .before .before .before .before .before .before .before .before .before .args .text .now) (c .before .before .before .before .before .before .before .before .before .before .before .before .before .before .before .before .before .before .loop .i) (c .before .before .before .before .before .before .before .before .before .before .before .before .before .before .before .next-bar .result) (c .before .before .before .before .before .before .before .before .before .before .before .before .before .before .before .next-bar .ensures .after) (c .before .before .before .before .before .before .before .before .before .before .before .before .before .before .before .next-bar .ensures .within) (clear-keeps (c .before .before .before .before .before .before .before .before .before .before .before .before .before .before .before .before .before .before .before .before .before .before .args .c) (c .before .before .before .before .before .before .before .before .before .before .before .before .before .before .before .before .before .before .before .before .before .before .args .text .now) (λ k. c .before .before .before .before .before .before .before .before .before .before .before .before .before .before .before .before .before .before .before .before .before .shared-slice-known .given k .fits) (c .before .before .before .before .before .before .before .before .before .before .before .before .before .before .before .before .before .before .loop .i) (c .before .before .before .before .before .before .before .before .before .before .before .before .before .before .before .next-bar .result) (rw (c .before .before .before .before .before .before .before .before .before .before .before .before .before .before .before .before .before .before .before .bars-of .ensures) at (c .before .before .before .before .before .before .before .before .before .before .before .before .before .before .before .next-bar .ensures)))) (c .before .before .before .before .before .before .before .before .before .before .before .before .put .last .1 .0) (c .before .before .before .before .before .before .before .before .before .before .before .before .put .result) (c .before .before .before .before .before .before .before .before .before .before .before .before .put .ensures .0) (c .before .before .before .before .before .before .before .before .before .before .before .before .put .ensures .1)) (next-swap (byteStep (c .before .before .before .before .before .before .before .before .before .before .before .before .before .before .before .before .before .before .before .before .before .before .args .c)) (c .before .before .before .before .before .before .before .before .before .before .before .before .before .before .before .before .before .before .before .before .before .before .args .text .now) (c .before .before .before .before .before .before .before .before .before .before .before .before .before .before .before .next-bar .result) (c .before .before .before .before .before .n .given .0 .0) (utf8 (c .before .before .before .before .before .n .given .0 .1 .0)) (w .0) (w .1) (unit-here (c .before .before .before .before .before .before .before .before .before .before .before .before .before .before .before .before .before .before .before .before .before .before .args .c) (c .before .before .before .before .before .before .before .before .before .before .before .before .before .before .before .before .before .before .before .before .before .before .args .text .now) (c .before .before .before .before .before .before .before .before .before .before .before .before .before .before .before .next-bar .result) (c .before .before .before .before .before .n .given .0 .0) (c .before .before .before .before .before .n .given .0 .1 .0) (rw (c .before .before .before .before .before .n .given .1) at (c .before .before .before .before .before .before .before .unit .ensures)))) (c .before .before .put-char .last .1 .0) (c .before .before .put-char .result) (c .before .before .put-char .ensures .0) (c .before .before .put-char .ensures .1))
+loop-again-2 : tie.Need-loop-again-2 Inv-loop μ-loop
+loop-again-2 c =
+    let a = c .before .before .before .before .before .before .before .before .before .before .before .before .before .before .before .before .before .before .before .args in
+    let t = a .text .now in
+    let l = c .before .before .before .before .before .before .before .before .before .before .before .before .before .before .loop in
+    let n = c .before .before .before .before .before .n .given .0 .0 in
+    let ch = c .before .before .before .before .before .n .given .0 .1 .0 in
+    let u = unit-here (a .c) t (l .i) (omega arith) n ch (c .before .before .before .before .before .before .before .before .unit .result) (sym (c .before .before .before .before .before .n .given .1) ∙ c .before .before .before .before .before .before .before .escape-of .ensures) (c .before .before .before .before .before .before .before .before .unit .ensures) in
+    let next = next-swap (byteStep (a .c)) t (l .i) n (utf8 ch) (u .1 .0) (u .1 .1) (u .0) in
+    (u .1 .1, filled-put (l .inv .1) next (c .before .before .put-char .last .1 .0) (c .before .before .put-char .result) (c .before .before .put-char .ensures .0) (c .before .before .put-char .ensures .1))
 
 same-length-3 : tie.Need-same-length-3 Inv-loop μ-loop
 same-length-3 c = search needs
 
 returns-3 : tie.Need-returns-3 Inv-loop μ-loop
-returns-3 c = filled-all (c .before .loop .inv .1) (ap result (from-end (byteStep (c .before .before .before .before .before .args .c)) (c .before .before .before .before .before .args .text .now) (c .before .loop .i) (omega arith)))
+returns-3 c =
+    let a = c .before .before .before .before .before .before .args in
+    let t = a .text .now in
+    let l = c .before .loop in
+    filled-all (l .inv .1) (ap result (from-end (byteStep (a .c)) t (l .i) (omega arith)))
 
 pub write-spec : {M : Type 1} → statement M
 write-spec =
@@ -125,8 +217,12 @@ write-spec =
     Inv-loop
     μ-loop
     bars-of-requires
+    mark-of-requires
     loop-holds
+    shared-slice-read-if1
     next-bar-requires
+    same-length
+    returns
     sub-put
     part-put-start
     part-put-end
@@ -135,12 +231,13 @@ write-spec =
     part-put-end-2
     put-requires
     add-at
-    same-length
-    returns
+    loop-less
+    loop-again
     sub-unit
     part-unit-start
     part-unit-end
     unit-requires
+    escape-of-requires
     enum-known-n
     enum-told
     same-length-2
@@ -151,7 +248,7 @@ write-spec =
     put-char-requires
     add-at-2
     add-i
-    loop-less
-    loop-again
+    loop-less-2
+    loop-again-2
     same-length-3
     returns-3)

@@ -3,7 +3,7 @@
 use mathlib.Core.Path.{sym, ap, _∙_}
 use native.Mathlib.Omega.{arith}
 use Rattle.escapes.specs.Strings.{isHexed}
-use Rattle.escapes.proofs.Strings.{hexed-byte, escape-hexed, finds-hexed, finds-no-hexed}
+use Rattle.escapes.proofs.Strings.{hexed-byte, escape-told, finds-hexed, finds-no-hexed}
 use borrow.Author.Needs.{needs}
 use Rattle.escapes.proofs.rows.hex_row.Statement.{statement}
 use Rattle.escapes.proofs.rows.hex_row.Tie as tie
@@ -18,7 +18,7 @@ add-result : tie.Need-add-result
 add-result c = omega (arith, hexed-byte (c .before .before .before .before .args .style) (c .before .before .hex-escape .result) (sym (c .before .is-hexed .ensures) ∙ c .if1 .taken))
 
 returns : tie.Need-returns
-returns c = let e = sym (c .before .is-hexed .ensures) ∙ c .if1 .taken in rw (escape-hexed (c .before .before .hex-escape .result) (hexed-byte (c .before .before .before .before .args .style) (c .before .before .hex-escape .result) e), c .before .before .hex-escape .ensures) (finds-hexed (c .before .before .before .before .args .style) (c .before .before .before .before .args .rest .now) (ap (isHexed (c .before .before .before .before .args .style)) (sym (c .before .before .hex-escape .ensures)) ∙ e))
+returns c = let e = sym (c .before .is-hexed .ensures) ∙ c .if1 .taken in rw (escape-told 4 (c .before .before .hex-escape .result) (omega arith) (omega (arith, hexed-byte (c .before .before .before .before .args .style) (c .before .before .hex-escape .result) e)), c .before .before .hex-escape .ensures) (finds-hexed (c .before .before .before .before .args .style) (c .before .before .before .before .args .rest .now) (ap (isHexed (c .before .before .before .before .args .style)) (sym (c .before .before .hex-escape .ensures)) ∙ e))
 
 returns-2 : tie.Need-returns-2
 returns-2 c = finds-no-hexed (c .before .before .before .before .args .style) (c .before .before .before .before .args .rest .now) (ap (isHexed (c .before .before .before .before .args .style)) (sym (c .before .before .hex-escape .ensures)) ∙ sym (c .before .is-hexed .ensures) ∙ c .if1 .left)

@@ -1,14 +1,14 @@
 -- `unit` meets its contract: each return by the tests that led there.
 -- Assumes nothing.
 use borrow.Author.Needs.{needs}
-use Rattle.reader.proofs.units.unit.Tie as tie
 use Rattle.reader.proofs.units.unit.Statement.{statement}
+use Rattle.reader.proofs.units.unit.Tie as tie
 
 enum-known-c : tie.Need-enum-known-c
 enum-known-c c = search needs
 
 html-unit-requires : tie.Need-html-unit-requires
-html-unit-requires c κs = search needs
+html-unit-requires c κs = rw (c .before .c .given .1) at (c .before .before .before .before .pre)
 
 enum-known-c-2 : tie.Need-enum-known-c-2
 enum-known-c-2 c = search needs

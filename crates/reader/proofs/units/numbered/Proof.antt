@@ -1,0 +1,44 @@
+-- `numbered` meets its contract: the value that is read is that of a byte which is written so, or of none.
+-- Assumes nothing.
+use mathlib.Core.Path.{sym, _∙_}
+use native.Mathlib.Omega.{arith}
+use Rattle.reader.proofs.Narrow.{other-small, finds-other, finds-no-other}
+use borrow.Author.Needs.{needs}
+use Rattle.reader.proofs.units.numbered.Statement.{statement}
+use Rattle.reader.proofs.units.numbered.Tie as tie
+
+slice-aggregate-hex-between : tie.Need-slice-aggregate-hex-between
+slice-aggregate-hex-between c = search needs
+
+slice-aggregate-hex-between-2 : tie.Need-slice-aggregate-hex-between-2
+slice-aggregate-hex-between-2 c = search needs
+
+hex-between-requires : tie.Need-hex-between-requires
+hex-between-requires c κs = search needs
+
+is-other-requires : tie.Need-is-other-requires
+is-other-requires c κs = search needs
+
+add-result : tie.Need-add-result
+add-result c = omega (arith, other-small (c .before .before .hex-between .result) (sym (c .before .is-other .ensures) ∙ c .if1 .taken))
+
+returns : tie.Need-returns
+returns c =
+    let v = c .before .before .hex-between in
+    let e = sym (c .before .is-other .ensures) ∙ c .if1 .taken in
+    (finds-other (c .before .before .before .before .before .before .args .rest .now) (v .result) (v .ensures .0) e, omega (arith, other-small (v .result) e))
+
+returns-2 : tie.Need-returns-2
+returns-2 c = (finds-no-other (c .before .before .before .before .before .before .args .rest .now) (c .before .before .hex-between .result) (c .before .before .hex-between .ensures .0) (sym (c .before .is-other .ensures) ∙ c .if1 .left), omega arith)
+
+pub numbered-spec : {M : Type 1} → statement M
+numbered-spec =
+    tie.close
+    (tie.spec
+    slice-aggregate-hex-between
+    slice-aggregate-hex-between-2
+    hex-between-requires
+    is-other-requires
+    add-result
+    returns
+    returns-2)
