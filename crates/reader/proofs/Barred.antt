@@ -216,19 +216,19 @@ module _ (c : Context) where
       (any-intro (λ (k : List ℕ). stands k (markOf c ∷ s)) (replacedChars c) (markOf c ∷ []) (same-in (markOf c ∷ []) (replacedChars c) (every (λ (c : Context). any (sameBytes (markOf c ∷ [])) (replacedChars c)) tt c)) (stands-self (markOf c ∷ []) s))
 
 module _ (c : Context) (t : List ℕ) (i : ℕ) (h : i < length t) where
-  -- What the reader of units, lent the rest of the text, tells at place i is the move there: the unit gives way, and stays within the text.
-  pub unit-here : (n ch code : ℕ) → Taken n ch ≡ escapeOf code → Finds (rows c) (take (length t - i) (drop i t)) (escapeOf code)
+  -- What the reader of units tells at place i is the move there: the unit gives way, and stays within the text.
+  pub unit-here : (n ch code : ℕ) → Taken n ch ≡ escapeOf code → Finds (rows c) (drop i t) (escapeOf code)
       → (byteStep c (before t i) (drop i t) ≡ swap (take n (drop i t)) (utf8 ch)) × ((1 ≤ n) × (i + n ≤ length t) × (length (utf8 ch) ≤ n) × (ch < 0x10000))
   unit-here n ch code told f =
-      let g : Finds (rows c) (take (length t - i) (drop i t)) (Taken n ch) = rw told f in
-      (takes-unit c (before t i) (drop i t) n ch (rw lent-rest at g), within-rest t i n ch (g .within))
+      let g : Finds (rows c) (drop i t) (Taken n ch) = rw told f in
+      (takes-unit c (before t i) (drop i t) n ch g, within-rest t i n ch (rw lent-rest (g .within)))
 
   -- Where none stands at that byte, nothing can be taken,
-  pub no-unit-here : (code : ℕ) → getD t i 0 ≡ markOf c → Nothing ≡ escapeOf code → Finds (rows c) (take (length t - i) (drop i t)) (escapeOf code)
+  pub no-unit-here : (code : ℕ) → getD t i 0 ≡ markOf c → Nothing ≡ escapeOf code → Finds (rows c) (drop i t) (escapeOf code)
       → byteStep c (before t i) (drop i t) ≡ stop
   no-unit-here code m told f =
-      let g : Finds (rows c) (take (length t - i) (drop i t)) Nothing = rw told f in
-      stops-there c (before t i) (drop i t) (rw (drop-next t i h, m) (mark-barred c (drop (i + 1) t))) (rw lent-rest at g)
+      let g : Finds (rows c) (drop i t) Nothing = rw told f in
+      stops-there c (before t i) (drop i t) (rw (drop-next t i h, m) (mark-barred c (drop (i + 1) t))) g
 
   -- nor at another replaced character.
   pub no-mark-here : (bytes : (k : ℕ) → getD t k 0 < 256) → (getD t i 0 ≡ markOf c → ⊥) → First (barAt (barsOf c) t) (length t) i i → byteStep c (before t i) (drop i t) ≡ stop

@@ -2,12 +2,13 @@
 ghost use mathlib.Core.Bool.{cond};
 ghost use mathlib.Core.List.{map};
 ghost use mathlib.Core.Path.{_≡_};
-ghost use Prim.Native.Nat.{_%_, _<_};
+ghost use Prim.Native.Nat.{_%_, _≤_, _<_};
+ghost use lib.ListN.{length, drop};
 ghost use Rattle.rules.specs.Bytes.{ascii, oneOf, stands};
 ghost use Rattle.rules.specs.Tables.{reference, others, htmlRows, rows};
 ghost use Rattle.rules.specs.declared.Html.the-variants.{Unquoted};
 ghost use Rattle.escapes.specs.Finds.{Finds};
-ghost use Rattle.escapes.specs.Strings.{escapeOf};
+ghost use Rattle.escapes.specs.Strings.{stringOf, escapeOf};
 ghost use Rattle.reader.specs.Bars.{htmlBars, barsOf};
 ghost use Rattle.reader.specs.Units.{isOther, markOf};
 use crate::bars;
@@ -15,6 +16,7 @@ use escapes::digits;
 use escapes::rows;
 use rules::Context;
 use rules::Html;
+use rules::Quotes;
 
 // Whether the byte has a named reference in `unquoted`.
 fn is_named(b: u8) -> bool
@@ -84,27 +86,36 @@ fn reference(rest: &[u8]) -> u32
     }
 }
 
-// The unit of an HTML context, so told: that of `unquoted`, where its character is one of the context's bars.
-fn html_unit(h: Html, bars: &[u8; 8], rest: &[u8]) -> u32
-    requires { ⌜ now bars ≡ htmlBars h ⌝ }
-    ensures { λ r. ⌜ Finds (htmlRows h) (now (rest .entry)) (escapeOf r) ⌝ }
+// The unit of an HTML context at place `at` of the text, so told: that of `unquoted`, where its character is one of the context's bars.
+fn html_unit(h: Html, bars: &[u8; 8], text: &[u8], at: usize) -> u32
+    requires { ⌜ (now bars ≡ htmlBars h) × (at ≤ length (now text)) ⌝ }
+    ensures { λ r. ⌜ Finds (htmlRows h) (drop at (now (text .entry))) (escapeOf r) ⌝ }
 {
-    let code = reference(rest);
+    let code = reference(&text[at..]);
     if bars::is_bar(bars, (code % 65536) as u8) {
         return code;
     }
     0
 }
 
-// The unit of the context that stands at the head of `rest`, as a number that tells an escape; 0 where none does. `bars` are those of the context.
-pub fn unit(c: Context, bars: &[u8; 8], rest: &[u8]) -> u32
-    requires { ⌜ now bars ≡ barsOf c ⌝ }
-    ensures { λ r. ⌜ Finds (rows c) (now (rest .entry)) (escapeOf r) ⌝ }
+// The unit of a script or style string there.
+fn string_unit(style: bool, quotes: Quotes, text: &[u8], at: usize) -> u32
+    requires { ⌜ at ≤ length (now text) ⌝ }
+    ensures { λ r. ⌜ Finds (rows (stringOf style quotes)) (drop at (now (text .entry))) (escapeOf r) ⌝ }
+{
+    rows::row_at(style, quotes, &text[at..])
+}
+
+// The unit of the context that stands at place `at` of the text, as a number that tells an escape; 0 where none does. `bars` are those of the
+// context. The place is a number of its own, as a part of the text would go through memory in each turn of a loop.
+pub fn unit(c: Context, bars: &[u8; 8], text: &[u8], at: usize) -> u32
+    requires { ⌜ (now bars ≡ barsOf c) × (at ≤ length (now text)) ⌝ }
+    ensures { λ r. ⌜ Finds (rows c) (drop at (now (text .entry))) (escapeOf r) ⌝ }
 {
     match c {
-        Context::InHtml(h) => html_unit(h, bars, rest),
-        Context::InScript(q) => rows::row_at(false, q, rest),
-        Context::InStyle(q) => rows::row_at(true, q, rest),
+        Context::InHtml(h) => html_unit(h, bars, text, at),
+        Context::InScript(q) => string_unit(false, q, text, at),
+        Context::InStyle(q) => string_unit(true, q, text, at),
     }
 }
 

@@ -67,17 +67,8 @@ loop-again c =
     let near = c .before .next-bar .ensures in
     counted-quiet (l .inv) e (near .after) (near .within) (clear-keeps (a .c) t (λ k. c .before .before .before .before .before .before .before .before .before .shared-slice-known .given k .fits) (l .i) e (rw (c .before .before .before .before .before .before .before .before .bars-of .ensures) at near))
 
-sub-unit : tie.Need-sub-unit Inv-loop μ-loop
-sub-unit c = search needs
-
-part-unit-start : tie.Need-part-unit-start Inv-loop μ-loop
-part-unit-start c = search needs
-
-part-unit-end : tie.Need-part-unit-end Inv-loop μ-loop
-part-unit-end c = search needs
-
 unit-requires : tie.Need-unit-requires Inv-loop μ-loop
-unit-requires c κs = c .before .before .before .before .before .before .before .bars-of .ensures
+unit-requires c κs = (c .before .before .before .before .before .before .bars-of .ensures, search needs)
 
 escape-of-requires : tie.Need-escape-of-requires Inv-loop μ-loop
 escape-of-requires c κs = search needs
@@ -90,19 +81,19 @@ enum-told c = search needs
 
 returns-2 : tie.Need-returns-2 Inv-loop μ-loop
 returns-2 c =
-    let a = c .before .before .before .before .before .before .before .before .before .before .before .before .before .args in
+    let a = c .before .before .before .before .before .before .before .before .before .before .before .before .args in
     let t = a .text .now in
-    let l = c .before .before .before .before .before .before .before .before .before .loop in
-    read-counted (a .c) t (l .i) _ _ (c .before .before .before .before .before .before .before .before .before .before .before .before .before .pre .1) (l .inv) (from-stop (byteStep (a .c)) t (l .i) (omega arith) (no-unit-here (a .c) t (l .i) (omega arith) (c .before .before .before .unit .result) (c .before .before .before .before .before .before .if1 .left ∙ c .before .before .before .before .before .before .before .before .before .before .mark-of .ensures) (sym (c .enum-told .given .1) ∙ c .before .before .escape-of .ensures) (c .before .before .before .unit .ensures)))
+    let l = c .before .before .before .before .before .before .before .before .loop in
+    read-counted (a .c) t (l .i) _ _ (c .before .before .before .before .before .before .before .before .before .before .before .before .pre .1) (l .inv) (from-stop (byteStep (a .c)) t (l .i) (omega arith) (no-unit-here (a .c) t (l .i) (omega arith) (c .before .before .before .unit .result) (c .before .before .before .before .before .if1 .left ∙ c .before .before .before .before .before .before .before .before .before .mark-of .ensures) (sym (c .enum-told .given .1) ∙ c .before .before .escape-of .ensures) (c .before .before .before .unit .ensures)))
 
 char-length-requires : tie.Need-char-length-requires Inv-loop μ-loop
 char-length-requires c κs = search needs
 
 add-length-2 : tie.Need-add-length-2 Inv-loop μ-loop
 add-length-2 c =
-    let a = c .before .before .before .before .before .before .before .before .before .before .before .before .before .before .before .args in
+    let a = c .before .before .before .before .before .before .before .before .before .before .before .before .before .before .args in
     let t = a .text .now in
-    let l = c .before .before .before .before .before .before .before .before .before .before .before .loop in
+    let l = c .before .before .before .before .before .before .before .before .before .before .loop in
     let n = c .before .before .n .given .0 .0 in
     let ch = c .before .before .n .given .0 .1 .0 in
     let u = unit-here (a .c) t (l .i) (omega arith) n ch (c .before .before .before .before .before .unit .result) (sym (c .before .before .n .given .1) ∙ c .before .before .before .before .escape-of .ensures) (c .before .before .before .before .before .unit .ensures) in
@@ -113,9 +104,9 @@ add-units c = search needs
 
 add-i : tie.Need-add-i Inv-loop μ-loop
 add-i c =
-    let a = c .before .before .before .before .before .before .before .before .before .before .before .before .before .before .before .args in
+    let a = c .before .before .before .before .before .before .before .before .before .before .before .before .before .before .args in
     let t = a .text .now in
-    let l = c .before .before .before .before .before .before .before .before .before .before .before .loop in
+    let l = c .before .before .before .before .before .before .before .before .before .before .loop in
     let n = c .before .before .n .given .0 .0 in
     let ch = c .before .before .n .given .0 .1 .0 in
     let u = unit-here (a .c) t (l .i) (omega arith) n ch (c .before .before .before .before .before .unit .result) (sym (c .before .before .n .given .1) ∙ c .before .before .before .before .escape-of .ensures) (c .before .before .before .before .before .unit .ensures) in
@@ -123,9 +114,9 @@ add-i c =
 
 loop-less-2 : tie.Need-loop-less-2 Inv-loop μ-loop
 loop-less-2 c =
-    let a = c .before .before .before .before .before .before .before .before .before .before .before .before .before .before .before .args in
+    let a = c .before .before .before .before .before .before .before .before .before .before .before .before .before .before .args in
     let t = a .text .now in
-    let l = c .before .before .before .before .before .before .before .before .before .before .before .loop in
+    let l = c .before .before .before .before .before .before .before .before .before .before .loop in
     let n = c .before .before .n .given .0 .0 in
     let ch = c .before .before .n .given .0 .1 .0 in
     let u = unit-here (a .c) t (l .i) (omega arith) n ch (c .before .before .before .before .before .unit .result) (sym (c .before .before .n .given .1) ∙ c .before .before .before .before .escape-of .ensures) (c .before .before .before .before .before .unit .ensures) in
@@ -133,9 +124,9 @@ loop-less-2 c =
 
 loop-again-2 : tie.Need-loop-again-2 Inv-loop μ-loop
 loop-again-2 c =
-    let a = c .before .before .before .before .before .before .before .before .before .before .before .before .before .before .before .args in
+    let a = c .before .before .before .before .before .before .before .before .before .before .before .before .before .before .args in
     let t = a .text .now in
-    let l = c .before .before .before .before .before .before .before .before .before .before .before .loop in
+    let l = c .before .before .before .before .before .before .before .before .before .before .loop in
     let n = c .before .before .n .given .0 .0 in
     let ch = c .before .before .n .given .0 .1 .0 in
     let u = unit-here (a .c) t (l .i) (omega arith) n ch (c .before .before .before .before .before .unit .result) (sym (c .before .before .n .given .1) ∙ c .before .before .before .before .escape-of .ensures) (c .before .before .before .before .before .unit .ensures) in
@@ -164,9 +155,6 @@ measure-spec =
     add-length
     loop-less
     loop-again
-    sub-unit
-    part-unit-start
-    part-unit-end
     unit-requires
     escape-of-requires
     enum-known-n

@@ -107,17 +107,8 @@ loop-again c =
     let next = next-quiet (byteStep (a .c)) t (l .i) e (near .after) (near .within) (clear-keeps (a .c) t (λ k. c .before .before .before .before .before .before .before .before .before .before .before .before .before .before .before .shared-slice-known .given k .fits) (l .i) e (rw (c .before .before .before .before .before .before .before .before .before .before .before .before .before .bars-of .ensures) at near)) in
     (near .within, filled-put (l .inv .1) next (c .before .before .put .last .1 .0) (c .before .before .put .result) (c .before .before .put .ensures .0) (c .before .before .put .ensures .1))
 
-sub-unit : tie.Need-sub-unit Inv-loop μ-loop
-sub-unit c = search needs
-
-part-unit-start : tie.Need-part-unit-start Inv-loop μ-loop
-part-unit-start c = search needs
-
-part-unit-end : tie.Need-part-unit-end Inv-loop μ-loop
-part-unit-end c = search needs
-
 unit-requires : tie.Need-unit-requires Inv-loop μ-loop
-unit-requires c κs = c .before .before .before .before .before .before .before .bars-of .ensures
+unit-requires c κs = (c .before .before .before .before .before .before .bars-of .ensures, search needs)
 
 escape-of-requires : tie.Need-escape-of-requires Inv-loop μ-loop
 escape-of-requires c κs = search needs
@@ -133,25 +124,25 @@ same-length-2 c = search needs
 
 returns-2 : tie.Need-returns-2 Inv-loop μ-loop
 returns-2 c =
-    let a = c .before .before .before .before .before .before .before .before .before .before .before .before .before .before .args in
+    let a = c .before .before .before .before .before .before .before .before .before .before .before .before .before .args in
     let t = a .text .now in
-    let l = c .before .before .before .before .before .before .before .before .before .loop in
-    filled-all (l .inv .1) (ap result (from-stop (byteStep (a .c)) t (l .i) (omega arith) (no-unit-here (a .c) t (l .i) (omega arith) (c .before .before .before .unit .result) (c .before .before .before .before .before .before .if1 .left ∙ c .before .before .before .before .before .before .before .before .before .before .mark-of .ensures) (sym (c .enum-told .given .1) ∙ c .before .before .escape-of .ensures) (c .before .before .before .unit .ensures))))
+    let l = c .before .before .before .before .before .before .before .before .loop in
+    filled-all (l .inv .1) (ap result (from-stop (byteStep (a .c)) t (l .i) (omega arith) (no-unit-here (a .c) t (l .i) (omega arith) (c .before .before .before .unit .result) (c .before .before .before .before .before .if1 .left ∙ c .before .before .before .before .before .before .before .before .before .mark-of .ensures) (sym (c .enum-told .given .1) ∙ c .before .before .escape-of .ensures) (c .before .before .before .unit .ensures))))
 
 sub-put-char : tie.Need-sub-put-char Inv-loop μ-loop
-sub-put-char c = filled-within (c .before .before .before .before .before .before .before .before .before .before .loop .inv .1)
+sub-put-char c = filled-within (c .before .before .before .before .before .before .before .before .before .loop .inv .1)
 
 part-put-char-start : tie.Need-part-put-char-start Inv-loop μ-loop
-part-put-char-start c = filled-within (c .before .before .before .before .before .before .before .before .before .before .loop .inv .1)
+part-put-char-start c = filled-within (c .before .before .before .before .before .before .before .before .before .loop .inv .1)
 
 part-put-char-end : tie.Need-part-put-char-end Inv-loop μ-loop
 part-put-char-end c = search needs
 
 put-char-requires : tie.Need-put-char-requires Inv-loop μ-loop
 put-char-requires c κs =
-    let a = c .before .before .before .before .before .before .before .before .before .before .before .before .before .before .before .before .args in
+    let a = c .before .before .before .before .before .before .before .before .before .before .before .before .before .before .before .args in
     let t = a .text .now in
-    let l = c .before .before .before .before .before .before .before .before .before .before .before .loop in
+    let l = c .before .before .before .before .before .before .before .before .before .before .loop in
     let n = c .before .before .n .given .0 .0 in
     let ch = c .before .before .n .given .0 .1 .0 in
     let u = unit-here (a .c) t (l .i) (omega arith) n ch (c .before .before .before .before .before .unit .result) (sym (c .before .before .n .given .1) ∙ c .before .before .before .before .escape-of .ensures) (c .before .before .before .before .before .unit .ensures) in
@@ -160,9 +151,9 @@ put-char-requires c κs =
 
 add-at-2 : tie.Need-add-at-2 Inv-loop μ-loop
 add-at-2 c =
-    let a = c .before .before .before .before .before .before .before .before .before .before .before .before .before .before .before .before .before .before .before .args in
+    let a = c .before .before .before .before .before .before .before .before .before .before .before .before .before .before .before .before .before .before .args in
     let t = a .text .now in
-    let l = c .before .before .before .before .before .before .before .before .before .before .before .before .before .before .loop in
+    let l = c .before .before .before .before .before .before .before .before .before .before .before .before .before .loop in
     let n = c .before .before .before .before .before .n .given .0 .0 in
     let ch = c .before .before .before .before .before .n .given .0 .1 .0 in
     let u = unit-here (a .c) t (l .i) (omega arith) n ch (c .before .before .before .before .before .before .before .before .unit .result) (sym (c .before .before .before .before .before .n .given .1) ∙ c .before .before .before .before .before .before .before .escape-of .ensures) (c .before .before .before .before .before .before .before .before .unit .ensures) in
@@ -171,9 +162,9 @@ add-at-2 c =
 
 add-i : tie.Need-add-i Inv-loop μ-loop
 add-i c =
-    let a = c .before .before .before .before .before .before .before .before .before .before .before .before .before .before .before .before .before .before .before .args in
+    let a = c .before .before .before .before .before .before .before .before .before .before .before .before .before .before .before .before .before .before .args in
     let t = a .text .now in
-    let l = c .before .before .before .before .before .before .before .before .before .before .before .before .before .before .loop in
+    let l = c .before .before .before .before .before .before .before .before .before .before .before .before .before .loop in
     let n = c .before .before .before .before .before .n .given .0 .0 in
     let ch = c .before .before .before .before .before .n .given .0 .1 .0 in
     let u = unit-here (a .c) t (l .i) (omega arith) n ch (c .before .before .before .before .before .before .before .before .unit .result) (sym (c .before .before .before .before .before .n .given .1) ∙ c .before .before .before .before .before .before .before .escape-of .ensures) (c .before .before .before .before .before .before .before .before .unit .ensures) in
@@ -181,9 +172,9 @@ add-i c =
 
 loop-less-2 : tie.Need-loop-less-2 Inv-loop μ-loop
 loop-less-2 c =
-    let a = c .before .before .before .before .before .before .before .before .before .before .before .before .before .before .before .before .before .before .before .args in
+    let a = c .before .before .before .before .before .before .before .before .before .before .before .before .before .before .before .before .before .before .args in
     let t = a .text .now in
-    let l = c .before .before .before .before .before .before .before .before .before .before .before .before .before .before .loop in
+    let l = c .before .before .before .before .before .before .before .before .before .before .before .before .before .loop in
     let n = c .before .before .before .before .before .n .given .0 .0 in
     let ch = c .before .before .before .before .before .n .given .0 .1 .0 in
     let u = unit-here (a .c) t (l .i) (omega arith) n ch (c .before .before .before .before .before .before .before .before .unit .result) (sym (c .before .before .before .before .before .n .given .1) ∙ c .before .before .before .before .before .before .before .escape-of .ensures) (c .before .before .before .before .before .before .before .before .unit .ensures) in
@@ -191,9 +182,9 @@ loop-less-2 c =
 
 loop-again-2 : tie.Need-loop-again-2 Inv-loop μ-loop
 loop-again-2 c =
-    let a = c .before .before .before .before .before .before .before .before .before .before .before .before .before .before .before .before .before .before .before .args in
+    let a = c .before .before .before .before .before .before .before .before .before .before .before .before .before .before .before .before .before .before .args in
     let t = a .text .now in
-    let l = c .before .before .before .before .before .before .before .before .before .before .before .before .before .before .loop in
+    let l = c .before .before .before .before .before .before .before .before .before .before .before .before .before .loop in
     let n = c .before .before .before .before .before .n .given .0 .0 in
     let ch = c .before .before .before .before .before .n .given .0 .1 .0 in
     let u = unit-here (a .c) t (l .i) (omega arith) n ch (c .before .before .before .before .before .before .before .before .unit .result) (sym (c .before .before .before .before .before .n .given .1) ∙ c .before .before .before .before .before .before .before .escape-of .ensures) (c .before .before .before .before .before .before .before .before .unit .ensures) in
@@ -233,9 +224,6 @@ write-spec =
     add-at
     loop-less
     loop-again
-    sub-unit
-    part-unit-start
-    part-unit-end
     unit-requires
     escape-of-requires
     enum-known-n

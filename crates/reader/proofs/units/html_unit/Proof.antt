@@ -2,10 +2,21 @@
 -- Assumes nothing.
 use mathlib.Core.Path.{sym, _∙_}
 use native.Mathlib.Omega.{arith}
+use lib.ListN.{drop}
+use Rattle.parts.proofs.Filled.{lent-rest}
 use Rattle.reader.proofs.Narrow.{html-kept, html-dropped}
 use borrow.Author.Needs.{needs}
 use Rattle.reader.proofs.units.html_unit.Statement.{statement}
 use Rattle.reader.proofs.units.html_unit.Tie as tie
+
+sub-reference : tie.Need-sub-reference
+sub-reference c = search needs
+
+part-reference-start : tie.Need-part-reference-start
+part-reference-start c = search needs
+
+part-reference-end : tie.Need-part-reference-end
+part-reference-end c = search needs
 
 reference-requires : tie.Need-reference-requires
 reference-requires c κs = search needs
@@ -18,16 +29,25 @@ is-bar-requires c κs = search needs
 
 returns : tie.Need-returns
 returns c =
-    let a = c .before .before .before .before .args in
+    let a = c .before .before .before .before .before .args in
     let r = c .before .before .reference in
-    html-kept (a .h) (a .rest .now) (r .result) (r .ensures .1) (rw (← c .before .before .before .before .pre) (sym (c .before .is-bar .ensures) ∙ c .if1 .taken)) (r .ensures .0)
+    html-kept (a .h) (drop (a .at) (a .text .now)) (r .result) (r .ensures .1) (rw (← c .before .before .before .before .before .pre .0) (sym (c .before .is-bar .ensures) ∙ c .if1 .taken)) (rw lent-rest at (r .ensures .0))
 
 returns-2 : tie.Need-returns-2
 returns-2 c =
-    let a = c .before .before .before .before .args in
+    let a = c .before .before .before .before .before .args in
     let r = c .before .before .reference in
-    html-dropped (a .h) (a .rest .now) (r .result) (r .ensures .1) (rw (← c .before .before .before .before .pre) (sym (c .before .is-bar .ensures) ∙ c .if1 .left)) (r .ensures .0)
+    html-dropped (a .h) (drop (a .at) (a .text .now)) (r .result) (r .ensures .1) (rw (← c .before .before .before .before .before .pre .0) (sym (c .before .is-bar .ensures) ∙ c .if1 .left)) (rw lent-rest at (r .ensures .0))
 
 pub html-unit-spec : {M : Type 1} → statement M
 html-unit-spec =
-    tie.close (tie.spec reference-requires cast-is-bar is-bar-requires returns returns-2)
+    tie.close
+    (tie.spec
+    sub-reference
+    part-reference-start
+    part-reference-end
+    reference-requires
+    cast-is-bar
+    is-bar-requires
+    returns
+    returns-2)

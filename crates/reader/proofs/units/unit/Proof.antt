@@ -8,28 +8,28 @@ enum-known-c : tie.Need-enum-known-c
 enum-known-c c = search needs
 
 html-unit-requires : tie.Need-html-unit-requires
-html-unit-requires c κs = rw (c .before .c .given .1) at (c .before .before .before .before .pre)
+html-unit-requires c κs = (rw (c .before .c .given .1) at (c .before .before .before .before .pre .0), c .before .before .before .before .pre .1)
 
 enum-known-c-2 : tie.Need-enum-known-c-2
 enum-known-c-2 c = search needs
 
-row-at-requires : tie.Need-row-at-requires
-row-at-requires c κs = search needs
+string-unit-requires : tie.Need-string-unit-requires
+string-unit-requires c κs = search needs
 
 enum-known-c-3 : tie.Need-enum-known-c-3
 enum-known-c-3 c = search needs
 
-row-at-requires-2 : tie.Need-row-at-requires-2
-row-at-requires-2 c κs = search needs
+string-unit-requires-2 : tie.Need-string-unit-requires-2
+string-unit-requires-2 c κs = search needs
 
 returns : tie.Need-returns
 returns c = rw (c .before .before .c .given .1) (c .html-unit .ensures)
 
 returns-2 : tie.Need-returns-2
-returns-2 c = rw (c .before .before .c2 .given .1) (c .row-at .ensures)
+returns-2 c = rw (c .before .before .c2 .given .1) (c .string-unit .ensures)
 
 returns-3 : tie.Need-returns-3
-returns-3 c = rw (c .before .before .c3 .given .1) (c .row-at2 .ensures)
+returns-3 c = rw (c .before .before .c3 .given .1) (c .string-unit2 .ensures)
 
 pub unit-spec : {M : Type 1} → statement M
 unit-spec =
@@ -38,9 +38,9 @@ unit-spec =
     enum-known-c
     html-unit-requires
     enum-known-c-2
-    row-at-requires
+    string-unit-requires
     enum-known-c-3
-    row-at-requires-2
+    string-unit-requires-2
     returns
     returns-2
     returns-3)
