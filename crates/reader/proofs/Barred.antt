@@ -32,7 +32,7 @@ use Rattle.escapes.specs.Finds.{Finds}
 use Rattle.escapes.specs.Strings.{escapeOf}
 use Rattle.escapes.proofs.Strings.{within-rest}
 use Rattle.heads.proofs.Standing.{agree, agreed}
-use Rattle.reader.specs.Bars.{htmlBars, barsOf, isBar, isWhole, barAt}
+use Rattle.reader.specs.Bars.{htmlBars, barsOf, isBar, setOf, inSet, Same, isWhole, barAt}
 use Rattle.reader.specs.Units.{markOf, byteStep}
 use Rattle.reader.proofs.Placed.{finds-none, has, none-there}
 
@@ -122,6 +122,13 @@ unfolding isBar
 ranges c b h =
     agreed (isBar (barsOf c) b) (oneOf (ones (replacedChars c)) b || (eqb b 0xE2 && separates c))
     (every-byte (ranged c) (every (λ (c : Context). all (ranged c) (count 0 256)) tt c) b h)
+
+-- The set has the bars.
+pub set-same : (c : Context) → Same (barsOf c) (setOf c)
+unfolding isBar inSet
+set-same c b h =
+    agreed (inSet (setOf c) b) (isBar (barsOf c) b)
+    (every-byte (λ (b : ℕ). agree (inSet (setOf c) b) (isBar (barsOf c) b)) (every (λ (c : Context). all (λ (b : ℕ). agree (inSet (setOf c) b) (isBar (barsOf c) b)) (count 0 256)) tt c) b h)
 
 alone : (ks : List (List ℕ)) (b : ℕ) → any (sameBytes (b ∷ [])) ks ≡ oneOf (ones ks) b
 alone [] b = refl

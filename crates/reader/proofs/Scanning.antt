@@ -3,12 +3,12 @@
 use mathlib.Core.Bool.{Bool, true, false, _&&_, and-false}
 use mathlib.Core.Path.{_≡_, sym, ap, _∙_}
 use mathlib.Core.List.{List}
-use Prim.Native.Nat.{ℕ, _+_, _-_, _≤_}
+use Prim.Native.Nat.{ℕ, _+_, _-_, _≤_, _<_}
 use native.Mathlib.Omega.{arith}
 use lib.ListN.{length, take, drop, getD}
-use Rattle.parts.specs.First.{Free}
+use Rattle.parts.specs.First.{Free, First}
 use Rattle.parts.proofs.Part.{part-length, part-at}
-use Rattle.reader.specs.Bars.{isBar, isWhole, beginsAt, barAt}
+use Rattle.reader.specs.Bars.{isBar, Same, isWhole, beginsAt, memberAt, barAt}
 
 -- A part in which the count is 0.
 pub out-part : (bars t : List ℕ) (i e : ℕ) → i ≤ e → e ≤ length t
@@ -18,6 +18,15 @@ out-part bars t i e h l f k a b =
     ap (λ (n : ℕ). isBar bars (getD t n 0)) (sym s)
     ∙ ap (isBar bars) (sym (part-at t i e (k - i) (omega arith)))
     ∙ f (k - i) (omega arith) (omega (arith, part-length t i e h l))
+
+-- The first place of a byte of the set is the first where one begins.
+pub first-same : (bars set t : List ℕ) (end a r : ℕ) → Same bars set → ((k : ℕ) → getD t k 0 < 256) → First (memberAt set t) end a r → First (beginsAt bars t) end a r
+first-same bars set t end a r e bytes f = record {
+  after = f .after;
+  within = f .within;
+  none = λ k h l. sym (e (getD t k 0) (bytes k)) ∙ f .none k h l;
+  here = λ h. sym (e (getD t r 0) (bytes r)) ∙ f .here h;
+}
 
 -- Where none begins with the byte, no replaced character stands.
 pub out-plain : (bars t : List ℕ) (a e : ℕ) → Free (beginsAt bars t) a e → Free (barAt bars t) a e

@@ -4,7 +4,7 @@ ghost use mathlib.Core.Path.{_≡_};
 ghost use Prim.Native.Nat.{_≤_, _<_};
 ghost use lib.ListN.{length};
 ghost use Rattle.parts.specs.First.{Free, First};
-ghost use Rattle.reader.specs.Bars.{htmlBars, stringBars, barsOf, isBar, isWhole, beginsAt, barAt};
+ghost use Rattle.reader.specs.Bars.{htmlBars, stringBars, barsOf, isBar, htmlSet, stringSet, setOf, inSet, Same, isWhole, beginsAt, memberAt, barAt};
 use rules::Context;
 use rules::Html;
 use rules::Quotes;
@@ -59,6 +59,51 @@ pub fn is_bar(bars: &[u8; 8], b: u8) -> bool
     ranged | (b == bars[2]) | (b == bars[3]) | (b == bars[4]) | (b == bars[5]) | (b == bars[6])
 }
 
+// The same bytes as a set of 256 bits, in words of 64: in an HTML context,
+fn html_set(h: Html) -> [u64; 4]
+    ensures { λ r. ⌜ r ≡ htmlSet h ⌝ }
+{
+    match h {
+        Html::TextMinimal => [0x1000004000000000, 0, 0, 0],
+        Html::Text => [0x5000004000000000, 0, 0, 0],
+        Html::DoubleQuoted => [0x5000004400000000, 0, 0, 0],
+        Html::SingleQuoted => [0x500000C000000000, 0, 0, 0],
+        Html::Quoted => [0x500000C400000000, 0, 0, 0],
+        Html::Safe => [0x500080C400000000, 0, 0, 0],
+        Html::Unquoted => [0xFC00FFFFFFFFFFFF, 0xF8000001F8000001, 0, 0],
+    }
+}
+
+// in a string, where `last` is the last word,
+fn string_set(q: Quotes, last: u64) -> [u64; 4]
+    ensures { λ r. ⌜ r ≡ stringSet q last ⌝ }
+{
+    match q {
+        Quotes::Single => [0x10000080FFFFFFFF, 0x10000000, 0, last],
+        Quotes::Double => [0x10000004FFFFFFFF, 0x10000000, 0, last],
+        Quotes::Both => [0x10000084FFFFFFFF, 0x10000000, 0, last],
+    }
+}
+
+// and in every context.
+pub fn set_of(c: Context) -> [u64; 4]
+    ensures { λ r. ⌜ r ≡ setOf c ⌝ }
+{
+    match c {
+        Context::InHtml(h) => html_set(h),
+        Context::InScript(q) => string_set(q, 0x400000000),
+        Context::InStyle(q) => string_set(q, 0),
+    }
+}
+
+// Whether the byte is in the set: the quick way for one byte, where `is_bar` is that for many at once.
+fn is_in(set: &[u64; 4], b: u8) -> bool
+    ensures { λ r. ⌜ r ≡ inSet (now (set .entry)) b ⌝ }
+{
+    let word = set[(b / 64) as usize];
+    (word >> ((b % 64) as u32)) % 2 == 1
+}
+
 // 1 where a replaced character begins with the byte, else 0.
 fn hit(bars: &[u8; 8], b: u8) -> u8
     ensures { λ r. ⌜ (r ≤ 1) × (r ≡ 0 → isBar (now (bars .entry)) b ≡ false) ⌝ }
@@ -96,19 +141,36 @@ fn pass(bars: &[u8; 8], text: &[u8], from: usize) -> usize
     i
 }
 
-// The first place at or after `from` of such a byte, or the text's length.
-fn find(bars: &[u8; 8], text: &[u8], from: usize) -> usize
-    requires { ⌜ from ≤ length (now text) ⌝ }
-    ensures { λ r. ⌜ First (beginsAt (now (bars .entry)) (now (text .entry))) (length (now (text .entry))) from r ⌝ }
+// The first place at or after `from` and before `end` of a byte of the set, or `end`: byte by byte.
+fn walk(set: &[u64; 4], text: &[u8], from: usize, end: usize) -> usize
+    requires { ⌜ (from ≤ end) × (end ≤ length (now text)) ⌝ }
+    ensures { λ r. ⌜ First (memberAt (now (set .entry)) (now (text .entry))) end from r ⌝ }
 {
-    let mut i = pass(bars, text, from);
-    while i < text.len() {
-        if is_bar(bars, text[i]) {
+    let mut i = from;
+    while i < end {
+        if is_in(set, text[i]) {
             return i;
         }
         i += 1;
     }
     i
+}
+
+// The first place at or after `from` of a byte that begins a replaced character, or the text's length. The next sixteen bytes are gone through one
+// by one, as it is often among them; then parts are passed, and the one that has it is gone through.
+fn find(bars: &[u8; 8], set: &[u64; 4], text: &[u8], from: usize) -> usize
+    requires { ⌜ Same (now bars) (now set) × (from ≤ length (now text)) ⌝ }
+    ensures { λ r. ⌜ First (beginsAt (now (bars .entry)) (now (text .entry))) (length (now (text .entry))) from r ⌝ }
+{
+    if from == text.len() {
+        return from;
+    }
+    let near = parts::clip(from, text.len(), 16);
+    let i = walk(set, text, from, near);
+    if i < near {
+        return i;
+    }
+    walk(set, text, pass(bars, text, near), text.len())
 }
 
 // Whether what `rest` begins with is not another character that begins as U+2028 does.
@@ -126,16 +188,16 @@ fn is_whole(rest: &[u8]) -> bool
 }
 
 // The first place at or after `from` where a replaced character stands, or the text's length.
-pub fn next_bar(bars: &[u8; 8], text: &[u8], from: usize) -> usize
-    requires { ⌜ from ≤ length (now text) ⌝ }
+pub fn next_bar(bars: &[u8; 8], set: &[u64; 4], text: &[u8], from: usize) -> usize
+    requires { ⌜ Same (now bars) (now set) × (from ≤ length (now text)) ⌝ }
     ensures { λ r. ⌜ First (barAt (now (bars .entry)) (now (text .entry))) (length (now (text .entry))) from r ⌝ }
 {
-    let mut i = find(bars, text, from);
+    let mut i = find(bars, set, text, from);
     while i < text.len() {
         if is_whole(&text[i..]) {
             return i;
         }
-        i = find(bars, text, i + 1);
+        i = find(bars, set, text, i + 1);
     }
     i
 }

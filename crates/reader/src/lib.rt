@@ -29,13 +29,14 @@ pub fn measure(c: Context, text: &[u8]) -> Measured
     ensures { λ r. ⌜ (r .length ≡ length (readOf c (now (text .entry)))) × (r .place ≡ readTo c (now (text .entry))) × (r .same ≡ eqb (replaced (through (readStep c) (now (text .entry)))) 0) ⌝ }
 {
     let bars = bars::bars_of(c);
+    let set = bars::set_of(c);
     let mark = units::mark_of(c);
     let mut length: usize = 0;
     let mut units: usize = 0;
     let mut i: usize = 0;
     while i < text.len() {
         if text[i] != mark {
-            let e = bars::next_bar(&bars, text, i);
+            let e = bars::next_bar(&bars, &set, text, i);
             if e == i {
                 return Measured {
                     length,
@@ -73,12 +74,13 @@ pub fn write(c: Context, text: &[u8], output: &mut [u8]) -> usize
     ensures { λ r. ⌜ (r ≡ length (readOf c (now (text .entry)))) × (now (output .exit) ≡ over (readOf c (now (text .entry))) (now (output .entry))) ⌝ }
 {
     let bars = bars::bars_of(c);
+    let set = bars::set_of(c);
     let mark = units::mark_of(c);
     let mut at: usize = 0;
     let mut i: usize = 0;
     while i < text.len() {
         if text[i] != mark {
-            let e = bars::next_bar(&bars, text, i);
+            let e = bars::next_bar(&bars, &set, text, i);
             if e == i {
                 return at;
             }

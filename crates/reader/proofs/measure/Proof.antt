@@ -10,38 +10,41 @@ use Rattle.rules.specs.Utf8.{utf8}
 use Rattle.reader.specs.Units.{byteStep}
 use Rattle.parts.proofs.Counted.{Counted, counted-start, counted-quiet, counted-swap}
 use Rattle.reader.proofs.Bytewise.{read-counted}
-use Rattle.reader.proofs.Barred.{clear-keeps, unit-here, no-unit-here, no-mark-here}
+use Rattle.reader.proofs.Barred.{set-same, clear-keeps, unit-here, no-unit-here, no-mark-here}
 use borrow.Author.Needs.{needs}
 use Rattle.reader.proofs.measure.Statement.{statement}
 use Rattle.reader.proofs.measure.Tie as tie
 
 abbrev Inv-loop : tie.InvT-loop
-Inv-loop c text bars mark n₀ k₀ i₀ n k i = Counted (byteStep c) text i n k
+Inv-loop c text bars set mark n₀ k₀ i₀ n k i = Counted (byteStep c) text i n k
 
 abbrev μ-loop : tie.MeasureT-loop
-μ-loop c text bars mark n₀ k₀ i₀ n k i = length text - i
+μ-loop c text bars set mark n₀ k₀ i₀ n k i = length text - i
 
 bars-of-requires : tie.Need-bars-of-requires Inv-loop μ-loop
 bars-of-requires c κs = search needs
+
+set-of-requires : tie.Need-set-of-requires Inv-loop μ-loop
+set-of-requires c κs = search needs
 
 mark-of-requires : tie.Need-mark-of-requires Inv-loop μ-loop
 mark-of-requires c κs = search needs
 
 loop-holds : tie.Need-loop-holds Inv-loop μ-loop
-loop-holds c = counted-start (byteStep (c .before .before .before .args .c)) (c .before .before .before .args .text .now)
+loop-holds c = counted-start (byteStep (c .before .before .before .before .args .c)) (c .before .before .before .before .args .text .now)
 
 shared-slice-read-if1 : tie.Need-shared-slice-read-if1 Inv-loop μ-loop
 shared-slice-read-if1 c = search needs
 
 next-bar-requires : tie.Need-next-bar-requires Inv-loop μ-loop
-next-bar-requires c κs = search needs
+next-bar-requires c κs = (rw (c .before .before .before .before .before .before .before .before .bars-of .ensures, c .before .before .before .before .before .before .before .set-of .ensures) (set-same (c .before .before .before .before .before .before .before .before .before .before .args .c)), search needs)
 
 returns : tie.Need-returns Inv-loop μ-loop
 returns c =
-    let a = c .before .before .before .before .before .before .before .before .before .before .args in
+    let a = c .before .before .before .before .before .before .before .before .before .before .before .before .args in
     let t = a .text .now in
-    let l = c .before .before .before .before .before .before .loop in
-    read-counted (a .c) t (l .i) _ _ (c .before .before .before .before .before .before .before .before .before .before .pre .1) (l .inv) (from-stop (byteStep (a .c)) t (l .i) (omega arith) (no-mark-here (a .c) t (l .i) (omega arith) (λ k. c .before .before .before .before .before .before .before .before .before .shared-slice-known .given k .fits) (λ z. c .before .before .before .if1 .taken (z ∙ sym (c .before .before .before .before .before .before .before .mark-of .ensures))) (rw (c .before .before .before .before .before .before .before .before .bars-of .ensures, c .if2 .taken) at (c .before .next-bar .ensures))))
+    let l = c .before .before .before .before .before .before .before .loop in
+    read-counted (a .c) t (l .i) _ _ (c .before .before .before .before .before .before .before .before .before .before .before .before .pre .1) (l .inv) (from-stop (byteStep (a .c)) t (l .i) (omega arith) (no-mark-here (a .c) t (l .i) (omega arith) (λ k. c .before .before .before .before .before .before .before .before .before .before .before .shared-slice-known .given k .fits) (λ z. c .before .before .before .before .if1 .taken (z ∙ sym (c .before .before .before .before .before .before .before .before .mark-of .ensures))) (rw (c .before .before .before .before .before .before .before .before .before .before .bars-of .ensures, c .if2 .taken) at (c .before .next-bar .ensures))))
 
 sub-length : tie.Need-sub-length Inv-loop μ-loop
 sub-length c = search needs
@@ -51,24 +54,24 @@ add-length c = search needs
 
 loop-less : tie.Need-loop-less Inv-loop μ-loop
 loop-less c =
-    let a = c .before .before .before .before .before .before .before .before .before .before .args in
+    let a = c .before .before .before .before .before .before .before .before .before .before .before .before .args in
     let t = a .text .now in
-    let l = c .before .before .before .before .before .before .loop in
+    let l = c .before .before .before .before .before .before .before .loop in
     let e = c .before .next-bar .result in
     let near = c .before .next-bar .ensures in
     omega (arith, near .after, near .within, c .if2 .left)
 
 loop-again : tie.Need-loop-again Inv-loop μ-loop
 loop-again c =
-    let a = c .before .before .before .before .before .before .before .before .before .before .args in
+    let a = c .before .before .before .before .before .before .before .before .before .before .before .before .args in
     let t = a .text .now in
-    let l = c .before .before .before .before .before .before .loop in
+    let l = c .before .before .before .before .before .before .before .loop in
     let e = c .before .next-bar .result in
     let near = c .before .next-bar .ensures in
-    counted-quiet (l .inv) e (near .after) (near .within) (clear-keeps (a .c) t (λ k. c .before .before .before .before .before .before .before .before .before .shared-slice-known .given k .fits) (l .i) e (rw (c .before .before .before .before .before .before .before .before .bars-of .ensures) at near))
+    counted-quiet (l .inv) e (near .after) (near .within) (clear-keeps (a .c) t (λ k. c .before .before .before .before .before .before .before .before .before .before .before .shared-slice-known .given k .fits) (l .i) e (rw (c .before .before .before .before .before .before .before .before .before .before .bars-of .ensures) at near))
 
 unit-requires : tie.Need-unit-requires Inv-loop μ-loop
-unit-requires c κs = (c .before .before .before .before .before .before .bars-of .ensures, search needs)
+unit-requires c κs = (c .before .before .before .before .before .before .before .bars-of .ensures, search needs)
 
 escape-of-requires : tie.Need-escape-of-requires Inv-loop μ-loop
 escape-of-requires c κs = search needs
@@ -81,17 +84,17 @@ enum-told c = search needs
 
 returns-2 : tie.Need-returns-2 Inv-loop μ-loop
 returns-2 c =
-    let a = c .before .before .before .before .before .before .before .before .before .before .before .before .args in
+    let a = c .before .before .before .before .before .before .before .before .before .before .before .before .before .args in
     let t = a .text .now in
     let l = c .before .before .before .before .before .before .before .before .loop in
-    read-counted (a .c) t (l .i) _ _ (c .before .before .before .before .before .before .before .before .before .before .before .before .pre .1) (l .inv) (from-stop (byteStep (a .c)) t (l .i) (omega arith) (no-unit-here (a .c) t (l .i) (omega arith) (c .before .before .before .unit .result) (c .before .before .before .before .before .if1 .left ∙ c .before .before .before .before .before .before .before .before .before .mark-of .ensures) (sym (c .enum-told .given .1) ∙ c .before .before .escape-of .ensures) (c .before .before .before .unit .ensures)))
+    read-counted (a .c) t (l .i) _ _ (c .before .before .before .before .before .before .before .before .before .before .before .before .before .pre .1) (l .inv) (from-stop (byteStep (a .c)) t (l .i) (omega arith) (no-unit-here (a .c) t (l .i) (omega arith) (c .before .before .before .unit .result) (c .before .before .before .before .before .if1 .left ∙ c .before .before .before .before .before .before .before .before .before .mark-of .ensures) (sym (c .enum-told .given .1) ∙ c .before .before .escape-of .ensures) (c .before .before .before .unit .ensures)))
 
 char-length-requires : tie.Need-char-length-requires Inv-loop μ-loop
 char-length-requires c κs = search needs
 
 add-length-2 : tie.Need-add-length-2 Inv-loop μ-loop
 add-length-2 c =
-    let a = c .before .before .before .before .before .before .before .before .before .before .before .before .before .before .args in
+    let a = c .before .before .before .before .before .before .before .before .before .before .before .before .before .before .before .args in
     let t = a .text .now in
     let l = c .before .before .before .before .before .before .before .before .before .before .loop in
     let n = c .before .before .n .given .0 .0 in
@@ -104,7 +107,7 @@ add-units c = search needs
 
 add-i : tie.Need-add-i Inv-loop μ-loop
 add-i c =
-    let a = c .before .before .before .before .before .before .before .before .before .before .before .before .before .before .args in
+    let a = c .before .before .before .before .before .before .before .before .before .before .before .before .before .before .before .args in
     let t = a .text .now in
     let l = c .before .before .before .before .before .before .before .before .before .before .loop in
     let n = c .before .before .n .given .0 .0 in
@@ -114,7 +117,7 @@ add-i c =
 
 loop-less-2 : tie.Need-loop-less-2 Inv-loop μ-loop
 loop-less-2 c =
-    let a = c .before .before .before .before .before .before .before .before .before .before .before .before .before .before .args in
+    let a = c .before .before .before .before .before .before .before .before .before .before .before .before .before .before .before .args in
     let t = a .text .now in
     let l = c .before .before .before .before .before .before .before .before .before .before .loop in
     let n = c .before .before .n .given .0 .0 in
@@ -124,7 +127,7 @@ loop-less-2 c =
 
 loop-again-2 : tie.Need-loop-again-2 Inv-loop μ-loop
 loop-again-2 c =
-    let a = c .before .before .before .before .before .before .before .before .before .before .before .before .before .before .args in
+    let a = c .before .before .before .before .before .before .before .before .before .before .before .before .before .before .before .args in
     let t = a .text .now in
     let l = c .before .before .before .before .before .before .before .before .before .before .loop in
     let n = c .before .before .n .given .0 .0 in
@@ -134,10 +137,10 @@ loop-again-2 c =
 
 returns-3 : tie.Need-returns-3 Inv-loop μ-loop
 returns-3 c =
-    let a = c .before .before .before .before .before .args in
+    let a = c .before .before .before .before .before .before .args in
     let t = a .text .now in
     let l = c .before .loop in
-    read-counted (a .c) t (l .i) _ _ (c .before .before .before .before .before .pre .1) (l .inv) (from-end (byteStep (a .c)) t (l .i) (omega arith))
+    read-counted (a .c) t (l .i) _ _ (c .before .before .before .before .before .before .pre .1) (l .inv) (from-end (byteStep (a .c)) t (l .i) (omega arith))
 
 pub measure-spec : {M : Type 1} → statement M
 measure-spec =
@@ -146,6 +149,7 @@ measure-spec =
     Inv-loop
     μ-loop
     bars-of-requires
+    set-of-requires
     mark-of-requires
     loop-holds
     shared-slice-read-if1

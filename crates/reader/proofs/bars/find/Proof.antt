@@ -1,61 +1,59 @@
--- `find` meets its contract: what has been passed so far has no such byte. The measure is what is left of the text.
+-- `find` meets its contract: neither the sixteen bytes, nor the parts that are passed, nor what is gone through last has such a byte before the
+-- place.
 -- Assumes nothing.
-use mathlib.Core.Path.{sym, _∙_}
-use Prim.Native.Nat.{_-_, _≤_}
 use native.Mathlib.Omega.{arith}
-use borrow.Author.Needs.{needs}
 use lib.ListN.{length}
 use Rattle.reader.specs.Bars.{beginsAt}
-use Rattle.parts.specs.First.{Free}
-use Rattle.parts.proofs.Firsts.{free-step}
-use Rattle.reader.proofs.bars.find.Tie as tie
+use Rattle.parts.proofs.Firsts.{free-start, free-join}
+use Rattle.reader.proofs.Scanning.{first-same}
+use borrow.Author.Needs.{needs}
 use Rattle.reader.proofs.bars.find.Statement.{statement}
+use Rattle.reader.proofs.bars.find.Tie as tie
 
-abbrev Inv-loop : tie.InvT-loop
-Inv-loop bars text from i₀ i = (from ≤ i) × (i ≤ length text) × Free (beginsAt bars text) from i
+returns : tie.Need-returns
+returns c =
+    let a = c .before .before .args in
+    let t = a .text .now in
+    let test = beginsAt (a .bars .now) t in
+    record { after = omega arith; within = omega arith; none = free-start test (a .from); here = λ h. absurd (omega arith) }
 
-abbrev μ-loop : tie.MeasureT-loop
-μ-loop bars text from i₀ i = length text - i
+clip-requires : tie.Need-clip-requires
+clip-requires c κs = search needs
 
-pass-requires : tie.Need-pass-requires Inv-loop μ-loop
+walk-requires : tie.Need-walk-requires
+walk-requires c κs = search needs
+
+returns-2 : tie.Need-returns-2
+returns-2 c =
+    let a = c .before .before .before .before .before .args in
+    let t = a .text .now in
+    let w = first-same (a .bars .now) (a .set .now) t (c .before .before .clip .result) (a .from) (c .before .walk .result) (c .before .before .before .before .before .pre .0) (λ k. c .before .before .before .before .shared-slice-known .given k .fits) (c .before .walk .ensures) in
+    record { after = w .after; within = omega (arith, w .within); none = w .none; here = λ h. w .here (c .if2 .taken) }
+
+pass-requires : tie.Need-pass-requires
 pass-requires c κs = search needs
 
-loop-holds : tie.Need-loop-holds Inv-loop μ-loop
-loop-holds c = c .pass .ensures
+walk-requires-2 : tie.Need-walk-requires-2
+walk-requires-2 c κs = search needs
 
-shared-slice-read-is-bar : tie.Need-shared-slice-read-is-bar Inv-loop μ-loop
-shared-slice-read-is-bar c = search needs
-
-is-bar-requires : tie.Need-is-bar-requires Inv-loop μ-loop
-is-bar-requires c κs = search needs
-
-returns : tie.Need-returns Inv-loop μ-loop
-returns c = record { after = c .before .before .before .before .loop .inv .0; within = c .before .before .before .before .loop .inv .1; none = c .before .before .before .before .loop .inv .2; here = λ h. sym (c .before .is-bar .ensures) ∙ c .if1 .taken }
-
-add-i : tie.Need-add-i Inv-loop μ-loop
-add-i c = search needs
-
-loop-less : tie.Need-loop-less Inv-loop μ-loop
-loop-less c = search needs
-
-loop-again : tie.Need-loop-again Inv-loop μ-loop
-loop-again c = (search needs, search needs, free-step (beginsAt (c .before .before .before .before .before .before .before .args .bars .now) (c .before .before .before .before .before .before .before .args .text .now)) (c .before .before .before .before .before .before .before .args .from) (c .before .before .before .before .loop .i) (c .before .before .before .before .loop .inv .2) (sym (c .before .is-bar .ensures) ∙ c .if1 .left))
-
-returns-2 : tie.Need-returns-2 Inv-loop μ-loop
-returns-2 c = record { after = c .before .loop .inv .0; within = c .before .loop .inv .1; none = c .before .loop .inv .2; here = λ h. absurd (omega arith) }
+returns-3 : tie.Need-returns-3
+returns-3 c =
+    let a = c .before .before .before .before .before .before .before .args in
+    let t = a .text .now in
+    let test = beginsAt (a .bars .now) t in
+    let w = first-same (a .bars .now) (a .set .now) t (c .before .before .before .before .clip .result) (a .from) (c .before .before .before .walk .result) (c .before .before .before .before .before .before .before .pre .0) (λ k. c .before .before .before .before .before .before .shared-slice-known .given k .fits) (c .before .before .before .walk .ensures) in
+    let v = first-same (a .bars .now) (a .set .now) t (length t) (c .before .pass .result) (c .walk2 .result) (c .before .before .before .before .before .before .before .pre .0) (λ k. c .before .before .before .before .before .before .shared-slice-known .given k .fits) (c .walk2 .ensures) in
+    let none = free-join test (a .from) (c .before .before .before .before .clip .result) (c .before .pass .result) (λ k h l. w .none k h (omega (arith, w .within))) (c .before .pass .ensures .2) in
+    record { after = omega (arith, w .after, v .after); within = v .within; none = free-join test (a .from) (c .before .pass .result) (c .walk2 .result) none (v .none); here = v .here }
 
 pub find-spec : {M : Type 1} → statement M
 find-spec =
     tie.close
     (tie.spec
-    Inv-loop
-    μ-loop
-    pass-requires
-    loop-holds
-    shared-slice-read-is-bar
-    is-bar-requires
     returns
-    add-i
-    loop-less
-    loop-again
-    returns-2)
+    clip-requires
+    walk-requires
+    returns-2
+    pass-requires
+    walk-requires-2
+    returns-3)

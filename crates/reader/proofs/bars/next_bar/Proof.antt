@@ -15,13 +15,13 @@ use Rattle.reader.proofs.bars.next_bar.Tie as tie
 use Rattle.reader.proofs.bars.next_bar.Statement.{statement}
 
 abbrev Inv-loop : tie.InvT-loop
-Inv-loop bars text from i₀ i = (from ≤ i) × (i ≤ length text) × Free (barAt bars text) from i × (i < length text → isBar bars (getD text i 0) ≡ true)
+Inv-loop bars set text from i₀ i = (from ≤ i) × (i ≤ length text) × Free (barAt bars text) from i × (i < length text → isBar bars (getD text i 0) ≡ true)
 
 abbrev μ-loop : tie.MeasureT-loop
-μ-loop bars text from i₀ i = length text - i
+μ-loop bars set text from i₀ i = length text - i
 
 find-requires : tie.Need-find-requires Inv-loop μ-loop
-find-requires c κs = search needs
+find-requires c κs = (c .before .pre .0, search needs)
 
 loop-holds : tie.Need-loop-holds Inv-loop μ-loop
 loop-holds c = (c .find .ensures .after, c .find .ensures .within, out-plain (c .before .before .args .bars .now) (c .before .before .args .text .now) (c .before .before .args .from) (c .find .result) (c .find .ensures .none), c .find .ensures .here)
@@ -45,7 +45,7 @@ add-find : tie.Need-add-find Inv-loop μ-loop
 add-find c = search needs
 
 find-requires-2 : tie.Need-find-requires-2 Inv-loop μ-loop
-find-requires-2 c κs = search needs
+find-requires-2 c κs = (c .before .before .before .before .before .before .before .pre .0, search needs)
 
 loop-less : tie.Need-loop-less Inv-loop μ-loop
 loop-less c = search needs
