@@ -29,9 +29,9 @@ use Rattle.escapes.proofs.Finding.{Coded, finds-byte, finds-no-byte, utf8-ascii
 use Rattle.heads.proofs.Standing.{agree, agreed}
 use Rattle.escapes.proofs.Hex.{pair-digits, stands-between}
 use Rattle.escapes.proofs.Strings.{escape-told}
-use Rattle.reader.specs.Bars.{htmlBars, isBar}
+use Rattle.reader.specs.Bars.{htmlSet, inSet}
 use Rattle.reader.specs.Units.{isOther}
-use Rattle.reader.proofs.Barred.{bar-alone}
+use Rattle.reader.proofs.Barred.{set-same, bar-alone}
 use Rattle.reader.proofs.Placed.{finds-none}
 
 -- ---- a table with some of the rows of another
@@ -120,16 +120,16 @@ html-rows Safe = refl
 html-rows Unquoted = refl
 
 module _ (h : Html) (s : List ℕ) where
-  replaced-byte : (b : ℕ) (r : Bool) → b < 128 → isBar (htmlBars h) b ≡ r → replaces h (utf8 b) ≡ r
-  replaced-byte b r l e = ap (replaces h) (utf8-ascii b l) ∙ sym (bar-alone h b (omega arith)) ∙ e
+  replaced-byte : (b : ℕ) (r : Bool) → b < 128 → inSet (htmlSet h) b ≡ r → replaces h (utf8 b) ≡ r
+  replaced-byte b r l e = ap (replaces h) (utf8-ascii b l) ∙ sym (bar-alone h b (omega arith)) ∙ sym (set-same (InHtml h) b (omega arith)) ∙ e
 
-  -- What a number tells of the larger table holds of the smaller one where its character is a bar,
-  pub html-kept : (code : ℕ) → code % 65536 < 128 → isBar (htmlBars h) (code % 65536) ≡ true → Finds (htmlRows Unquoted) s (escapeOf code) → Finds (htmlRows h) s (escapeOf code)
+  -- What a number tells of the larger table holds of the smaller one where its character is in the set,
+  pub html-kept : (code : ℕ) → code % 65536 < 128 → inSet (htmlSet h) (code % 65536) ≡ true → Finds (htmlRows Unquoted) s (escapeOf code) → Finds (htmlRows h) s (escapeOf code)
   html-kept zero l e f = rw (html-rows h) (finds-neither (replaces h) (htmlRows Unquoted) tt s f)
   html-kept (suc k) l e f = rw (html-rows h) (finds-kept (replaces h) (htmlRows Unquoted) tt s (suc k / 65536) (suc k % 65536) f (replaced-byte (suc k % 65536) true l e))
 
   -- and else nothing is found there.
-  pub html-dropped : (code : ℕ) → code % 65536 < 128 → isBar (htmlBars h) (code % 65536) ≡ false → Finds (htmlRows Unquoted) s (escapeOf code) → Finds (htmlRows h) s Nothing
+  pub html-dropped : (code : ℕ) → code % 65536 < 128 → inSet (htmlSet h) (code % 65536) ≡ false → Finds (htmlRows Unquoted) s (escapeOf code) → Finds (htmlRows h) s Nothing
   html-dropped zero l e f = rw (html-rows h) (finds-neither (replaces h) (htmlRows Unquoted) tt s f)
   html-dropped (suc k) l e f = rw (html-rows h) (finds-dropped (replaces h) (htmlRows Unquoted) tt s (suc k / 65536) (suc k % 65536) f (replaced-byte (suc k % 65536) false l e))
 

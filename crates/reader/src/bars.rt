@@ -49,7 +49,7 @@ pub fn bars_of(c: Context) -> [u8; 8]
 
 // Whether a replaced character begins with the byte. There is no branch but one that is the same for every byte, so that a loop over it is
 // made vector code.
-pub fn is_bar(bars: &[u8; 8], b: u8) -> bool
+fn is_bar(bars: &[u8; 8], b: u8) -> bool
     ensures { λ r. ⌜ r ≡ isBar (now (bars .entry)) b ⌝ }
 {
     if bars[7] == 1 {
@@ -97,7 +97,7 @@ pub fn set_of(c: Context) -> [u64; 4]
 }
 
 // Whether the byte is in the set: the quick way for one byte, where `is_bar` is that for many at once.
-fn is_in(set: &[u64; 4], b: u8) -> bool
+pub fn is_in(set: &[u64; 4], b: u8) -> bool
     ensures { λ r. ⌜ r ≡ inSet (now (set .entry)) b ⌝ }
 {
     let word = set[(b / 64) as usize];

@@ -48,7 +48,7 @@ pub fn measure(c: Context, text: &[u8]) -> Measured
             i = e;
             continue;
         }
-        let code = units::unit(c, &bars, text, i);
+        let code = units::unit(c, &set, text, i);
         let Escape::Taken(n, ch) = rows::escape_of(code) else {
             return Measured {
                 length,
@@ -88,7 +88,7 @@ pub fn write(c: Context, text: &[u8], output: &mut [u8]) -> usize
             i = e;
             continue;
         }
-        let code = units::unit(c, &bars, text, i);
+        let code = units::unit(c, &set, text, i);
         let Escape::Taken(n, ch) = rows::escape_of(code) else {
             return at;
         };

@@ -9,7 +9,7 @@ ghost use Rattle.rules.specs.Tables.{reference, others, htmlRows, rows};
 ghost use Rattle.rules.specs.declared.Html.the-variants.{Unquoted};
 ghost use Rattle.escapes.specs.Finds.{Finds};
 ghost use Rattle.escapes.specs.Strings.{stringOf, escapeOf};
-ghost use Rattle.reader.specs.Bars.{htmlBars, barsOf};
+ghost use Rattle.reader.specs.Bars.{htmlSet, setOf};
 ghost use Rattle.reader.specs.Units.{isOther, markOf};
 use crate::bars;
 use escapes::digits;
@@ -86,13 +86,13 @@ fn reference(rest: &[u8]) -> u32
     }
 }
 
-// The unit of an HTML context at place `at` of the text, so told: that of `unquoted`, where its character is one of the context's bars.
-fn html_unit(h: Html, bars: &[u8; 8], text: &[u8], at: usize) -> u32
-    requires { ⌜ (now bars ≡ htmlBars h) × (at ≤ length (now text)) ⌝ }
+// The unit of an HTML context at place `at` of the text, so told: that of `unquoted`, where its character is in the context's set.
+fn html_unit(h: Html, set: &[u64; 4], text: &[u8], at: usize) -> u32
+    requires { ⌜ (now set ≡ htmlSet h) × (at ≤ length (now text)) ⌝ }
     ensures { λ r. ⌜ Finds (htmlRows h) (drop at (now (text .entry))) (escapeOf r) ⌝ }
 {
     let code = reference(&text[at..]);
-    if bars::is_bar(bars, (code % 65536) as u8) {
+    if bars::is_in(set, (code % 65536) as u8) {
         return code;
     }
     0
@@ -106,14 +106,14 @@ fn string_unit(style: bool, quotes: Quotes, text: &[u8], at: usize) -> u32
     rows::row_at(style, quotes, &text[at..])
 }
 
-// The unit of the context that stands at place `at` of the text, as a number that tells an escape; 0 where none does. `bars` are those of the
+// The unit of the context that stands at place `at` of the text, as a number that tells an escape; 0 where none does. `set` is that of the
 // context. The place is a number of its own, as a part of the text would go through memory in each turn of a loop.
-pub fn unit(c: Context, bars: &[u8; 8], text: &[u8], at: usize) -> u32
-    requires { ⌜ (now bars ≡ barsOf c) × (at ≤ length (now text)) ⌝ }
+pub fn unit(c: Context, set: &[u64; 4], text: &[u8], at: usize) -> u32
+    requires { ⌜ (now set ≡ setOf c) × (at ≤ length (now text)) ⌝ }
     ensures { λ r. ⌜ Finds (rows c) (drop at (now (text .entry))) (escapeOf r) ⌝ }
 {
     match c {
-        Context::InHtml(h) => html_unit(h, bars, text, at),
+        Context::InHtml(h) => html_unit(h, set, text, at),
         Context::InScript(q) => string_unit(false, q, text, at),
         Context::InStyle(q) => string_unit(true, q, text, at),
     }

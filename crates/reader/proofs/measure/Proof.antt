@@ -71,7 +71,7 @@ loop-again c =
     counted-quiet (l .inv) e (near .after) (near .within) (clear-keeps (a .c) t (λ k. c .before .before .before .before .before .before .before .before .before .before .before .shared-slice-known .given k .fits) (l .i) e (rw (c .before .before .before .before .before .before .before .before .before .before .bars-of .ensures) at near))
 
 unit-requires : tie.Need-unit-requires Inv-loop μ-loop
-unit-requires c κs = (c .before .before .before .before .before .before .before .bars-of .ensures, search needs)
+unit-requires c κs = (c .before .before .before .before .before .before .set-of .ensures, search needs)
 
 escape-of-requires : tie.Need-escape-of-requires Inv-loop μ-loop
 escape-of-requires c κs = search needs

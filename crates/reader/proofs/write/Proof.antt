@@ -111,7 +111,7 @@ loop-again c =
     (near .within, filled-put (l .inv .1) next (c .before .before .put .last .1 .0) (c .before .before .put .result) (c .before .before .put .ensures .0) (c .before .before .put .ensures .1))
 
 unit-requires : tie.Need-unit-requires Inv-loop μ-loop
-unit-requires c κs = (c .before .before .before .before .before .before .before .bars-of .ensures, search needs)
+unit-requires c κs = (c .before .before .before .before .before .before .set-of .ensures, search needs)
 
 escape-of-requires : tie.Need-escape-of-requires Inv-loop μ-loop
 escape-of-requires c κs = search needs

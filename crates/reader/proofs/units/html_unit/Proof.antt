@@ -1,4 +1,4 @@
--- `html_unit` meets its contract: what is found is one of the context's units exactly if its character is a bar.
+-- `html_unit` meets its contract: what is found is one of the context's units exactly if its character is in the set.
 -- Assumes nothing.
 use mathlib.Core.Path.{sym, _∙_}
 use native.Mathlib.Omega.{arith}
@@ -21,23 +21,23 @@ part-reference-end c = search needs
 reference-requires : tie.Need-reference-requires
 reference-requires c κs = search needs
 
-cast-is-bar : tie.Need-cast-is-bar
-cast-is-bar c = search needs
+cast-is-in : tie.Need-cast-is-in
+cast-is-in c = search needs
 
-is-bar-requires : tie.Need-is-bar-requires
-is-bar-requires c κs = search needs
+is-in-requires : tie.Need-is-in-requires
+is-in-requires c κs = search needs
 
 returns : tie.Need-returns
 returns c =
     let a = c .before .before .before .before .before .args in
     let r = c .before .before .reference in
-    html-kept (a .h) (drop (a .at) (a .text .now)) (r .result) (r .ensures .1) (rw (← c .before .before .before .before .before .pre .0) (sym (c .before .is-bar .ensures) ∙ c .if1 .taken)) (rw lent-rest at (r .ensures .0))
+    html-kept (a .h) (drop (a .at) (a .text .now)) (r .result) (r .ensures .1) (rw (← c .before .before .before .before .before .pre .0) (sym (c .before .is-in .ensures) ∙ c .if1 .taken)) (rw lent-rest at (r .ensures .0))
 
 returns-2 : tie.Need-returns-2
 returns-2 c =
     let a = c .before .before .before .before .before .args in
     let r = c .before .before .reference in
-    html-dropped (a .h) (drop (a .at) (a .text .now)) (r .result) (r .ensures .1) (rw (← c .before .before .before .before .before .pre .0) (sym (c .before .is-bar .ensures) ∙ c .if1 .left)) (rw lent-rest at (r .ensures .0))
+    html-dropped (a .h) (drop (a .at) (a .text .now)) (r .result) (r .ensures .1) (rw (← c .before .before .before .before .before .pre .0) (sym (c .before .is-in .ensures) ∙ c .if1 .left)) (rw lent-rest at (r .ensures .0))
 
 pub html-unit-spec : {M : Type 1} → statement M
 html-unit-spec =
@@ -47,7 +47,7 @@ html-unit-spec =
     part-reference-start
     part-reference-end
     reference-requires
-    cast-is-bar
-    is-bar-requires
+    cast-is-in
+    is-in-requires
     returns
     returns-2)
