@@ -1,7 +1,6 @@
 -- `html_unit` meets its contract: what is found is one of the context's units exactly if its character is in the set.
 -- Assumes nothing.
 use mathlib.Core.Path.{sym, _∙_}
-use native.Mathlib.Omega.{arith}
 use lib.ListN.{drop}
 use Rattle.parts.proofs.Filled.{lent-rest}
 use Rattle.reader.proofs.Narrow.{html-kept, html-dropped}

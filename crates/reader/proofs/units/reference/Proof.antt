@@ -1,7 +1,7 @@
 -- `reference` meets its contract: the second byte leaves one row, those with digits, or none.
 -- Assumes nothing.
 use mathlib.Core.List.{[]}
-use mathlib.Core.Path.{refl, ap, _∙_}
+use mathlib.Core.Path.{refl, ap}
 use native.Mathlib.Omega.{arith}
 use borrow.Author.Tests.{ne-eqb}
 use Rattle.rules.specs.Bytes.{ascii, oneOf}
