@@ -1,7 +1,6 @@
 -- A byte that is not special is calm, in each of the HTML seven but the unquoted attribute: computed for every ASCII byte.
 -- Assumes nothing.
 use mathlib.Core.Bool.{Bool, true, false, _||_, cond}
-use mathlib.Core.Logic.{_⊎_, inl, inr}
 use mathlib.Core.Path.{_≡_, refl, sym, subst}
 use Prim.Native.Nat.{ℕ, _<_}
 use native.Mathlib.Omega.{arith}
@@ -12,7 +11,6 @@ use Rattle.rules.specs.Bytes.{all, count}
 use Rattle.rules.specs.Encoding.{encodeStep}
 use Rattle.rules.specs.declared.Html.{Html}
 use Rattle.rules.proofs.Below.{below}
-use Rattle.rules.proofs.Tests.{or-cases}
 use Rattle.plain.specs.Plain.{unquoted}
 use Rattle.html.specs.Written.{written}
 use Rattle.html.specs.Gains.{gainsOf, Calm}

@@ -114,7 +114,3 @@ filled-all {whole} {rest} {out₀} {out} {at} f e = (omega (arith, f .sum, ap le
 -- The fill position is within the output.
 pub filled-within : {whole rest out₀ out : List ℕ} {at : ℕ} → Filled whole rest out₀ out at → at ≤ length out
 filled-within f = omega (arith, f .sum, f .kept, f .room)
-
--- A loop that goes on past place e has less before it.
-pub less-left : (l i e n : ℕ) → i ≤ e → 1 ≤ n → e + n ≤ l → l - (e + n) < l - i
-less-left l i e n h k m = omega arith

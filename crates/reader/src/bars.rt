@@ -59,7 +59,7 @@ fn is_bar(bars: &[u8; 8], b: u8) -> bool
     ranged | (b == bars[2]) | (b == bars[3]) | (b == bars[4]) | (b == bars[5]) | (b == bars[6])
 }
 
-// The same bytes as a set of 256 bits, in words of 64: in an HTML context,
+// The bytes that a replaced character begins with in an HTML context, as a set of 256 bits in words of 64.
 fn html_set(h: Html) -> [u64; 4]
     ensures { λ r. ⌜ r ≡ htmlSet h ⌝ }
 {
@@ -74,7 +74,7 @@ fn html_set(h: Html) -> [u64; 4]
     }
 }
 
-// in a string, where `last` is the last word,
+// The set of a string, where `last` is its last word.
 fn string_set(q: Quotes, last: u64) -> [u64; 4]
     ensures { λ r. ⌜ r ≡ stringSet q last ⌝ }
 {
@@ -85,7 +85,7 @@ fn string_set(q: Quotes, last: u64) -> [u64; 4]
     }
 }
 
-// and in every context.
+// The set of every context.
 pub fn set_of(c: Context) -> [u64; 4]
     ensures { λ r. ⌜ r ≡ setOf c ⌝ }
 {
