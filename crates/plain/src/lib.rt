@@ -7,7 +7,8 @@ ghost use Rattle.rules.specs.Bytes.{over};
 ghost use Rattle.parts.specs.First.{Free};
 ghost use Rattle.plain.specs.Plain.{plain, oddAt};
 
-// Whether a byte is not plain, by the rule of unquoted attributes where `strict` holds. It has no branch, so that many are tested at once.
+// Whether a byte is not plain, by the rule of unquoted attributes where `strict` holds. There is no branch but one that is the same for every byte,
+// so that many are tested at once.
 fn is_odd(strict: bool, b: u8) -> bool
     ensures { λ r. ⌜ r ≡ not (plain strict b) ⌝ }
 {
