@@ -11,7 +11,7 @@ pub fn facts(root: &str, counted: bool) -> Vec<(&'static str, String)> {
         ("date", said("date", &["-u", "+%Y-%m-%d"])),
         ("the crate", format!("html-escape 0.3.0, compiled by {} in cargo's release profile with opt-level 3", rustc())),
         ("the library", library(counted || machine() == "x86_64")),
-        ("the archive", format!("x86-64 code, which `rt staticlib lintelrye_c` writes, by {}; {}", said("rt", &["version"]), size)),
+        ("the archive", format!("x86-64 code, which `rt staticlib lintelrye_c` writes, by {}; {}; {}", said("rt", &["version"]), size, stack(root))),
     ]
 }
 
@@ -69,4 +69,11 @@ fn size(archive: &str) -> String {
         0 => format!("its size was not found out: {}", first_line(sections)),
         code => format!("{} bytes of code (.text) and {} bytes of constants (.rodata)", code, sum(".rodata")),
     }
+}
+
+/// The deepest stack of the archive's calls, by `tools/check_symbols`, which prints the bytes and the calls on the way.
+fn stack(root: &str) -> String {
+    let report = said(&format!("{}/tools/check_symbols", root), &[]);
+    let line = report.lines().find_map(|line| line.strip_prefix("deepest stack:"));
+    line.and_then(|line| line.split(':').next()).map_or("its deepest stack was not found out".into(), |bytes| format!("deepest stack {}", bytes.trim()))
 }
