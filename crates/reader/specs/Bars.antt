@@ -16,7 +16,7 @@ use Rattle.rules.specs.declared.Context.{Context}
 use Rattle.rules.specs.declared.Context.the-variants.{InHtml, InScript, InStyle}
 
 -- The bytes that a replaced character begins with: the ends of a range, five more bytes, and 1 where every ASCII byte that is no letter or digit is
--- one instead. In an HTML context,
+-- one instead. Those of an HTML context.
 abbrev pub htmlBars : Html → List ℕ
 htmlBars TextMinimal = 38 ∷ 38 ∷ 60 ∷ 60 ∷ 60 ∷ 60 ∷ 60 ∷ 0 ∷ []
 htmlBars Text = 38 ∷ 38 ∷ 60 ∷ 62 ∷ 62 ∷ 62 ∷ 62 ∷ 0 ∷ []
@@ -26,13 +26,13 @@ htmlBars Quoted = 38 ∷ 39 ∷ 60 ∷ 62 ∷ 34 ∷ 34 ∷ 34 ∷ 0 ∷ []
 htmlBars Safe = 38 ∷ 39 ∷ 60 ∷ 62 ∷ 34 ∷ 47 ∷ 47 ∷ 0 ∷ []
 htmlBars Unquoted = 38 ∷ 38 ∷ 60 ∷ 60 ∷ 60 ∷ 60 ∷ 60 ∷ 1 ∷ []
 
--- and in a string, where `last` is the first byte of U+2028 and U+2029 if these are replaced.
+-- Those of a string, where `last` is the first byte of U+2028 and U+2029 if these are replaced.
 abbrev pub stringBars : Quotes → ℕ → List ℕ
 stringBars Single last = 0 ∷ 31 ∷ 39 ∷ 39 ∷ 60 ∷ 92 ∷ last ∷ 0 ∷ []
 stringBars Double last = 0 ∷ 31 ∷ 34 ∷ 34 ∷ 60 ∷ 92 ∷ last ∷ 0 ∷ []
 stringBars Both last = 0 ∷ 31 ∷ 34 ∷ 39 ∷ 60 ∷ 92 ∷ last ∷ 0 ∷ []
 
--- In every context.
+-- Those of every context.
 abbrev pub barsOf : Context → List ℕ
 barsOf (InHtml h) = htmlBars h
 barsOf (InScript q) = stringBars q 0xE2
@@ -44,7 +44,7 @@ isBar bars b =
     cond (eqb (getD bars 7 0) 1) (ltb b 128 && not (letterOrDigit b))
     (inside (getD bars 0 0, getD bars 1 0) b || eqb b (getD bars 2 0) || eqb b (getD bars 3 0) || eqb b (getD bars 4 0) || eqb b (getD bars 5 0) || eqb b (getD bars 6 0))
 
--- The same bytes as a set of 256 bits, in words of 64: in an HTML context,
+-- The bytes that a replaced character begins with in an HTML context, as a set of 256 bits in words of 64.
 abbrev pub htmlSet : Html → List ℕ
 htmlSet TextMinimal = 0x1000004000000000 ∷ 0 ∷ 0 ∷ 0 ∷ []
 htmlSet Text = 0x5000004000000000 ∷ 0 ∷ 0 ∷ 0 ∷ []
@@ -54,13 +54,13 @@ htmlSet Quoted = 0x500000C400000000 ∷ 0 ∷ 0 ∷ 0 ∷ []
 htmlSet Safe = 0x500080C400000000 ∷ 0 ∷ 0 ∷ 0 ∷ []
 htmlSet Unquoted = 0xFC00FFFFFFFFFFFF ∷ 0xF8000001F8000001 ∷ 0 ∷ 0 ∷ []
 
--- in a string, where `last` is the last word,
+-- The set of a string, where `last` is its last word.
 abbrev pub stringSet : Quotes → ℕ → List ℕ
 stringSet Single last = 0x10000080FFFFFFFF ∷ 0x10000000 ∷ 0 ∷ last ∷ []
 stringSet Double last = 0x10000004FFFFFFFF ∷ 0x10000000 ∷ 0 ∷ last ∷ []
 stringSet Both last = 0x10000084FFFFFFFF ∷ 0x10000000 ∷ 0 ∷ last ∷ []
 
--- and in every context.
+-- The set of every context.
 abbrev pub setOf : Context → List ℕ
 setOf (InHtml h) = htmlSet h
 setOf (InScript q) = stringSet q 0x400000000
