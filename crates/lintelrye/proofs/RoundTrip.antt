@@ -14,7 +14,7 @@ use Rattle.rules.specs.declared.Answer.{Answer}
 use Rattle.rules.specs.declared.Context.{Context}
 use Rattle.rules.specs.declared.Operation.{Operation}
 use Rattle.rules.specs.declared.Operation.the-variants.{Encode, Decode, Read}
-use Rattle.rules.specs.declared.Named.the-variants.{Units}
+use Rattle.rules.specs.declared.AnyContext.the-variants.{Units}
 use Rattle.rules.proofs.Calls.{passed, TakesBack, read-back, decode-back}
 
 -- What a call's contract allows: the answer a and the output o, of an operation in a context, copying or borrowing, on a text and an output.

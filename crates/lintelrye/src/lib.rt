@@ -20,63 +20,44 @@
 ghost use mathlib.Core.Bool.{true, false};
 ghost use mathlib.Core.Path.{_≡_};
 ghost use Rattle.rules.specs.Contexts.{contextOf};
-ghost use Rattle.rules.specs.Refusals.{answerOf, outOf, viewOf};
+ghost use Rattle.rules.specs.Refusals.{Allowed, viewOf};
 ghost use Rattle.rules.specs.declared.Operation.the-variants.{Encode, Decode, Read, Browse};
-pub use rules::Answer;
 use rules::Operation;
 
-// The contexts: the HTML seven, the script strings, the style strings, and text inside a script element.
-pub const TEXT_MINIMAL: u32 = 0;
-
-pub const TEXT: u32 = 1;
-
-pub const DOUBLE_QUOTED: u32 = 2;
-
-pub const SINGLE_QUOTED: u32 = 3;
-
-pub const QUOTED: u32 = 4;
-
-pub const SAFE: u32 = 5;
-
-pub const UNQUOTED: u32 = 6;
-
-pub const SCRIPT_SINGLE: u32 = 7;
-
-pub const SCRIPT_DOUBLE: u32 = 8;
-
-pub const SCRIPT_QUOTED: u32 = 9;
-
-pub const STYLE_SINGLE: u32 = 10;
-
-pub const STYLE_DOUBLE: u32 = 11;
-
-pub const STYLE_QUOTED: u32 = 12;
-
-pub const SCRIPT_RAW: u32 = 13;
-
-// The statuses.
-pub const PASSED: usize = 0;
-
-pub const TOO_LONG: usize = 1;
-
-pub const NOT_UTF8: usize = 2;
-
-pub const NO_ROOM: usize = 3;
-
-pub const NOT_A_FORM: usize = 4;
-
-pub const BAD_CONTEXT: usize = 5;
+// The answer record, the contexts and the statuses.
+pub use rules::Answer;
+pub use rules::BAD_CONTEXT;
+pub use rules::DOUBLE_QUOTED;
+pub use rules::NO_ROOM;
+pub use rules::NOT_A_FORM;
+pub use rules::NOT_UTF8;
+pub use rules::PASSED;
+pub use rules::QUOTED;
+pub use rules::SAFE;
+pub use rules::SCRIPT_DOUBLE;
+pub use rules::SCRIPT_QUOTED;
+pub use rules::SCRIPT_RAW;
+pub use rules::SCRIPT_SINGLE;
+pub use rules::SINGLE_QUOTED;
+pub use rules::STYLE_DOUBLE;
+pub use rules::STYLE_QUOTED;
+pub use rules::STYLE_SINGLE;
+pub use rules::TEXT;
+pub use rules::TEXT_LIMIT;
+pub use rules::TEXT_MINIMAL;
+pub use rules::TOO_LONG;
+pub use rules::UNQUOTED;
 
 // Writes the text so that it stands for itself in the context: what the context replaces is replaced, the rest is copied.
 pub fn encode(context: u32, text: &[u8], output: &mut [u8]) -> Answer
-    ensures { λ r. ⌜ (r ≡ answerOf Encode (contextOf context) false (now (text .entry)) (now (output .entry))) × (now (output .exit) ≡ outOf Encode (contextOf context) false (now (text .entry)) (now (output .entry))) ⌝ }
+    ensures { λ r. ⌜ Allowed Encode (contextOf context) false (now (text .entry)) (now (output .entry)) r (now (output .exit)) ⌝ }
 {
     frame::call(Operation::Encode, context, false, text, output)
 }
 
 // encode as a borrowing call.
 pub fn encode_borrowing(context: u32, text: &[u8], output: &mut [u8]) -> Answer
-    ensures { λ r. ⌜ (r ≡ answerOf Encode (contextOf context) true (now (text .entry)) (now (output .entry))) × (now (output .exit) ≡ outOf Encode (contextOf context) true (now (text .entry)) (now (output .entry))) ⌝ }
+    ensures { λ r. ⌜ Allowed Encode (contextOf context) true (now (text .entry)) (now (output .entry)) r (now (output .exit)) ⌝ }
 {
     frame::call(Operation::Encode, context, true, text, output)
 }
@@ -84,42 +65,42 @@ pub fn encode_borrowing(context: u32, text: &[u8], output: &mut [u8]) -> Answer
 // Takes replacements back, as html-escape does: references in the HTML seven, escapes in the strings; whatever is none stays as it is.
 // What is decoded is never decoded again. A result can be longer than its text, by a fifth at most (`&nGt;`).
 pub fn decode(context: u32, text: &[u8], output: &mut [u8]) -> Answer
-    ensures { λ r. ⌜ (r ≡ answerOf Decode (contextOf context) false (now (text .entry)) (now (output .entry))) × (now (output .exit) ≡ outOf Decode (contextOf context) false (now (text .entry)) (now (output .entry))) ⌝ }
+    ensures { λ r. ⌜ Allowed Decode (contextOf context) false (now (text .entry)) (now (output .entry)) r (now (output .exit)) ⌝ }
 {
     frame::call(Operation::Decode, context, false, text, output)
 }
 
 // decode as a borrowing call.
 pub fn decode_borrowing(context: u32, text: &[u8], output: &mut [u8]) -> Answer
-    ensures { λ r. ⌜ (r ≡ answerOf Decode (contextOf context) true (now (text .entry)) (now (output .entry))) × (now (output .exit) ≡ outOf Decode (contextOf context) true (now (text .entry)) (now (output .entry))) ⌝ }
+    ensures { λ r. ⌜ Allowed Decode (contextOf context) true (now (text .entry)) (now (output .entry)) r (now (output .exit)) ⌝ }
 {
     frame::call(Operation::Decode, context, true, text, output)
 }
 
 // Takes back exactly what encode writes, and refuses everything else: of a form that encode wrote it gives the text that was typed.
 pub fn read(context: u32, text: &[u8], output: &mut [u8]) -> Answer
-    ensures { λ r. ⌜ (r ≡ answerOf Read (contextOf context) false (now (text .entry)) (now (output .entry))) × (now (output .exit) ≡ outOf Read (contextOf context) false (now (text .entry)) (now (output .entry))) ⌝ }
+    ensures { λ r. ⌜ Allowed Read (contextOf context) false (now (text .entry)) (now (output .entry)) r (now (output .exit)) ⌝ }
 {
     frame::call(Operation::Read, context, false, text, output)
 }
 
 // read as a borrowing call.
 pub fn read_borrowing(context: u32, text: &[u8], output: &mut [u8]) -> Answer
-    ensures { λ r. ⌜ (r ≡ answerOf Read (contextOf context) true (now (text .entry)) (now (output .entry))) × (now (output .exit) ≡ outOf Read (contextOf context) true (now (text .entry)) (now (output .entry))) ⌝ }
+    ensures { λ r. ⌜ Allowed Read (contextOf context) true (now (text .entry)) (now (output .entry)) r (now (output .exit)) ⌝ }
 {
     frame::call(Operation::Read, context, true, text, output)
 }
 
 // Takes references back as decode does, but numbers as a browser takes them: 0, surrogates and numbers above 10FFFF hex give U+FFFD.
 pub fn browse(context: u32, text: &[u8], output: &mut [u8]) -> Answer
-    ensures { λ r. ⌜ (r ≡ answerOf Browse (contextOf context) false (now (text .entry)) (now (output .entry))) × (now (output .exit) ≡ outOf Browse (contextOf context) false (now (text .entry)) (now (output .entry))) ⌝ }
+    ensures { λ r. ⌜ Allowed Browse (contextOf context) false (now (text .entry)) (now (output .entry)) r (now (output .exit)) ⌝ }
 {
     frame::call(Operation::Browse, context, false, text, output)
 }
 
 // browse as a borrowing call.
 pub fn browse_borrowing(context: u32, text: &[u8], output: &mut [u8]) -> Answer
-    ensures { λ r. ⌜ (r ≡ answerOf Browse (contextOf context) true (now (text .entry)) (now (output .entry))) × (now (output .exit) ≡ outOf Browse (contextOf context) true (now (text .entry)) (now (output .entry))) ⌝ }
+    ensures { λ r. ⌜ Allowed Browse (contextOf context) true (now (text .entry)) (now (output .entry)) r (now (output .exit)) ⌝ }
 {
     frame::call(Operation::Browse, context, true, text, output)
 }

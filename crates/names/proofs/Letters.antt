@@ -12,8 +12,8 @@ use Rattle.rules.specs.Tables.{Row}
 use Rattle.rules.specs.Names.{names}
 use Rattle.rules.specs.References.{lookup}
 use Rattle.rules.proofs.Tests.{same-bytes}
-use Rattle.search.specs.Starting.{starting}
-use Rattle.search.proofs.Lookups.{in-group}
+use Rattle.names_search.specs.Starting.{starting}
+use Rattle.names_search.proofs.Lookups.{in-group}
 
 -- A group with no rows has nothing for a name.
 pub in-none : (low high : ℕ) (name : List ℕ) → low ≤ getD name 0 0 → getD name 0 0 ≤ high → starting (low, high) names ≡ [] → none ≡ lookup names name

@@ -12,7 +12,7 @@ use lib.Seq.{set-split, drop-drop}
 use borrow.Author.Tests.{eqb-true, eqb-false, leb-true, leb-false, ne-eqb, le-leb, lt-leb}
 use Rattle.rules.specs.Bytes.{over}
 use Rattle.rules.specs.Answers.{unpackTo}
-use Rattle.parts.proofs.Filled.{Filled, filled-start, filled-more, filled-end}
+use Rattle.base.proofs.Filled.{Filled, filled-start, filled-more, filled-end}
 
 -- ---- how many
 

@@ -15,22 +15,22 @@ use rules::Meaning;
 fn common(name: &[u8]) -> u64
     ensures { λ r. ⌜ (0 < r → lookup names (now (name .entry)) ≡ some (valueBytes (Named r))) ⌝ }
 {
-    if search::same(b"amp", name) {
+    if names_search::same(b"amp", name) {
         return 0x26;
     }
-    if search::same(b"lt", name) {
+    if names_search::same(b"lt", name) {
         return 0x3C;
     }
-    if search::same(b"gt", name) {
+    if names_search::same(b"gt", name) {
         return 0x3E;
     }
-    if search::same(b"quot", name) {
+    if names_search::same(b"quot", name) {
         return 0x22;
     }
-    if search::same(b"apos", name) {
+    if names_search::same(b"apos", name) {
         return 0x27;
     }
-    if search::same(b"nbsp", name) {
+    if names_search::same(b"nbsp", name) {
         return 0xA0C2;
     }
     0
@@ -52,24 +52,24 @@ fn find(name: &[u8]) -> Meaning
 {
     match first_byte(name) {
         0..=b'@' => Meaning::Nothing,
-        b'A'..=b'F' => upper::in_a_to_f(name),
-        b'G'..=b'M' => upper::in_g_to_m(name),
-        b'N'..=b'R' => upper::in_n_to_r(name),
-        b'S'..=b'Z' => upper::in_s_to_z(name),
+        b'A'..=b'F' => names_upper::in_a_to_f(name),
+        b'G'..=b'M' => names_upper::in_g_to_m(name),
+        b'N'..=b'R' => names_upper::in_n_to_r(name),
+        b'S'..=b'Z' => names_upper::in_s_to_z(name),
         b'['..=b'`' => Meaning::Nothing,
-        b'a' => lower::in_a(name),
-        b'b' => lower::in_b(name),
-        b'c'..=b'd' => lower::in_c_to_d(name),
-        b'e'..=b'g' => lower::in_e_to_g(name),
-        b'h'..=b'k' => lower::in_h_to_k(name),
-        b'l' => lower::in_l(name),
-        b'm' => lower::in_m(name),
-        b'n' => lower::in_n(name),
-        b'o'..=b'q' => lower::in_o_to_q(name),
-        b'r' => lower::in_r(name),
-        b's' => lower::in_s(name),
-        b't'..=b'w' => lower::in_t_to_w(name),
-        b'x'..=b'z' => lower::in_x_to_z(name),
+        b'a' => names_lower::in_a(name),
+        b'b' => names_lower::in_b(name),
+        b'c'..=b'd' => names_lower::in_c_to_d(name),
+        b'e'..=b'g' => names_lower::in_e_to_g(name),
+        b'h'..=b'k' => names_lower::in_h_to_k(name),
+        b'l' => names_lower::in_l(name),
+        b'm' => names_lower::in_m(name),
+        b'n' => names_lower::in_n(name),
+        b'o'..=b'q' => names_lower::in_o_to_q(name),
+        b'r' => names_lower::in_r(name),
+        b's' => names_lower::in_s(name),
+        b't'..=b'w' => names_lower::in_t_to_w(name),
+        b'x'..=b'z' => names_lower::in_x_to_z(name),
         b'{'..=255 => Meaning::Nothing,
     }
 }
@@ -89,12 +89,12 @@ pub fn decode_named_entity(name: &[u8]) -> Meaning
 pub fn value_length(value: u64) -> usize
     ensures { λ r. ⌜ (r ≡ length (valueBytes (Named value))) × (r ≤ 6) ⌝ }
 {
-    let a = parts::reaches(value, 0x1);
-    let b = parts::reaches(value, 0x100);
-    let c = parts::reaches(value, 0x10000);
-    let d = parts::reaches(value, 0x1000000);
-    let e = parts::reaches(value, 0x100000000);
-    let f = parts::reaches(value, 0x10000000000);
+    let a = base::reaches(value, 0x1);
+    let b = base::reaches(value, 0x100);
+    let c = base::reaches(value, 0x10000);
+    let d = base::reaches(value, 0x1000000);
+    let e = base::reaches(value, 0x100000000);
+    let f = base::reaches(value, 0x10000000000);
     a + b + c + d + e + f
 }
 

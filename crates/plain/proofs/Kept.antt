@@ -20,8 +20,8 @@ use Rattle.rules.specs.Operations.{decodeStep, ruleOf}
 use Rattle.rules.specs.declared.Quotes.the-variants.{Single}
 use Rattle.rules.specs.declared.Context.{Context}
 use Rattle.rules.specs.declared.Context.the-variants.{InHtml, InScript, InStyle}
-use Rattle.rules.specs.declared.Named.{Named}
-use Rattle.rules.specs.declared.Named.the-variants.{Units, ScriptRaw, Unknown}
+use Rattle.rules.specs.declared.AnyContext.{AnyContext}
+use Rattle.rules.specs.declared.AnyContext.the-variants.{Units, ScriptRaw, Unknown}
 use Rattle.rules.specs.declared.Operation.{Operation}
 use Rattle.rules.specs.declared.Operation.the-variants.{Encode, Decode, Read, Browse}
 use Rattle.rules.proofs.Tests.{and-left, and-right, and-both, or-cases, is-false, all-in, any-in, first-none, map-in}
@@ -55,7 +55,7 @@ upper-end : (lo hi b : ℕ) → T (inside (lo, hi) b) → b ≤ hi
 upper-end lo hi b t = leb→le b hi (and-right (leb lo b) (leb b hi) t)
 
 -- It is ASCII.
-pub plain-low : (strict : Bool) (b : ℕ) → T (plain strict b) → b < 128
+pub plain-low : (unquoted : Bool) (b : ℕ) → T (plain unquoted b) → b < 128
 unfolding plain
 plain-low true b t = go (or-cases (inside (48, 57) b || inside (65, 90) b) (inside (97, 122) b) t)
   where
@@ -154,7 +154,7 @@ module _ (rule : Rule) (b p : ℕ) (s : List ℕ) where
   kept-by : (r : Rule) → some r ≡ some rule → r p (b ∷ s) ≡ keep (b ∷ []) → rule p (b ∷ s) ≡ keep (b ∷ [])
   kept-by r e k = subst (λ (r : Rule). r p (b ∷ s) ≡ keep (b ∷ [])) (Option·some-injective r rule e) k
 
-  pub plain-kept : (op : Operation) (n : Named) → ruleOf op n ≡ some rule → T (plain (unquotedAt n) b) → rule p (b ∷ s) ≡ keep (b ∷ [])
+  pub plain-kept : (op : Operation) (n : AnyContext) → ruleOf op n ≡ some rule → T (plain (unquotedAt n) b) → rule p (b ∷ s) ≡ keep (b ∷ [])
   plain-kept Encode (Units c) e t = kept-by (encodeStep c) e (encode-kept c b t p s)
   plain-kept Decode (Units c) e t = kept-by (decodeStep c) e (decode-kept c b t p s)
   plain-kept Read (Units c) e t = kept-by (readStep c) e (read-kept c b t p s)

@@ -1,4 +1,4 @@
--- The bytes that no operation replaces, and that the strict reader takes as they are.
+-- The bytes that no operation replaces, and that the unquoted reader takes as they are.
 -- Assumes nothing.
 use mathlib.Core.Bool.{Bool, true, false, not, _&&_}
 use mathlib.Core.List.{List}
@@ -10,8 +10,8 @@ use Rattle.rules.specs.declared.Html.{Html}
 use Rattle.rules.specs.declared.Html.the-variants.{TextMinimal, Text, DoubleQuoted, SingleQuoted, Quoted, Safe, Unquoted}
 use Rattle.rules.specs.declared.Context.{Context}
 use Rattle.rules.specs.declared.Context.the-variants.{InHtml, InScript, InStyle}
-use Rattle.rules.specs.declared.Named.{Named}
-use Rattle.rules.specs.declared.Named.the-variants.{Units, ScriptRaw, Unknown}
+use Rattle.rules.specs.declared.AnyContext.{AnyContext}
+use Rattle.rules.specs.declared.AnyContext.the-variants.{Units, ScriptRaw, Unknown}
 
 -- The context replaces every ASCII byte that is no letter or digit.
 abbrev pub unquoted : Html → Bool
@@ -30,7 +30,7 @@ unquotedIn (InScript q) = false
 unquotedIn (InStyle q) = false
 
 -- The same of any.
-abbrev pub unquotedAt : Named → Bool
+abbrev pub unquotedAt : AnyContext → Bool
 unquotedAt (Units c) = unquotedIn c
 unquotedAt ScriptRaw = false
 unquotedAt Unknown = false
@@ -42,4 +42,4 @@ plain false b = inside (32, 127) b && not (oneOf (ascii "\"&'/<>\\") b)
 
 -- The byte at place k of a text is not plain.
 abbrev pub oddAt : Bool → List ℕ → ℕ → Bool
-oddAt strict t k = not (plain strict (getD t k 0))
+oddAt unquoted t k = not (plain unquoted (getD t k 0))

@@ -4,18 +4,18 @@ ghost use mathlib.Core.Path.{_≡_};
 ghost use Prim.Native.Nat.{ℕ, _+_, _≤_, _<_};
 ghost use lib.ListN.{length, take};
 ghost use Rattle.rules.specs.Bytes.{over};
-ghost use Rattle.parts.specs.First.{Free};
+ghost use Rattle.base.specs.First.{Free};
 ghost use Rattle.plain.specs.Plain.{plain, oddAt};
 
-// Whether a byte is not plain, by the rule of unquoted attributes where `strict` holds. There is no branch but one that is the same for every byte,
+// Whether a byte is not plain, by the rule of unquoted attributes where `unquoted` holds. There is no branch but one that is the same for every byte,
 // so that many are tested at once.
-fn is_odd(strict: bool, b: u8) -> bool
-    ensures { λ r. ⌜ r ≡ not (plain strict b) ⌝ }
+fn is_odd(unquoted: bool, b: u8) -> bool
+    ensures { λ r. ⌜ r ≡ not (plain unquoted b) ⌝ }
 {
-    if strict {
-        return !parts::is_letter_or_digit(b);
+    if unquoted {
+        return !base::is_letter_or_digit(b);
     }
-    !parts::is_within(32, 127, b)
+    !base::is_within(32, 127, b)
         | (b == b'"')
         | (b == b'&')
         | (b == b'\'')
@@ -27,14 +27,14 @@ fn is_odd(strict: bool, b: u8) -> bool
 
 // Whether one of the `size` bytes from a place on is not plain: false only where none is. The loop has no way out but its end, so that they are
 // one vector.
-fn has_odd(strict: bool, text: &[u8], at: usize, size: usize) -> bool
+fn has_odd(unquoted: bool, text: &[u8], at: usize, size: usize) -> bool
     requires { ⌜ at + size ≤ length (now text) ⌝ }
-    ensures { λ r. ⌜ (r ≡ false → Free (oddAt strict (now (text .entry))) at (at + size)) ⌝ }
+    ensures { λ r. ⌜ (r ≡ false → Free (oddAt unquoted (now (text .entry))) at (at + size)) ⌝ }
 {
     let mut hit = false;
     let mut j: usize = 0;
     while j < size {
-        hit = hit | is_odd(strict, text[at + j]);
+        hit = hit | is_odd(unquoted, text[at + j]);
         j += 1;
     }
     hit
@@ -48,15 +48,15 @@ fn next(done: usize, last: usize) -> usize
 }
 
 // Whether each byte of a text is plain: true only where it is so. It takes `size` bytes together, and at the end the last of them, some again.
-fn all_plain(strict: bool, text: &[u8], size: usize) -> bool
+fn all_plain(unquoted: bool, text: &[u8], size: usize) -> bool
     requires { ⌜ (0 < size) × (size ≤ length (now text)) ⌝ }
-    ensures { λ r. ⌜ (r ≡ true → Free (oddAt strict (now (text .entry))) 0 (length (now (text .entry)))) ⌝ }
+    ensures { λ r. ⌜ (r ≡ true → Free (oddAt unquoted (now (text .entry))) 0 (length (now (text .entry)))) ⌝ }
 {
     let last = text.len() - size;
     let mut done: usize = 0;
     while done < text.len() {
         let at = next(done, last);
-        if has_odd(strict, text, at, size) {
+        if has_odd(unquoted, text, at, size) {
             return false;
         }
         done = at + size;
@@ -66,27 +66,27 @@ fn all_plain(strict: bool, text: &[u8], size: usize) -> bool
 
 // The longest text that is looked at. By the rule of unquoted attributes that is any text that a call takes; by the other rule a short one, since
 // each job has a look of its own that is quicker for long ones.
-fn longest(strict: bool) -> usize
+fn longest(unquoted: bool) -> usize
     ensures { λ r. ⌜ r ≤ 65536 ⌝ }
 {
-    if strict { 65536 } else { 64 }
+    if unquoted { 65536 } else { 64 }
 }
 
 // Whether each byte of a text of eight or more is plain: true only where it is so. The longer it is, the more are tested together.
-pub fn is_plain(strict: bool, text: &[u8]) -> bool
-    ensures { λ r. ⌜ (r ≡ true → (8 ≤ length (now (text .entry))) × (length (now (text .entry)) ≤ 65536) × Free (oddAt strict (now (text .entry))) 0 (length (now (text .entry)))) ⌝ }
+pub fn is_plain(unquoted: bool, text: &[u8]) -> bool
+    ensures { λ r. ⌜ (r ≡ true → (8 ≤ length (now (text .entry))) × (length (now (text .entry)) ≤ 65536) × Free (oddAt unquoted (now (text .entry))) 0 (length (now (text .entry)))) ⌝ }
 {
-    if longest(strict) < text.len() {
+    if longest(unquoted) < text.len() {
         return false;
     }
     if 64 < text.len() {
-        return all_plain(strict, text, 64);
+        return all_plain(unquoted, text, 64);
     }
     if 16 <= text.len() {
-        return all_plain(strict, text, 16);
+        return all_plain(unquoted, text, 16);
     }
     if 8 <= text.len() {
-        return all_plain(strict, text, 8);
+        return all_plain(unquoted, text, 8);
     }
     false
 }
@@ -129,14 +129,14 @@ fn put_eights(text: &[u8], output: &mut [u8]) -> usize
     done
 }
 
-// Writes a text of eight bytes or more to the start of `output` and returns its length, as `parts::put` does, but quicker where it is short; what
+// Writes a text of eight bytes or more to the start of `output` and returns its length, as `base::put` does, but quicker where it is short; what
 // lies past it keeps its values.
 pub fn put(text: &[u8], output: &mut [u8]) -> usize
     requires { ⌜ (8 ≤ length (now text)) × (length (now text) ≤ length (now output)) ⌝ }
     ensures { λ r. ⌜ (r ≡ length (now (text .entry))) × (now (output .exit) ≡ over (now (text .entry)) (now (output .entry))) ⌝ }
 {
     if 64 < text.len() {
-        return parts::put(text, output);
+        return base::put(text, output);
     }
     put_eights(text, output)
 }

@@ -26,12 +26,12 @@ use Rattle.rules.proofs.Every.{every}
 use Rattle.rules.proofs.EveryByte.{every-byte}
 use Rattle.rules.proofs.Loops.{drop-next}
 use Rattle.rules.proofs.Quiet.{Keeps}
-use Rattle.parts.proofs.Filled.{lent-rest}
-use Rattle.parts.specs.First.{First}
-use Rattle.escapes.specs.Finds.{Finds}
-use Rattle.escapes.specs.Strings.{escapeOf}
-use Rattle.escapes.proofs.Strings.{within-rest}
-use Rattle.heads.proofs.Standing.{agree, agreed}
+use Rattle.base.proofs.Filled.{lent-rest}
+use Rattle.base.specs.First.{First}
+use Rattle.decode_strings.specs.Finds.{Finds}
+use Rattle.decode_strings.specs.Strings.{escapeOf}
+use Rattle.decode_strings.proofs.Strings.{within-rest}
+use Rattle.base.proofs.Standing.{agree, agreed}
 use Rattle.reader.specs.Bars.{htmlBars, barsOf, isBar, setOf, inSet, Same, isWhole, barAt}
 use Rattle.reader.specs.Units.{markOf, byteStep}
 use Rattle.reader.proofs.Placed.{finds-none, has, none-there}

@@ -29,7 +29,7 @@ use Rattle.rules.proofs.Tables.{barred, bar-stops, row-length, row-first, table
 use Rattle.rules.proofs.Valid.{valid-iff}
 use Rattle.rules.proofs.Every.{every, values-code}
 use Rattle.rules.proofs.Encoder.{run-text}
-use Rattle.parts.proofs.Counted.{Counted, counted-end}
+use Rattle.base.proofs.Counted.{Counted, counted-end}
 use Rattle.reader.specs.Units.{byteStep}
 use Rattle.reader.proofs.Barred.{keeps-plain}
 

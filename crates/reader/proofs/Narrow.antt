@@ -22,13 +22,13 @@ use Rattle.rules.specs.declared.Escape.the-variants.{Taken, Nothing}
 use Rattle.rules.proofs.Tests.{and-left, and-right, all-in, first-none, distinct, differ-law}
 use Rattle.rules.proofs.Tables.{unlike}
 use Rattle.rules.proofs.EveryByte.{every-byte}
-use Rattle.escapes.specs.Finds.{Finds}
-use Rattle.escapes.specs.Hex.{hexBetween}
-use Rattle.escapes.specs.Strings.{escapeOf}
-use Rattle.escapes.proofs.Finding.{Coded, finds-byte, finds-no-byte, utf8-ascii, one-of-in}
-use Rattle.heads.proofs.Standing.{agree, agreed}
-use Rattle.escapes.proofs.Hex.{pair-digits, stands-between}
-use Rattle.escapes.proofs.Strings.{escape-told}
+use Rattle.decode_strings.specs.Finds.{Finds}
+use Rattle.decode_strings.specs.Hex.{hexBetween}
+use Rattle.decode_strings.specs.Strings.{escapeOf}
+use Rattle.decode_strings.proofs.Finding.{Coded, finds-byte, finds-no-byte, utf8-ascii, one-of-in}
+use Rattle.base.proofs.Standing.{agree, agreed}
+use Rattle.decode_strings.proofs.Hex.{pair-digits, stands-between}
+use Rattle.decode_strings.proofs.Strings.{escape-told}
 use Rattle.reader.specs.Bars.{htmlSet, inSet}
 use Rattle.reader.specs.Units.{isOther}
 use Rattle.reader.proofs.Barred.{set-same, bar-alone}

@@ -17,9 +17,9 @@ use Rattle.rules.specs.declared.Html.the-variants.{Unquoted}
 use Rattle.rules.specs.declared.Escape.{Escape}
 use Rattle.rules.specs.declared.Escape.the-variants.{Nothing}
 use Rattle.rules.proofs.Tests.{and-left, and-right, all-in, first-none}
-use Rattle.escapes.specs.Finds.{Finds}
-use Rattle.escapes.specs.Strings.{escapeOf}
-use Rattle.escapes.proofs.Finding.{finds-later, finds-end}
+use Rattle.decode_strings.specs.Finds.{Finds}
+use Rattle.decode_strings.specs.Strings.{escapeOf}
+use Rattle.decode_strings.proofs.Finding.{finds-later, finds-end}
 
 byte-stands : (k : ℕ) (v s : List ℕ) → k < length v → T (stands v s) → getD v k 0 ≡ getD s k 0
 byte-stands k [] s h t = absurd (omega arith)

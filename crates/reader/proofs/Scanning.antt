@@ -6,8 +6,8 @@ use mathlib.Core.List.{List}
 use Prim.Native.Nat.{ℕ, _+_, _-_, _≤_, _<_}
 use native.Mathlib.Omega.{arith}
 use lib.ListN.{length, take, drop, getD}
-use Rattle.parts.specs.First.{Free, First}
-use Rattle.parts.proofs.Part.{part-length, part-at}
+use Rattle.base.specs.First.{Free, First}
+use Rattle.base.proofs.Part.{part-length, part-at}
 use Rattle.reader.specs.Bars.{isBar, Same, isWhole, beginsAt, memberAt, barAt}
 
 -- A part in which the count is 0.

@@ -3,7 +3,7 @@ ghost use mathlib.Core.Bool.{false};
 ghost use mathlib.Core.Path.{_≡_};
 ghost use Prim.Native.Nat.{_≤_, _<_};
 ghost use lib.ListN.{length};
-ghost use Rattle.parts.specs.First.{Free, First};
+ghost use Rattle.base.specs.First.{Free, First};
 ghost use Rattle.reader.specs.Bars.{htmlBars, stringBars, barsOf, isBar, htmlSet, stringSet, setOf, inSet, Same, isWhole, beginsAt, memberAt, barAt};
 use rules::Context;
 use rules::Html;
@@ -53,9 +53,9 @@ fn is_bar(bars: &[u8; 8], b: u8) -> bool
     ensures { λ r. ⌜ r ≡ isBar (now (bars .entry)) b ⌝ }
 {
     if bars[7] == 1 {
-        return (b < 128) & !parts::is_letter_or_digit(b);
+        return (b < 128) & !base::is_letter_or_digit(b);
     }
-    let ranged = parts::is_within(bars[0], bars[1], b);
+    let ranged = base::is_within(bars[0], bars[1], b);
     ranged | (b == bars[2]) | (b == bars[3]) | (b == bars[4]) | (b == bars[5]) | (b == bars[6])
 }
 
@@ -132,7 +132,7 @@ fn pass(bars: &[u8; 8], text: &[u8], from: usize) -> usize
 {
     let mut i = from;
     while i < text.len() {
-        let e = parts::clip(i, text.len(), 32);
+        let e = base::clip(i, text.len(), 32);
         if count(bars, &text[i..e]) != 0 {
             return i;
         }
@@ -165,7 +165,7 @@ fn find(bars: &[u8; 8], set: &[u64; 4], text: &[u8], from: usize) -> usize
     if from == text.len() {
         return from;
     }
-    let near = parts::clip(from, text.len(), 16);
+    let near = base::clip(from, text.len(), 16);
     let i = walk(set, text, from, near);
     if i < near {
         return i;
@@ -181,10 +181,10 @@ fn is_whole(rest: &[u8]) -> bool
     if rest[0] != 0xE2 {
         return true;
     }
-    if heads::starts(b"\xE2\x80\xA8", rest) {
+    if base::prefix::starts(b"\xE2\x80\xA8", rest) {
         return true;
     }
-    heads::starts(b"\xE2\x80\xA9", rest)
+    base::prefix::starts(b"\xE2\x80\xA9", rest)
 }
 
 // The first place at or after `from` where a replaced character stands, or the text's length.

@@ -8,7 +8,7 @@ ghost use Rattle.rules.specs.Moves.{through, replaced};
 ghost use Rattle.rules.specs.Utf8.{validTo};
 ghost use Rattle.rules.specs.Reading.{readStep};
 ghost use Rattle.rules.specs.Operations.{readOf, readTo};
-use escapes::rows;
+use decode_strings::rows;
 use rules::Context;
 use rules::Escape;
 
@@ -56,7 +56,7 @@ pub fn measure(c: Context, text: &[u8]) -> Measured
                 same: units == 0,
             };
         };
-        length += chars::char_length(ch);
+        length += base::chars::char_length(ch);
         units += 1;
         i += n;
     }
@@ -84,7 +84,7 @@ pub fn write(c: Context, text: &[u8], output: &mut [u8]) -> usize
             if e == i {
                 return at;
             }
-            at += parts::put(&text[i..e], &mut output[at..]);
+            at += base::put(&text[i..e], &mut output[at..]);
             i = e;
             continue;
         }
@@ -92,7 +92,7 @@ pub fn write(c: Context, text: &[u8], output: &mut [u8]) -> usize
         let Escape::Taken(n, ch) = rows::escape_of(code) else {
             return at;
         };
-        at += chars::put_char(ch, &mut output[at..]);
+        at += base::chars::put_char(ch, &mut output[at..]);
         i += n;
     }
     at

@@ -7,13 +7,13 @@ ghost use lib.ListN.{length, drop};
 ghost use Rattle.rules.specs.Bytes.{ascii, oneOf, stands};
 ghost use Rattle.rules.specs.Tables.{reference, others, htmlRows, rows};
 ghost use Rattle.rules.specs.declared.Html.the-variants.{Unquoted};
-ghost use Rattle.escapes.specs.Finds.{Finds};
-ghost use Rattle.escapes.specs.Strings.{stringOf, escapeOf};
+ghost use Rattle.decode_strings.specs.Finds.{Finds};
+ghost use Rattle.decode_strings.specs.Strings.{stringOf, escapeOf};
 ghost use Rattle.reader.specs.Bars.{htmlSet, setOf};
 ghost use Rattle.reader.specs.Units.{isOther, markOf};
 use crate::bars;
-use escapes::digits;
-use escapes::rows;
+use decode_strings::digits;
+use decode_strings::rows;
 use rules::Context;
 use rules::Html;
 use rules::Quotes;
@@ -42,7 +42,7 @@ fn is_other(v: u32) -> bool
         return false;
     }
     let b = v as u8;
-    if parts::is_letter_or_digit(b) {
+    if base::is_letter_or_digit(b) {
         return false;
     }
     !is_named(b)
@@ -52,7 +52,7 @@ fn is_other(v: u32) -> bool
 fn named(value: &[u8], code: u32, rest: &[u8]) -> u32
     ensures { λ r. ⌜ r ≡ cond (stands (now (value .entry)) (now (rest .entry))) code 0 ⌝ }
 {
-    if heads::starts(value, rest) {
+    if base::prefix::starts(value, rest) {
         return code;
     }
     0

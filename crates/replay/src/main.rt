@@ -19,10 +19,10 @@ ghost use lib.ListN.{length};
 use cases::Case;
 use cases::Expected;
 use libc::STDIN_FILENO;
+use replay_list::after;
+use replay_list::byte_at;
+use replay_list::read_number;
 use rules::Operation;
-use spelling::after;
-use spelling::byte_at;
-use spelling::read_number;
 
 // Where the reading of the list stands: the place and the number of the line, the lengths of the text and of the result, whether the last line was
 // met, and whether the list is right so far.
@@ -55,14 +55,14 @@ fn next_line(list: &[u8], state: State, end: usize) -> State {
 
 // A remark.
 fn remark(list: &[u8], state: State) -> State {
-    next_line(list, state, spelling::line_end(list, state.at))
+    next_line(list, state, replay_list::line_end(list, state.at))
 }
 
 // A t line: the text goes into both buffers.
 fn text_line(list: &[u8], state: State, text: &mut [u8], result: &mut [u8]) -> State {
     let start = after(state.at);
-    let read = spelling::text(list, start, text);
-    let again = spelling::text(list, start, result);
+    let read = replay_list::text(list, start, text);
+    let again = replay_list::text(list, start, result);
     if !read.right || !again.right {
         return malformed(state);
     }
@@ -74,7 +74,7 @@ fn text_line(list: &[u8], state: State, text: &mut [u8], result: &mut [u8]) -> S
 
 // An r line.
 fn result_line(list: &[u8], state: State, result: &mut [u8]) -> State {
-    let read = spelling::text(list, after(state.at), result);
+    let read = replay_list::text(list, after(state.at), result);
     if !read.right {
         return malformed(state);
     }
@@ -85,7 +85,7 @@ fn result_line(list: &[u8], state: State, result: &mut [u8]) -> State {
 
 // The last line: its count must be that of the cases that ran, and nothing may follow it.
 fn end_line(list: &[u8], state: State, ran: u64) -> State {
-    let start = spelling::past_letters(list, state.at);
+    let start = replay_list::past_letters(list, state.at);
     let count = read_number(list, after(start));
     let mut next = next_line(list, state, count.next);
     if !count.found || count.value as u64 != ran || next.at != list.len() {
@@ -235,9 +235,9 @@ fn case_line(
     output: &mut [u8],
     tally: &mut [u64],
 ) -> State {
-    let contexts = after(spelling::past_letters(list, state.at));
-    let kinds = after(spelling::past_letters(list, contexts));
-    let numbers = read_numbers(list, after(spelling::past_letters(list, kinds)));
+    let contexts = after(replay_list::past_letters(list, state.at));
+    let kinds = after(replay_list::past_letters(list, contexts));
+    let numbers = read_numbers(list, after(replay_list::past_letters(list, kinds)));
     let expected = numbers.expected;
     if !numbers.found || output.len() <= expected.room {
         return malformed(state);

@@ -18,7 +18,7 @@ use Rattle.rules.specs.Contexts.{Label, contextNames, operationNames}
 use Rattle.rules.specs.Operations.{ruleOf}
 use Rattle.rules.specs.Refusals.{Call, Case, movesOf, caseBy, answer, answerAt}
 use Rattle.rules.specs.Program.{line, textOf, contextLine, printed, shown, printedCall, entityOf}
-use Rattle.rules.specs.declared.Named.{Named}
+use Rattle.rules.specs.declared.AnyContext.{AnyContext}
 use Rattle.rules.specs.declared.Operation.{Operation}
 use Rattle.rules.proofs.Tests.{and-left, and-right}
 use Rattle.rules.proofs.Refused.{chosen}
@@ -62,10 +62,10 @@ module _ (t : List ℕ) (long : 8192 < size t) where
       (ltb (6 * 8192) (size (result (through rule t)))))
 
 -- The call of a text.
-abbrev calls : Operation → Named → List ℕ → Call
+abbrev calls : Operation → AnyContext → List ℕ → Call
 calls o c t = record { operation = o; context = c; borrows = false; limit = 8192; text = t; room = 6 * 8192 }
 
-call-cut : (o : Operation) (c : Named) (t : List ℕ) (n : ℕ) → 8193 ≤ n → printedCall (calls o c (take n t)) ≡ printedCall (calls o c t)
+call-cut : (o : Operation) (c : AnyContext) (t : List ℕ) (n : ℕ) → 8193 ≤ n → printedCall (calls o c (take n t)) ≡ printedCall (calls o c t)
 call-cut o c t n h = go (ltb 8192 (size t)) refl
   where
     go : (b : Bool) → ltb 8192 (size t) ≡ b → printedCall (calls o c (take n t)) ≡ printedCall (calls o c t)
@@ -74,7 +74,7 @@ call-cut o c t n h = go (ltb 8192 (size t)) refl
         long-text (take n t) (omega (arith, l, length-take n t)) (ruleOf o c) ∙ sym (long-text t l (ruleOf o c))
     go false e = ap (λ (x : List ℕ). printedCall (calls o c x)) (take-all n t (omega (arith, ltb-false 8192 (size t) e)))
 
-text-cut : (o : Operation) (c : Named) (s : List ℕ) (n : ℕ) → 8198 ≤ n → printedBy (textOf o c (take n s)) ≡ printedBy (textOf o c s)
+text-cut : (o : Operation) (c : AnyContext) (s : List ℕ) (n : ℕ) → 8198 ≤ n → printedBy (textOf o c (take n s)) ≡ printedBy (textOf o c s)
 text-cut o c s n h =
     ap (λ (b : Bool). printedBy (cond b (some (calls o c (drop 5 (take n s)))) none)) (stands-cut (ascii "text=") s n (omega arith)) ∙ go (stands (ascii "text=") s)
   where

@@ -11,7 +11,7 @@ use lib.ListN.{length as size, drop, length-append}
 use Rattle.rules.specs.Bytes.{ascii, first, stands}
 use Rattle.rules.specs.Contexts.{Label, contextOf}
 use Rattle.rules.specs.Program.{line, textOf}
-use Rattle.rules.specs.declared.Named.{Named}
+use Rattle.rules.specs.declared.AnyContext.{AnyContext}
 use Rattle.rules.specs.declared.Operation.{Operation}
 use Rattle.rules.proofs.Tests.{stands-split}
 use Rattle.requests.specs.Asked.{asked}
@@ -105,7 +105,7 @@ module _ {A B : Type 0} (field s : List ℕ) (k : A → List ℕ → Option B) w
 -- ---- the line of the text
 
 -- It does not stand there.
-pub no-text : (o : Operation) (n : Named) (s : List ℕ) → stands (ascii "text=") s ≡ false → textOf o n s ≡ none
+pub no-text : (o : Operation) (n : AnyContext) (s : List ℕ) → stands (ascii "text=") s ≡ false → textOf o n s ≡ none
 no-text o n s e = rw e
 
 -- It does, and the call is that of the rest.

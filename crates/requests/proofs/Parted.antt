@@ -9,7 +9,7 @@ use Rattle.rules.specs.Bytes.{ascii, over}
 use Rattle.rules.specs.Program.{decimal, printed}
 use Rattle.rules.specs.declared.Answer.{Answer}
 use Rattle.requests.proofs.Digits.{digits-length}
-use Rattle.parts.proofs.Filled.{Filled, Next, filled-start, filled-more}
+use Rattle.base.proofs.Filled.{Filled, Next, filled-start, filled-more}
 
 -- The first part is written over the start of the output.
 pub filled-first : (w rest out₀ out : List ℕ) (n : ℕ) → length (w ++ rest) ≤ length out₀ → n ≡ length w → out ≡ over w out₀ → Filled (w ++ rest) rest out₀ out n

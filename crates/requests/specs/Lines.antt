@@ -8,7 +8,7 @@ use lib.ListN.{length as size}
 use Rattle.rules.specs.Bytes.{stands}
 use Rattle.rules.specs.Contexts.{Label, contextOf}
 use Rattle.rules.specs.Program.{line}
-use Rattle.rules.specs.declared.Named.{Named}
+use Rattle.rules.specs.declared.AnyContext.{AnyContext}
 use Rattle.rules.specs.declared.Operation.{Operation}
 use Rattle.requests.specs.declared.lines.OperationLine.{OperationLine}
 use Rattle.requests.specs.declared.lines.OperationLine.the-variants.{Names as NamesOperation, Nothing as NoOperation}
@@ -26,6 +26,6 @@ operationFound (NamesOperation o n) = some (o, n)
 operationFound NoOperation = none
 
 -- What the reader of the second line answers.
-abbrev pub contextFound : ContextLine → Option (Named × ℕ)
+abbrev pub contextFound : ContextLine → Option (AnyContext × ℕ)
 contextFound (NamesContext k n) = some (contextOf k, n)
 contextFound NoContext = none

@@ -1,7 +1,7 @@
 // Requests to the program `entity`: the lines that it reads, the call that they ask for, and the lines that it prints. `reply` does all of it, on bytes
 // that lie in memory; crates/entity reads and writes them. What is printed for what is read is `entityOf` of crates/rules/specs/Program.antt.
 mod lines;
-mod page;
+mod print;
 
 ghost use mathlib.Core.Option.{none};
 ghost use mathlib.Core.Path.{_≡_};
@@ -70,8 +70,8 @@ fn converse(operation: Operation, context: u32, text: &[u8], output: &mut [u8]) 
 {
     let mut result = room();
     let answer = limited(operation, context, text, &mut result);
-    let at = page::put_answer(answer, output);
-    at + parts::put(lintelrye::view(text, &result, answer), &mut output[at..])
+    let at = print::put_answer(answer, output);
+    at + base::put(lintelrye::view(text, &result, answer), &mut output[at..])
 }
 
 // Prints that the request is none.
@@ -79,7 +79,7 @@ fn refuse(output: &mut [u8]) -> usize
     requires { ⌜ 65536 ≤ length (now output) ⌝ }
     ensures { λ r. ⌜ Prints (printedBy none) r (now (output .entry)) (now (output .exit)) ⌝ }
 {
-    page::put_answer(refusal(BAD_REQUEST), output)
+    print::put_answer(refusal(BAD_REQUEST), output)
 }
 
 // What is left of a request after the line of the context: `text=`, and the text.
@@ -87,7 +87,7 @@ fn with_text(operation: Operation, context: u32, rest: &[u8], output: &mut [u8])
     requires { ⌜ 65536 ≤ length (now output) ⌝ }
     ensures { λ r. ⌜ Prints (printedBy (textOf operation (contextOf context) (now (rest .entry)))) r (now (output .entry)) (now (output .exit)) ⌝ }
 {
-    if !heads::starts(b"text=", rest) {
+    if !base::prefix::starts(b"text=", rest) {
         return refuse(output);
     }
     converse(operation, context, &rest[5..], output)

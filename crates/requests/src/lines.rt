@@ -22,16 +22,16 @@ pub enum ContextLine {
 pub fn operation_line(input: &[u8]) -> OperationLine
     ensures { λ r. ⌜ operationFound r ≡ lineFound (ascii "op=") operationNames (now (input .entry)) ⌝ }
 {
-    if heads::starts(b"op=encode\n", input) {
+    if base::prefix::starts(b"op=encode\n", input) {
         return OperationLine::Names(Operation::Encode, 10);
     }
-    if heads::starts(b"op=decode\n", input) {
+    if base::prefix::starts(b"op=decode\n", input) {
         return OperationLine::Names(Operation::Decode, 10);
     }
-    if heads::starts(b"op=read\n", input) {
+    if base::prefix::starts(b"op=read\n", input) {
         return OperationLine::Names(Operation::Read, 8);
     }
-    if heads::starts(b"op=browse\n", input) {
+    if base::prefix::starts(b"op=browse\n", input) {
         return OperationLine::Names(Operation::Browse, 10);
     }
     OperationLine::Nothing
@@ -41,25 +41,25 @@ pub fn operation_line(input: &[u8]) -> OperationLine
 fn html_line(rest: &[u8]) -> ContextLine
     ensures { λ r. ⌜ contextFound r ≡ lineFound (ascii "context=") (take 7 contextNames) (now (rest .entry)) ⌝ }
 {
-    if heads::starts(b"context=text_minimal\n", rest) {
+    if base::prefix::starts(b"context=text_minimal\n", rest) {
         return ContextLine::Names(0, 21);
     }
-    if heads::starts(b"context=text\n", rest) {
+    if base::prefix::starts(b"context=text\n", rest) {
         return ContextLine::Names(1, 13);
     }
-    if heads::starts(b"context=double_quoted\n", rest) {
+    if base::prefix::starts(b"context=double_quoted\n", rest) {
         return ContextLine::Names(2, 22);
     }
-    if heads::starts(b"context=single_quoted\n", rest) {
+    if base::prefix::starts(b"context=single_quoted\n", rest) {
         return ContextLine::Names(3, 22);
     }
-    if heads::starts(b"context=quoted\n", rest) {
+    if base::prefix::starts(b"context=quoted\n", rest) {
         return ContextLine::Names(4, 15);
     }
-    if heads::starts(b"context=safe\n", rest) {
+    if base::prefix::starts(b"context=safe\n", rest) {
         return ContextLine::Names(5, 13);
     }
-    if heads::starts(b"context=unquoted\n", rest) {
+    if base::prefix::starts(b"context=unquoted\n", rest) {
         return ContextLine::Names(6, 17);
     }
     ContextLine::Nothing
@@ -69,25 +69,25 @@ fn html_line(rest: &[u8]) -> ContextLine
 fn string_line(rest: &[u8]) -> ContextLine
     ensures { λ r. ⌜ contextFound r ≡ lineFound (ascii "context=") (drop 7 contextNames) (now (rest .entry)) ⌝ }
 {
-    if heads::starts(b"context=script_single\n", rest) {
+    if base::prefix::starts(b"context=script_single\n", rest) {
         return ContextLine::Names(7, 22);
     }
-    if heads::starts(b"context=script_double\n", rest) {
+    if base::prefix::starts(b"context=script_double\n", rest) {
         return ContextLine::Names(8, 22);
     }
-    if heads::starts(b"context=script_quoted\n", rest) {
+    if base::prefix::starts(b"context=script_quoted\n", rest) {
         return ContextLine::Names(9, 22);
     }
-    if heads::starts(b"context=style_single\n", rest) {
+    if base::prefix::starts(b"context=style_single\n", rest) {
         return ContextLine::Names(10, 21);
     }
-    if heads::starts(b"context=style_double\n", rest) {
+    if base::prefix::starts(b"context=style_double\n", rest) {
         return ContextLine::Names(11, 21);
     }
-    if heads::starts(b"context=style_quoted\n", rest) {
+    if base::prefix::starts(b"context=style_quoted\n", rest) {
         return ContextLine::Names(12, 21);
     }
-    if heads::starts(b"context=script_raw\n", rest) {
+    if base::prefix::starts(b"context=script_raw\n", rest) {
         return ContextLine::Names(13, 19);
     }
     ContextLine::Nothing

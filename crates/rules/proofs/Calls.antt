@@ -24,8 +24,8 @@ use Rattle.rules.specs.declared.Context.{Context}
 use Rattle.rules.specs.declared.Context.the-variants.{InHtml, InScript, InStyle}
 use Rattle.rules.specs.declared.Operation.{Operation}
 use Rattle.rules.specs.declared.Operation.the-variants.{Encode, Decode, Read, Browse}
-use Rattle.rules.specs.declared.Named.{Named}
-use Rattle.rules.specs.declared.Named.the-variants.{Units, ScriptRaw, Unknown}
+use Rattle.rules.specs.declared.AnyContext.{AnyContext}
+use Rattle.rules.specs.declared.AnyContext.the-variants.{Units, ScriptRaw, Unknown}
 use Rattle.rules.proofs.Machine.{same-result}
 use Rattle.rules.proofs.Growth.{encode-whole, raw-whole, balance}
 use Rattle.rules.proofs.Whole.{decode-whole, browse-whole}
@@ -51,7 +51,7 @@ same-iff ms = (λ e. go (eqb (replaced ms) 0) refl e, λ z. ap (λ (b : Bool). c
     go false e q = absurd (suc-ne-zero 0 (sym q))
 
 -- Every rule takes the text where it takes as many bytes as the text has.
-taken-all : (o : Operation) (n : Named) (t : List ℕ) → size t ≤ place (movesIn (call o n true t [])) → taken (movesIn (call o n true t [])) ≡ t
+taken-all : (o : Operation) (n : AnyContext) (t : List ℕ) → size t ≤ place (movesIn (call o n true t [])) → taken (movesIn (call o n true t [])) ≡ t
 taken-all Encode (Units c) t h = encode-whole c t
 taken-all Encode ScriptRaw t h = raw-whole t
 taken-all Encode Unknown t h = none-taken t h
@@ -69,7 +69,7 @@ taken-all Browse Unknown t h = none-taken t h
 
 -- ---- one call
 
-module _ (o : Operation) (n : Named) (borrows : Bool) (t out : List ℕ) where
+module _ (o : Operation) (n : AnyContext) (borrows : Bool) (t out : List ℕ) where
   abbrev k : Call
   k = call o n borrows t out
 
@@ -166,7 +166,7 @@ module _ (o : Operation) (n : Named) (borrows : Bool) (t out : List ℕ) where
       go written h = absurd (h .1 .1 .1 .1 .1 .0 (b, z))
 
 -- The length that NO_ROOM names is the length needed: an output passes exactly if it has that many bytes.
-pub room-needed : (o : Operation) (n : Named) (borrows : Bool) (t out other : List ℕ) → caseOf (call o n borrows t out) ≡ no-room
+pub room-needed : (o : Operation) (n : AnyContext) (borrows : Bool) (t out other : List ℕ) → caseOf (call o n borrows t out) ≡ no-room
     → (answerOf o n borrows t out .length ≤ size other) ↔ (caseOf (call o n borrows t other) ≡ written)
 room-needed o n borrows t out other e = (
   λ h. case-iff (call o n borrows t other) written .1
@@ -186,7 +186,7 @@ room-needed o n borrows t out other e = (
 -- ---- demand 3, of calls
 
 -- A call passes where the table has nothing against it.
-passes : (o : Operation) (n : Named) (borrows : Bool) (t out : List ℕ) → (ruleOf o n ≡ none → ⊥) → size t ≤ textLimit → IsText t → (NoForm o n t → ⊥)
+passes : (o : Operation) (n : AnyContext) (borrows : Bool) (t out : List ℕ) → (ruleOf o n ≡ none → ⊥) → size t ≤ textLimit → IsText t → (NoForm o n t → ⊥)
     → size (result (movesIn (call o n borrows t out))) ≤ size out → answerOf o n borrows t out .status ≡ 0
 passes o n borrows t out known short text form room = go (caseOf (call o n borrows t out)) (case-given (call o n borrows t out))
   where
@@ -236,6 +236,6 @@ module _ (c : Context) (borrows : Bool) (t out : List ℕ) where
 -- ---- a contract allows one result
 
 -- Two answers, and two outputs, that a call's contract allows are equal.
-pub determined : (o : Operation) (n : Named) (borrows : Bool) (t out : List ℕ) (a b : Answer) (x y : List ℕ)
+pub determined : (o : Operation) (n : AnyContext) (borrows : Bool) (t out : List ℕ) (a b : Answer) (x y : List ℕ)
     → (a ≡ answerOf o n borrows t out) × (x ≡ outOf o n borrows t out) → (b ≡ answerOf o n borrows t out) × (y ≡ outOf o n borrows t out) → (a ≡ b) × (x ≡ y)
 determined o n borrows t out a b x y p q = (p .0 ∙ sym (q .0), p .1 ∙ sym (q .1))

@@ -21,8 +21,8 @@ use Rattle.rules.specs.Refusals.{Call, Case, bad-context, too-long, not-
 use Rattle.rules.specs.declared.Context.the-variants.{InHtml, InScript, InStyle}
 use Rattle.rules.specs.declared.Operation.{Operation}
 use Rattle.rules.specs.declared.Operation.the-variants.{Encode, Decode, Read, Browse}
-use Rattle.rules.specs.declared.Named.{Named}
-use Rattle.rules.specs.declared.Named.the-variants.{Units, ScriptRaw, Unknown}
+use Rattle.rules.specs.declared.AnyContext.{AnyContext}
+use Rattle.rules.specs.declared.AnyContext.the-variants.{Units, ScriptRaw, Unknown}
 use Rattle.rules.proofs.Growth.{encode-whole, raw-whole}
 use Rattle.rules.proofs.Whole.{decode-whole, browse-whole}
 use Rattle.rules.proofs.Valid.{valid-iff, valid-within}
@@ -96,7 +96,7 @@ whole-iff : (ms : List Move) (t : List ℕ) → taken ms ≡ t → (ltb (place m
 whole-iff ms t w = (λ e. apart (place ms) (size t) (ltb-true (place ms) (size t) e) (ap size w), λ p. absurd p)
 
 -- Only read can stop before the end, and it does so exactly if the text is no run of units.
-form-says : (op : Operation) (n : Named) (t : List ℕ) → (ruleOf op n ≡ none → ⊥) → (ltb (place (movesOf (ruleOf op n) t)) (size t) ≡ true) ↔ NoForm op n t
+form-says : (op : Operation) (n : AnyContext) (t : List ℕ) → (ruleOf op n ≡ none → ⊥) → (ltb (place (movesOf (ruleOf op n) t)) (size t) ≡ true) ↔ NoForm op n t
 form-says Encode (Units c) t k = whole-iff (through (encodeStep c) t) t (encode-whole c t)
 form-says Encode ScriptRaw t k = whole-iff (through rawStep t) t (raw-whole t)
 form-says Encode Unknown t k = absurd (k refl)

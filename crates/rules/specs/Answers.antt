@@ -2,15 +2,17 @@
 -- Assumes nothing.
 use mathlib.Core.Bool.{Bool, cond}
 use mathlib.Core.Option.{Option, none, some}
+use mathlib.Core.Path.{_≡_}
 use mathlib.Core.List.{List, [], _∷_, _++_}
 use Prim.Native.Nat.{ℕ, zero, suc, _-_, _/_, _%_}
 use lib.Dec.{eqb}
-use lib.ListN.{take, drop, getD}
+use lib.ListN.{length as size, take, drop, getD}
 use Rattle.rules.specs.Bytes.{ascii}
-use Rattle.rules.specs.Moves.{Move, swap}
+use Rattle.rules.specs.Moves.{Move, swap, result, replaced, place as placeOf}
 use Rattle.rules.specs.Utf8.{utf8}
 use Rattle.rules.specs.Tables.{Row, key, value, slashed, scriptHex, styleHex}
 use Rattle.rules.specs.Encoding.{keepByte}
+use Rattle.rules.specs.declared.Measured.{Measured}
 use Rattle.rules.specs.declared.DecodedEntityValue.{DecodedEntityValue}
 use Rattle.rules.specs.declared.DecodedEntityValue.the-variants.{Named, Character}
 use Rattle.rules.specs.declared.Meaning.{Meaning}
@@ -59,3 +61,9 @@ replacementMove style s Hex = writeRow (cond style (styleHex (getD s 0 0)) (scri
 replacementMove style s Separator = swap (take 3 s) (ascii "\\u202" ++ (getD s 2 0 - 0x70) ∷ [])
 replacementMove style s Substitute = swap (take 1 s) (0xEF ∷ 0xBF ∷ 0xBD ∷ [])
 replacementMove style s NoReplacement = keepByte s
+
+-- What a pass over a text finds is read off the moves through it.
+pub record Measures (found : Measured) (ms : List Move) : Type 0 where
+  pub long : found .length ≡ size (result ms)
+  pub reach : found .place ≡ placeOf ms
+  pub kept : found .same ≡ eqb (replaced ms) 0

@@ -1,4 +1,4 @@
--- 4. "Fourteen contexts, five operations": the contexts with their names and numbers, and the operations with theirs.
+-- 4. "Fourteen contexts, five operations": the contexts with their names and numbers, and the operations with their names.
 -- The types are those of the code: thirteen contexts have units, script_raw has none. view is with the refusal table.
 -- Assumes nothing.
 use mathlib.Core.List.{List, [], _∷_}
@@ -7,9 +7,13 @@ use lib.ListN.{getD}
 use Rattle.rules.specs.Bytes.{ascii}
 use Rattle.rules.specs.declared.Html.the-variants.{TextMinimal, Text, DoubleQuoted, SingleQuoted, Quoted, Safe, Unquoted}
 use Rattle.rules.specs.declared.Quotes.the-variants.{Single, Double, Both}
+use Rattle.rules.specs.declared.Quotes.{Quotes}
+use Rattle.rules.specs.declared.Language.{Language}
+use Rattle.rules.specs.declared.Language.the-variants.{Script, Style}
+use Rattle.rules.specs.declared.Context.{Context}
 use Rattle.rules.specs.declared.Context.the-variants.{InHtml, InScript, InStyle}
-use Rattle.rules.specs.declared.Named.{Named}
-use Rattle.rules.specs.declared.Named.the-variants.{Units, ScriptRaw, Unknown}
+use Rattle.rules.specs.declared.AnyContext.{AnyContext}
+use Rattle.rules.specs.declared.AnyContext.the-variants.{Units, ScriptRaw, Unknown}
 use Rattle.rules.specs.declared.Operation.{Operation}
 use Rattle.rules.specs.declared.Operation.the-variants.{Encode, Decode, Read, Browse}
 
@@ -23,7 +27,7 @@ abbrev pub label : {A : Type 0} → List ℕ → A → Label A
 label n a = record { name = n; names = a }
 
 -- The fourteen contexts in document 01's order: the HTML seven, the script strings, the style strings, script_raw.
-abbrev pub contextNames : List (Label Named)
+abbrev pub contextNames : List (Label AnyContext)
 contextNames =
     label (ascii "text_minimal") (Units (InHtml TextMinimal))
     ∷ label (ascii "text") (Units (InHtml Text))
@@ -42,8 +46,13 @@ contextNames =
     ∷ []
 
 -- The context of a number: its place in that list, from 0; any other number names none.
-unfoldable pub contextOf : ℕ → Named
+unfoldable pub contextOf : ℕ → AnyContext
 contextOf n = getD contextNames n (label [] Unknown) .names
+
+-- The context of a string, by its language and the quotes that it escapes.
+abbrev pub stringOf : Language → Quotes → Context
+stringOf Script q = InScript q
+stringOf Style q = InStyle q
 
 -- The operations that go through a text, by name.
 abbrev pub operationNames : List (Label Operation)

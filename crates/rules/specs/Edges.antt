@@ -19,7 +19,7 @@ use Rattle.rules.specs.Examples.{Example, passesIn, example, stays, refu
 use Rattle.rules.specs.declared.Html.the-variants.{TextMinimal, Text, Quoted, Safe, Unquoted}
 use Rattle.rules.specs.declared.Quotes.the-variants.{Single, Double, Both}
 use Rattle.rules.specs.declared.Context.the-variants.{InHtml, InScript, InStyle}
-use Rattle.rules.specs.declared.Named.the-variants.{Units, ScriptRaw}
+use Rattle.rules.specs.declared.AnyContext.the-variants.{Units, ScriptRaw}
 use Rattle.rules.specs.declared.Operation.{Operation}
 use Rattle.rules.specs.declared.Operation.the-variants.{Encode, Decode, Read, Browse}
 use Rattle.rules.specs.declared.DecodedEntityValue.the-variants.{Named as NamedText, Character}

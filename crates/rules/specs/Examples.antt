@@ -11,38 +11,38 @@ use Rattle.rules.specs.declared.Answer.{Answer}
 use Rattle.rules.specs.declared.Html.the-variants.{TextMinimal, Text, Safe}
 use Rattle.rules.specs.declared.Quotes.the-variants.{Single, Double, Both}
 use Rattle.rules.specs.declared.Context.the-variants.{InHtml, InScript, InStyle}
-use Rattle.rules.specs.declared.Named.{Named}
-use Rattle.rules.specs.declared.Named.the-variants.{Units, ScriptRaw}
+use Rattle.rules.specs.declared.AnyContext.{AnyContext}
+use Rattle.rules.specs.declared.AnyContext.the-variants.{Units, ScriptRaw}
 use Rattle.rules.specs.declared.Operation.{Operation}
 use Rattle.rules.specs.declared.Operation.the-variants.{Encode, Decode, Read, Browse}
 
 -- An example: the operation, the context, the text, the length of the output; the answer, and what view gives.
 pub record Example : Type 0 where
   pub operation : Operation
-  pub context : Named
+  pub context : AnyContext
   pub text : List ℕ
   pub room : ℕ
   pub says : Answer
   pub gives : List ℕ
 
 -- A call in an output of so many bytes that passes.
-abbrev pub passesIn : ℕ → Operation → Named → List ℕ → List ℕ → Example
+abbrev pub passesIn : ℕ → Operation → AnyContext → List ℕ → List ℕ → Example
 passesIn room o n t r = record { operation = o; context = n; text = t; room = room; says = answer 0 (size r) (cond (sameBytes t r) 1 0) 0; gives = r }
 
 -- One in an output that is two bytes longer than the result.
-abbrev pub example : Operation → Named → List ℕ → List ℕ → Example
+abbrev pub example : Operation → AnyContext → List ℕ → List ℕ → Example
 example o n t r = passesIn (size r + 2) o n t r
 
 -- The bytes stay as they are.
-abbrev pub stays : Operation → Named → List ℕ → Example
+abbrev pub stays : Operation → AnyContext → List ℕ → Example
 stays o n t = example o n t t
 
 -- A call in an output of so many bytes that is refused, with status, length and place.
-abbrev pub refusedIn : ℕ → Operation → Named → List ℕ → ℕ → ℕ → ℕ → Example
+abbrev pub refusedIn : ℕ → Operation → AnyContext → List ℕ → ℕ → ℕ → ℕ → Example
 refusedIn room o n t s l p = record { operation = o; context = n; text = t; room = room; says = answer s l 0 p; gives = [] }
 
 -- One in an output of nine bytes, with status and place.
-abbrev pub refused : Operation → Named → List ℕ → ℕ → ℕ → Example
+abbrev pub refused : Operation → AnyContext → List ℕ → ℕ → ℕ → Example
 refused o n t s p = refusedIn 9 o n t s 0 p
 
 -- Two answers are the same.

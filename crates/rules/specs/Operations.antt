@@ -12,8 +12,8 @@ use Rattle.rules.specs.References.{referenceStep, browseStep}
 use Rattle.rules.specs.Escapes.{escapeBy}
 use Rattle.rules.specs.declared.Context.{Context}
 use Rattle.rules.specs.declared.Context.the-variants.{InHtml, InScript, InStyle}
-use Rattle.rules.specs.declared.Named.{Named}
-use Rattle.rules.specs.declared.Named.the-variants.{Units, ScriptRaw, Unknown}
+use Rattle.rules.specs.declared.AnyContext.{AnyContext}
+use Rattle.rules.specs.declared.AnyContext.the-variants.{Units, ScriptRaw, Unknown}
 use Rattle.rules.specs.declared.Operation.{Operation}
 use Rattle.rules.specs.declared.Operation.the-variants.{Encode, Decode, Read, Browse}
 
@@ -44,7 +44,7 @@ ruleRaw Read = none
 ruleRaw Browse = none
 
 -- The rule of an operation in the context that a call names, if it has one.
-abbrev pub ruleOf : Operation → Named → Option Rule
+abbrev pub ruleOf : Operation → AnyContext → Option Rule
 ruleOf op (Units c) = ruleIn op c
 ruleOf op ScriptRaw = ruleRaw op
 ruleOf op Unknown = none

@@ -11,7 +11,7 @@ use Rattle.rules.specs.Moves.{result}
 use Rattle.rules.specs.Contexts.{Label, contextNames, operationNames}
 use Rattle.rules.specs.Refusals.{Call, caseOf, movesIn, answer, answerAt}
 use Rattle.rules.specs.declared.Answer.{Answer}
-use Rattle.rules.specs.declared.Named.{Named}
+use Rattle.rules.specs.declared.AnyContext.{AnyContext}
 use Rattle.rules.specs.declared.Operation.{Operation}
 
 -- A line of the header: what it is of, `=` and all, a name, and byte 0A.
@@ -19,7 +19,7 @@ abbrev pub line : {A : Type 0} → List ℕ → Label A → List ℕ
 line field l = field ++ l .name ++ 10 ∷ []
 
 -- The text of a request.
-abbrev pub textOf : Operation → Named → List ℕ → Option Call
+abbrev pub textOf : Operation → AnyContext → List ℕ → Option Call
 textOf op n s =
     cond (stands (ascii "text=") s)
     (some (record { operation = op; context = n; borrows = false; limit = 8192; text = drop 5 s; room = 6 * 8192 }))
@@ -28,7 +28,7 @@ textOf op n s =
 -- After `op=`: the line `context=` with one of the fourteen names.
 abbrev pub contextLine : Operation → List ℕ → Option Call
 contextLine op s =
-    elim (first (λ (l : Label Named). stands (line (ascii "context=") l)) contextNames s) [
+    elim (first (λ (l : Label AnyContext). stands (line (ascii "context=") l)) contextNames s) [
       | none ↦ none
       | some l ↦ textOf op (l .names) (drop (size (line (ascii "context=") l)) s)
     ]

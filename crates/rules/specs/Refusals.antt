@@ -13,8 +13,8 @@ use Rattle.rules.specs.Utf8.{IsText, validTo}
 use Rattle.rules.specs.Units.{IsForm}
 use Rattle.rules.specs.Operations.{ruleOf}
 use Rattle.rules.specs.declared.Answer.{Answer}
-use Rattle.rules.specs.declared.Named.{Named}
-use Rattle.rules.specs.declared.Named.the-variants.{Units, ScriptRaw, Unknown}
+use Rattle.rules.specs.declared.AnyContext.{AnyContext}
+use Rattle.rules.specs.declared.AnyContext.the-variants.{Units, ScriptRaw, Unknown}
 use Rattle.rules.specs.declared.Operation.{Operation}
 use Rattle.rules.specs.declared.Operation.the-variants.{Encode, Decode, Read, Browse}
 
@@ -25,7 +25,7 @@ answer s l m p = record { status = s; length = l; same = m; place = p }
 -- A call: its operation and the context that it names, whether it borrows, the most bytes that it takes, the text, and the output's length.
 pub record Call : Type 0 where
   pub operation : Operation
-  pub context : Named
+  pub context : AnyContext
   pub borrows : Bool
   pub limit : ℕ
   pub text : List ℕ
@@ -63,7 +63,7 @@ earlier no-room = bad-context ∷ too-long ∷ not-utf8 ∷ not-a-form ∷ lent 
 earlier written = bad-context ∷ too-long ∷ not-utf8 ∷ not-a-form ∷ lent ∷ no-room ∷ []
 
 -- In read, the text is no run of the context's units.
-abbrev pub NoForm : Operation → Named → List ℕ → Type 0
+abbrev pub NoForm : Operation → AnyContext → List ℕ → Type 0
 NoForm Encode n t = ⊥
 NoForm Decode n t = ⊥
 NoForm Read (Units c) t = IsForm c t → ⊥
@@ -136,7 +136,7 @@ abbrev pub textLimit : ℕ
 textLimit = 65536
 
 -- The public call of an operation in a context, on a text and a lent output, as the table's words take it.
-abbrev pub call : Operation → Named → Bool → List ℕ → List ℕ → Call
+abbrev pub call : Operation → AnyContext → Bool → List ℕ → List ℕ → Call
 call op n borrows t out = record { operation = op; context = n; borrows = borrows; limit = textLimit; text = t; room = size out }
 
 -- What a call by a rule, if there is one, answers.
@@ -148,12 +148,16 @@ abbrev pub outBy : Option Rule → Bool → List ℕ → List ℕ → List ℕ
 outBy rule borrows t out = outAt (caseBy rule borrows textLimit t (size out)) (movesOf rule t) out
 
 -- What the public call of an operation in a context answers.
-abbrev pub answerOf : Operation → Named → Bool → List ℕ → List ℕ → Answer
+abbrev pub answerOf : Operation → AnyContext → Bool → List ℕ → List ℕ → Answer
 answerOf op n = answerBy (ruleOf op n)
 
 -- What it leaves in the output.
-abbrev pub outOf : Operation → Named → Bool → List ℕ → List ℕ → List ℕ
+abbrev pub outOf : Operation → AnyContext → Bool → List ℕ → List ℕ → List ℕ
 outOf op n = outBy (ruleOf op n)
+
+-- What the contract of a call allows: the answer a, and the whole output o afterwards.
+abbrev pub Allowed : Operation → AnyContext → Bool → List ℕ → List ℕ → Answer → List ℕ → Type 0
+Allowed op n borrows t out a o = (a ≡ answerOf op n borrows t out) × (o ≡ outOf op n borrows t out)
 
 -- view: the whole text where same is 1, otherwise the first bytes of the output, or an empty part where the output is shorter.
 abbrev pub viewOf : List ℕ → List ℕ → ℕ → ℕ → List ℕ

@@ -3,6 +3,53 @@
 ghost use mathlib.Core.Path.{_≡_};
 ghost use Rattle.rules.specs.Contexts.{contextOf};
 
+// The longest text that a call takes, in bytes.
+pub const TEXT_LIMIT: usize = 65536;
+
+// The contexts: the HTML seven, the script strings, the style strings, and text inside a script element.
+pub const TEXT_MINIMAL: u32 = 0;
+
+pub const TEXT: u32 = 1;
+
+pub const DOUBLE_QUOTED: u32 = 2;
+
+pub const SINGLE_QUOTED: u32 = 3;
+
+pub const QUOTED: u32 = 4;
+
+pub const SAFE: u32 = 5;
+
+pub const UNQUOTED: u32 = 6;
+
+pub const SCRIPT_SINGLE: u32 = 7;
+
+pub const SCRIPT_DOUBLE: u32 = 8;
+
+pub const SCRIPT_QUOTED: u32 = 9;
+
+pub const STYLE_SINGLE: u32 = 10;
+
+pub const STYLE_DOUBLE: u32 = 11;
+
+pub const STYLE_QUOTED: u32 = 12;
+
+pub const SCRIPT_RAW: u32 = 13;
+
+// The statuses of an answer.
+pub const PASSED: usize = 0;
+
+pub const TOO_LONG: usize = 1;
+
+pub const NOT_UTF8: usize = 2;
+
+pub const NO_ROOM: usize = 3;
+
+pub const NOT_A_FORM: usize = 4;
+
+pub const BAD_CONTEXT: usize = 5;
+
+pub const BAD_REQUEST: usize = 6;
+
 // The HTML seven.
 pub enum Html {
     TextMinimal,
@@ -21,6 +68,12 @@ pub enum Quotes {
     Both,
 }
 
+// The language of a string, which decides how control bytes, `<` and line separators are escaped.
+pub enum Language {
+    Script,
+    Style,
+}
+
 // The thirteen contexts that have units.
 pub enum Context {
     InHtml(Html),
@@ -29,7 +82,7 @@ pub enum Context {
 }
 
 // The context that a call names: one of the thirteen, script_raw, or none.
-pub enum Named {
+pub enum AnyContext {
     Units(Context),
     ScriptRaw,
     Unknown,
@@ -50,6 +103,13 @@ pub struct Answer {
     pub length: usize,
     pub same: usize,
     pub place: usize,
+}
+
+// What a pass over a text finds: the length of the result, how far the text is taken, and whether nothing is replaced.
+pub struct Measured {
+    pub length: usize,
+    pub place: usize,
+    pub same: bool,
 }
 
 // What a reference stands for: a text of the table of names, its bytes packed into one number, or a character by its number.
@@ -93,24 +153,24 @@ pub enum Replacement {
 }
 
 // The context of a number, 0 to 13 in document 01's order.
-pub fn context_of(number: u32) -> Named
+pub fn context_of(number: u32) -> AnyContext
     ensures { λ r. ⌜ r ≡ contextOf number ⌝ }
 {
     match number {
-        0 => Named::Units(Context::InHtml(Html::TextMinimal)),
-        1 => Named::Units(Context::InHtml(Html::Text)),
-        2 => Named::Units(Context::InHtml(Html::DoubleQuoted)),
-        3 => Named::Units(Context::InHtml(Html::SingleQuoted)),
-        4 => Named::Units(Context::InHtml(Html::Quoted)),
-        5 => Named::Units(Context::InHtml(Html::Safe)),
-        6 => Named::Units(Context::InHtml(Html::Unquoted)),
-        7 => Named::Units(Context::InScript(Quotes::Single)),
-        8 => Named::Units(Context::InScript(Quotes::Double)),
-        9 => Named::Units(Context::InScript(Quotes::Both)),
-        10 => Named::Units(Context::InStyle(Quotes::Single)),
-        11 => Named::Units(Context::InStyle(Quotes::Double)),
-        12 => Named::Units(Context::InStyle(Quotes::Both)),
-        13 => Named::ScriptRaw,
-        _ => Named::Unknown,
+        TEXT_MINIMAL => AnyContext::Units(Context::InHtml(Html::TextMinimal)),
+        TEXT => AnyContext::Units(Context::InHtml(Html::Text)),
+        DOUBLE_QUOTED => AnyContext::Units(Context::InHtml(Html::DoubleQuoted)),
+        SINGLE_QUOTED => AnyContext::Units(Context::InHtml(Html::SingleQuoted)),
+        QUOTED => AnyContext::Units(Context::InHtml(Html::Quoted)),
+        SAFE => AnyContext::Units(Context::InHtml(Html::Safe)),
+        UNQUOTED => AnyContext::Units(Context::InHtml(Html::Unquoted)),
+        SCRIPT_SINGLE => AnyContext::Units(Context::InScript(Quotes::Single)),
+        SCRIPT_DOUBLE => AnyContext::Units(Context::InScript(Quotes::Double)),
+        SCRIPT_QUOTED => AnyContext::Units(Context::InScript(Quotes::Both)),
+        STYLE_SINGLE => AnyContext::Units(Context::InStyle(Quotes::Single)),
+        STYLE_DOUBLE => AnyContext::Units(Context::InStyle(Quotes::Double)),
+        STYLE_QUOTED => AnyContext::Units(Context::InStyle(Quotes::Both)),
+        SCRIPT_RAW => AnyContext::ScriptRaw,
+        _ => AnyContext::Unknown,
     }
 }

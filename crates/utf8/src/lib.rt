@@ -42,7 +42,7 @@ fn high(c: u8) -> u8
 fn goes_on(c: u8, d: u8) -> bool
     ensures { λ r. ⌜ r ≡ inside (onward c) d ⌝ }
 {
-    parts::is_within(low(c), high(c), d)
+    base::is_within(low(c), high(c), d)
 }
 
 // How many bytes the character of a first byte above ASCII has: as many as the one-bits that the byte starts with.
@@ -62,11 +62,11 @@ fn has_tails(rest: &[u8], n: usize) -> bool
     if n == 2 {
         return two;
     }
-    let three = two & parts::is_within(128, 191, rest[2]);
+    let three = two & base::is_within(128, 191, rest[2]);
     if n == 3 {
         return three;
     }
-    three & parts::is_within(128, 191, rest[3])
+    three & base::is_within(128, 191, rest[3])
 }
 
 // How many bytes the character at the head of `rest` has, 0 where none stands there.
@@ -188,11 +188,11 @@ fn ahead(text: &[u8], i: usize) -> usize
     requires { ⌜ (i < length (now text)) × IsText (take i (now text)) ⌝ }
     ensures { λ r. ⌜ (i ≤ r) × (r ≤ length (now (text .entry))) × IsText (take r (now (text .entry))) ⌝ }
 {
-    let e = parts::clip(i, text.len(), 128);
+    let e = base::clip(i, text.len(), 128);
     if highs(&text[i..e]) == 0 {
         return e;
     }
-    let f = parts::clip(i, text.len(), 227);
+    let f = base::clip(i, text.len(), 227);
     if f - i < 35 {
         return i;
     }

@@ -5,7 +5,7 @@ use Prim.Native.Nat.{_≤_}
 use native.Mathlib.Omega.{arith}
 use borrow.Author.Needs.{needs}
 use Rattle.rules.specs.Names.{names}
-use Rattle.search.proofs.Lookups.{in-group}
+use Rattle.names_search.proofs.Lookups.{in-group}
 use Rattle.names.proofs.Letters.{in-none, none-below, none-between, none-above, past}
 use Rattle.names.proofs.find.Statement.{statement}
 use Rattle.names.proofs.find.Tie as tie

@@ -5,17 +5,17 @@ use mathlib.Core.Path.{_≡_}
 use Prim.Native.Nat.{ℕ, _≤_, _+_, _-_}
 use native.Mathlib.Omega.{arith}
 use lib.ListN.{length}
-use Rattle.parts.specs.First.{Free}
-use Rattle.parts.proofs.Firsts.{free-start, free-join}
+use Rattle.base.specs.First.{Free}
+use Rattle.base.proofs.Firsts.{free-start, free-join}
 use Rattle.plain.specs.Plain.{oddAt}
 use Rattle.plain.proofs.all_plain.Statement.{statement}
 use Rattle.plain.proofs.all_plain.Tie as tie
 
 abbrev Inv-loop : tie.InvT-loop
-Inv-loop strict text size last done₀ done = (last + size ≡ length text) × (done ≤ length text) × Free (oddAt strict text) 0 done
+Inv-loop unquoted text size last done₀ done = (last + size ≡ length text) × (done ≤ length text) × Free (oddAt unquoted text) 0 done
 
 abbrev μ-loop : tie.MeasureT-loop
-μ-loop strict text size last done₀ done = length text - done
+μ-loop unquoted text size last done₀ done = length text - done
 
 sub-last : tie.Need-sub-last Inv-loop μ-loop
 sub-last c = search needs
@@ -46,7 +46,7 @@ loop-again c =
     let a = c .before .before .before .before .before .before .args in
     let l = c .before .before .before .before .loop in
     let n = c .before .before .next in
-    (search needs, omega (arith, n .ensures .1), free-join (oddAt (a .strict) (a .text .now)) 0 (l .done) (n .result + a .size) (l .inv .2) (λ k h m. c .before .has-odd .ensures (c .if1 .left) k (omega (arith, n .ensures .0)) m))
+    (search needs, omega (arith, n .ensures .1), free-join (oddAt (a .unquoted) (a .text .now)) 0 (l .done) (n .result + a .size) (l .inv .2) (λ k h m. c .before .has-odd .ensures (c .if1 .left) k (omega (arith, n .ensures .0)) m))
 
 returns-2 : tie.Need-returns-2 Inv-loop μ-loop
 returns-2 c = λ z k h m. c .before .loop .inv .2 k h (omega arith)

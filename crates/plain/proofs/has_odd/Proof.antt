@@ -5,17 +5,17 @@ use mathlib.Core.Bool.{false}
 use mathlib.Core.Path.{_≡_}
 use Prim.Native.Nat.{_≤_, _+_, _-_}
 use native.Mathlib.Omega.{arith}
-use Rattle.parts.specs.First.{Free}
-use Rattle.parts.proofs.Firsts.{free-more}
+use Rattle.base.specs.First.{Free}
+use Rattle.base.proofs.Firsts.{free-more}
 use Rattle.plain.specs.Plain.{oddAt}
 use Rattle.plain.proofs.has_odd.Statement.{statement}
 use Rattle.plain.proofs.has_odd.Tie as tie
 
 abbrev Inv-loop : tie.InvT-loop
-Inv-loop strict text at size hit₀ j₀ hit j = (j ≤ size) × (hit ≡ false → Free (oddAt strict text) at (at + j))
+Inv-loop unquoted text at size hit₀ j₀ hit j = (j ≤ size) × (hit ≡ false → Free (oddAt unquoted text) at (at + j))
 
 abbrev μ-loop : tie.MeasureT-loop
-μ-loop strict text at size hit₀ j₀ hit j = size - j
+μ-loop unquoted text at size hit₀ j₀ hit j = size - j
 
 loop-holds : tie.Need-loop-holds Inv-loop μ-loop
 loop-holds c = (search needs, λ z k a b. absurd (omega arith))
@@ -40,7 +40,7 @@ loop-again c =
     let a = c .before .before .before .before .before .args in
     let l = c .before .before .before .loop in
     let e : a .at + (l .j + 1) ≡ a .at + l .j + 1 = omega arith in
-    (search needs, rw (e, c .is-odd .ensures) (free-more (oddAt (a .strict) (a .text .now)) (a .at) (a .at + l .j) (l .hit) (l .inv .1)))
+    (search needs, rw (e, c .is-odd .ensures) (free-more (oddAt (a .unquoted) (a .text .now)) (a .at) (a .at + l .j) (l .hit) (l .inv .1)))
 
 returns : tie.Need-returns Inv-loop μ-loop
 returns c =

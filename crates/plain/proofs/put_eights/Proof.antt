@@ -6,7 +6,7 @@ use mathlib.Core.Path.{_≡_, refl, ap, _∙_}
 use Prim.Native.Nat.{_≤_, _+_, _-_}
 use native.Mathlib.Omega.{arith}
 use lib.ListN.{length, length-drop}
-use Rattle.parts.proofs.Filled.{lent-rest}
+use Rattle.base.proofs.Filled.{lent-rest}
 use Rattle.plain.proofs.Eights.{copied, copied-length, copied-whole, copied-put}
 use Rattle.plain.proofs.put_eights.Statement.{statement}
 use Rattle.plain.proofs.put_eights.Tie as tie

@@ -8,7 +8,7 @@ use lib.ListN.{length}
 use Rattle.rules.proofs.Loops.{from-end, from-stop}
 use Rattle.rules.specs.Utf8.{utf8}
 use Rattle.reader.specs.Units.{byteStep}
-use Rattle.parts.proofs.Counted.{Counted, counted-start, counted-quiet, counted-swap}
+use Rattle.base.proofs.Counted.{Counted, counted-start, counted-quiet, counted-swap}
 use Rattle.reader.proofs.Bytewise.{read-counted}
 use Rattle.reader.proofs.Barred.{set-same, clear-keeps, unit-here, no-unit-here, no-mark-here}
 use borrow.Author.Needs.{needs}

@@ -10,8 +10,8 @@ use Rattle.rules.specs.Operations.{readOf}
 use Rattle.rules.specs.Utf8.{utf8}
 use Rattle.rules.specs.Moves.{result, from}
 use Rattle.reader.specs.Units.{byteStep}
-use Rattle.parts.proofs.Counted.{next-quiet, next-swap, filled-all, filled-within}
-use Rattle.parts.proofs.Filled.{Filled, filled-start, filled-room, filled-next, filled-put}
+use Rattle.base.proofs.Counted.{next-quiet, next-swap, filled-all, filled-within}
+use Rattle.base.proofs.Filled.{Filled, filled-start, filled-room, filled-next, filled-put}
 use Rattle.reader.proofs.Bytewise.{byte-result}
 use Rattle.reader.proofs.Barred.{set-same, clear-keeps, unit-here, no-unit-here, no-mark-here}
 use borrow.Author.Needs.{needs}

@@ -8,8 +8,8 @@ use borrow.Author.Needs.{needs}
 use lib.ListN.{length, length-append}
 use Rattle.rules.specs.Program.{printed}
 use Rattle.rules.specs.Bytes.{over}
-use Rattle.parts.proofs.Filled.{filled-room, filled-put}
-use Rattle.parts.proofs.Counted.{filled-all}
+use Rattle.base.proofs.Filled.{filled-room, filled-put}
+use Rattle.base.proofs.Counted.{filled-all}
 use Rattle.requests.proofs.Viewed.{said}
 use Rattle.requests.proofs.Parted.{filled-first, last-part}
 use Rattle.requests.proofs.converse.Tie as tie

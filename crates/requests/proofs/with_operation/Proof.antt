@@ -7,7 +7,7 @@ use Rattle.rules.specs.Program.{contextLine}
 use Rattle.rules.specs.Contexts.{operationNames}
 use Rattle.rules.specs.Refusals.{Call}
 use Rattle.rules.specs.Bytes.{ascii}
-use Rattle.parts.proofs.Filled.{lent-rest}
+use Rattle.base.proofs.Filled.{lent-rest}
 use Rattle.requests.proofs.Header.{line-within, no-line, after-line}
 use Rattle.requests.specs.Asked.{printedBy, Prints}
 use Rattle.requests.proofs.with_operation.Tie as tie

@@ -10,7 +10,7 @@ use Rattle.rules.specs.Contexts.{contextOf}
 use Rattle.rules.specs.Program.{printedCall}
 use Rattle.rules.specs.Refusals.{Call}
 use Rattle.rules.specs.Bytes.{ascii}
-use Rattle.parts.proofs.Filled.{lent-rest}
+use Rattle.base.proofs.Filled.{lent-rest}
 use Rattle.requests.specs.Asked.{asked, printedBy, Prints}
 use Rattle.requests.proofs.Header.{stands-within, no-text, some-text}
 use Rattle.requests.proofs.with_text.Tie as tie

@@ -6,8 +6,8 @@ use Prim.Native.Nat.{ℕ, suc, _≤_}
 use lib.ListN.{List·getD-eq-default}
 use mathlib.Core.List.{[]}
 use Rattle.rules.specs.Contexts.{Label, label, contextNames, contextOf}
-use Rattle.rules.specs.declared.Named.{Named}
-use Rattle.rules.specs.declared.Named.the-variants.{Unknown}
+use Rattle.rules.specs.declared.AnyContext.{AnyContext}
+use Rattle.rules.specs.declared.AnyContext.the-variants.{Unknown}
 use Rattle.rules.proofs.context_of.Statement.{statement}
 use Rattle.rules.proofs.context_of.Tie as tie
 
@@ -72,7 +72,7 @@ returns-14 c = rw (c .match .keys14)
 
 returns-15 : tie.Need-returns-15
 unfolding contextOf
-returns-15 c = sym (ap (λ (l : Label Named). l .names) (List·getD-eq-default contextNames (label [] Unknown) {n = c .before .args .number} (past (c .before .args .number) 13 (past (c .before .args .number) 12 (past (c .before .args .number) 11 (past (c .before .args .number) 10 (past (c .before .args .number) 9 (past (c .before .args .number) 8 (past (c .before .args .number) 7 (past (c .before .args .number) 6 (past (c .before .args .number) 5 (past (c .before .args .number) 4 (past (c .before .args .number) 3 (past (c .before .args .number) 2 (past (c .before .args .number) 1 (past (c .before .args .number) 0 (omega arith) (c .match .rest .0 .0 .0 .0 .0 .0 .0 .0 .0 .0 .0 .0 .0 .1)) (c .match .rest .0 .0 .0 .0 .0 .0 .0 .0 .0 .0 .0 .0 .1)) (c .match .rest .0 .0 .0 .0 .0 .0 .0 .0 .0 .0 .0 .1)) (c .match .rest .0 .0 .0 .0 .0 .0 .0 .0 .0 .0 .1)) (c .match .rest .0 .0 .0 .0 .0 .0 .0 .0 .0 .1)) (c .match .rest .0 .0 .0 .0 .0 .0 .0 .0 .1)) (c .match .rest .0 .0 .0 .0 .0 .0 .0 .1)) (c .match .rest .0 .0 .0 .0 .0 .0 .1)) (c .match .rest .0 .0 .0 .0 .0 .1)) (c .match .rest .0 .0 .0 .0 .1)) (c .match .rest .0 .0 .0 .1)) (c .match .rest .0 .0 .1)) (c .match .rest .0 .1)) (c .match .rest .1))))
+returns-15 c = sym (ap (λ (l : Label AnyContext). l .names) (List·getD-eq-default contextNames (label [] Unknown) {n = c .before .args .number} (past (c .before .args .number) 13 (past (c .before .args .number) 12 (past (c .before .args .number) 11 (past (c .before .args .number) 10 (past (c .before .args .number) 9 (past (c .before .args .number) 8 (past (c .before .args .number) 7 (past (c .before .args .number) 6 (past (c .before .args .number) 5 (past (c .before .args .number) 4 (past (c .before .args .number) 3 (past (c .before .args .number) 2 (past (c .before .args .number) 1 (past (c .before .args .number) 0 (omega arith) (c .match .rest .0 .0 .0 .0 .0 .0 .0 .0 .0 .0 .0 .0 .0 .1)) (c .match .rest .0 .0 .0 .0 .0 .0 .0 .0 .0 .0 .0 .0 .1)) (c .match .rest .0 .0 .0 .0 .0 .0 .0 .0 .0 .0 .0 .1)) (c .match .rest .0 .0 .0 .0 .0 .0 .0 .0 .0 .0 .1)) (c .match .rest .0 .0 .0 .0 .0 .0 .0 .0 .0 .1)) (c .match .rest .0 .0 .0 .0 .0 .0 .0 .0 .1)) (c .match .rest .0 .0 .0 .0 .0 .0 .0 .1)) (c .match .rest .0 .0 .0 .0 .0 .0 .1)) (c .match .rest .0 .0 .0 .0 .0 .1)) (c .match .rest .0 .0 .0 .0 .1)) (c .match .rest .0 .0 .0 .1)) (c .match .rest .0 .0 .1)) (c .match .rest .0 .1)) (c .match .rest .1))))
 
 pub context-of-spec : {M : Type 1} → statement M
 context-of-spec =

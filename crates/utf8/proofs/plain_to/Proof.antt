@@ -5,7 +5,7 @@ use Prim.Native.Nat.{_-_, _≤_}
 use borrow.Author.Needs.{needs}
 use lib.ListN.{length, take, drop}
 use Rattle.rules.specs.Utf8.{IsText}
-use Rattle.parts.proofs.Filled.{lent-rest}
+use Rattle.base.proofs.Filled.{lent-rest}
 use Rattle.utf8.proofs.Texts.{valid-here, end-no-char, head-text, text-more}
 use Rattle.utf8.proofs.plain_to.Statement.{statement}
 use Rattle.utf8.proofs.plain_to.Tie as tie

@@ -6,8 +6,8 @@ use native.Mathlib.Omega.{arith}
 use borrow.Author.Needs.{needs}
 use lib.ListN.{length}
 use Rattle.reader.specs.Bars.{beginsAt}
-use Rattle.parts.specs.First.{Free}
-use Rattle.parts.proofs.Firsts.{free-step}
+use Rattle.base.specs.First.{Free}
+use Rattle.base.proofs.Firsts.{free-step}
 use Rattle.reader.proofs.Scanning.{sum-zero}
 use Rattle.reader.proofs.bars.count.Tie as tie
 use Rattle.reader.proofs.bars.count.Statement.{statement}

@@ -4,7 +4,7 @@
 use native.Mathlib.Omega.{arith}
 use lib.ListN.{length}
 use Rattle.reader.specs.Bars.{beginsAt}
-use Rattle.parts.proofs.Firsts.{free-start, free-join}
+use Rattle.base.proofs.Firsts.{free-start, free-join}
 use Rattle.reader.proofs.Scanning.{first-same}
 use borrow.Author.Needs.{needs}
 use Rattle.reader.proofs.bars.find.Statement.{statement}

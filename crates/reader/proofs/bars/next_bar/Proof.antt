@@ -7,9 +7,9 @@ use native.Mathlib.Omega.{arith}
 use borrow.Author.Needs.{needs}
 use lib.ListN.{length, getD, length-drop}
 use Rattle.reader.specs.Bars.{barAt, isBar}
-use Rattle.parts.proofs.Filled.{lent-rest}
-use Rattle.parts.specs.First.{Free}
-use Rattle.parts.proofs.Firsts.{free-join, free-step}
+use Rattle.base.proofs.Filled.{lent-rest}
+use Rattle.base.specs.First.{Free}
+use Rattle.base.proofs.Firsts.{free-join, free-step}
 use Rattle.reader.proofs.Scanning.{out-plain, part-plain, bar-whole}
 use Rattle.reader.proofs.bars.next_bar.Tie as tie
 use Rattle.reader.proofs.bars.next_bar.Statement.{statement}

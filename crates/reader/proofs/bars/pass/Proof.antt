@@ -4,10 +4,10 @@ use Prim.Native.Nat.{_-_, _≤_}
 use native.Mathlib.Omega.{arith}
 use borrow.Author.Needs.{needs}
 use lib.ListN.{length}
-use Rattle.parts.proofs.Part.{part-length}
+use Rattle.base.proofs.Part.{part-length}
 use Rattle.reader.specs.Bars.{beginsAt}
-use Rattle.parts.specs.First.{Free}
-use Rattle.parts.proofs.Firsts.{free-join}
+use Rattle.base.specs.First.{Free}
+use Rattle.base.proofs.Firsts.{free-join}
 use Rattle.reader.proofs.Scanning.{out-part}
 use Rattle.reader.proofs.bars.pass.Tie as tie
 use Rattle.reader.proofs.bars.pass.Statement.{statement}

@@ -4,8 +4,8 @@ use mathlib.Core.Path.{sym, _∙_}
 use Prim.Native.Nat.{_-_, _≤_}
 use native.Mathlib.Omega.{arith}
 use Rattle.reader.specs.Bars.{memberAt}
-use Rattle.parts.specs.First.{Free}
-use Rattle.parts.proofs.Firsts.{free-start, free-step}
+use Rattle.base.specs.First.{Free}
+use Rattle.base.proofs.Firsts.{free-start, free-step}
 use borrow.Author.Needs.{needs}
 use Rattle.reader.proofs.bars.walk.Statement.{statement}
 use Rattle.reader.proofs.bars.walk.Tie as tie

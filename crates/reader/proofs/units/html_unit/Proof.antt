@@ -2,7 +2,7 @@
 -- Assumes nothing.
 use mathlib.Core.Path.{sym, _∙_}
 use lib.ListN.{drop}
-use Rattle.parts.proofs.Filled.{lent-rest}
+use Rattle.base.proofs.Filled.{lent-rest}
 use Rattle.reader.proofs.Narrow.{html-kept, html-dropped}
 use borrow.Author.Needs.{needs}
 use Rattle.reader.proofs.units.html_unit.Statement.{statement}

@@ -6,7 +6,7 @@ use native.Mathlib.Omega.{arith}
 use borrow.Author.Tests.{ne-eqb}
 use Rattle.rules.specs.Bytes.{ascii, oneOf}
 use Rattle.rules.specs.Tables.{amp, lt, gt, quot}
-use Rattle.escapes.proofs.Finding.{finds-here}
+use Rattle.decode_strings.proofs.Finding.{finds-here}
 use Rattle.reader.proofs.Placed.{finds-named, finds-numbered, finds-no-unit, no-second}
 use borrow.Author.Needs.{needs}
 use Rattle.reader.proofs.units.reference.Statement.{statement}

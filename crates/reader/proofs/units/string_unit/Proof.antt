@@ -1,6 +1,6 @@
 -- `string_unit` meets its contract: a part up to the end is what is left of the text.
 -- Assumes nothing.
-use Rattle.parts.proofs.Filled.{lent-rest}
+use Rattle.base.proofs.Filled.{lent-rest}
 use borrow.Author.Needs.{needs}
 use Rattle.reader.proofs.units.string_unit.Statement.{statement}
 use Rattle.reader.proofs.units.string_unit.Tie as tie

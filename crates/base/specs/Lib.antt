@@ -1,0 +1,4 @@
+-- What its contracts do not cite of `rules`.
+pub mod First
+pub mod Places
+pub mod Closing

@@ -1,0 +1,75 @@
+// What stands at the head of a text: given bytes, or the name of a closing tag with what ends it.
+ghost use mathlib.Core.Bool.{_&&_, _||_};
+ghost use mathlib.Core.Path.{_≡_};
+ghost use Rattle.rules.specs.Bytes.{stands, oneOf};
+ghost use Rattle.rules.specs.Encoding.{anyCase, terminators, closes, closesAtEnd};
+
+// Whether the bytes of `pattern` stand at the head of `rest`.
+pub fn starts(pattern: &[u8], rest: &[u8]) -> bool
+    ensures { λ r. ⌜ r ≡ stands (now (pattern .entry)) (now (rest .entry)) ⌝ }
+{
+    let mut i = 0;
+    while i < pattern.len() {
+        if rest.len() <= i {
+            return false;
+        }
+        if pattern[i] != rest[i] {
+            return false;
+        }
+        i += 1;
+    }
+    true
+}
+
+// Whether `b` is the byte `a`, or the other case of the lower-case letter `a`.
+fn is_either_case(a: u8, b: u8) -> bool
+    ensures { λ r. ⌜ r ≡ oneOf (anyCase a) b ⌝ }
+{
+    if b == a {
+        return true;
+    }
+    if a < 97 {
+        return false;
+    }
+    if 122 < a {
+        return false;
+    }
+    b == a - 32
+}
+
+// Whether the byte ends the name of a tag: `/`, `>`, 9 to 13 and 28 to 32.
+fn is_terminator(b: u8) -> bool
+    ensures { λ r. ⌜ r ≡ oneOf terminators b ⌝ }
+{
+    if b == b'/' {
+        return true;
+    }
+    if b == b'>' {
+        return true;
+    }
+    if crate::is_within(9, 13, b) {
+        return true;
+    }
+    crate::is_within(28, 32, b)
+}
+
+// Whether the bytes of `name`, its letters in either case, stand at the head of `rest`, and then a terminator, or the end of the text where
+// `last` says that it counts as one.
+pub fn closes_with(name: &[u8], last: bool, rest: &[u8]) -> bool
+    ensures { λ r. ⌜ r ≡ (closes (now (name .entry)) (now (rest .entry)) || (last && closesAtEnd (now (name .entry)) (now (rest .entry)))) ⌝ }
+{
+    let mut i = 0;
+    while i < name.len() {
+        if rest.len() <= i {
+            return false;
+        }
+        if !is_either_case(name[i], rest[i]) {
+            return false;
+        }
+        i += 1;
+    }
+    if rest.len() <= i {
+        return last;
+    }
+    is_terminator(rest[i])
+}

@@ -1,0 +1,81 @@
+-- Bodies: where one ends by the places of the text, and what follows its `#`.
+-- Assumes nothing.
+use mathlib.Core.Bool.{false}
+use mathlib.Core.Logic.{_⊎_, inl, inr}
+use mathlib.Core.Option.{Option, none, some}
+use mathlib.Core.Path.{_≡_, refl, ap, _∙_}
+use mathlib.Core.List.{List, [], _∷_, _++_, append-nil}
+use Prim.Native.Nat.{ℕ, zero, suc, _+_, _-_, _≤_, _<_}
+use native.Mathlib.Omega.{arith}
+use borrow.Author.Tests.{ne-eqb}
+use lib.ListN.{length, take, drop, getD, drop-of-length-le}
+use Rattle.rules.specs.References.{bodyOf, bodyWith, digit, hexDigitAt, number, numberOf}
+use Rattle.rules.proofs.Loops.{drop-next}
+use Rattle.base.specs.Places.{Absent}
+use Rattle.decode_html.specs.Bodies.{Ends}
+
+-- ---- where a body ends
+
+-- Bytes before a body.
+abbrev ahead : List ℕ → Option (List ℕ) → Option (List ℕ)
+ahead w none = none
+ahead w (some body) = some (w ++ body)
+
+ahead-byte : (b : ℕ) (w : List ℕ) (o : Option (List ℕ)) → bodyWith false false b (ahead w o) ≡ ahead (b ∷ w) o
+ahead-byte b w none = refl
+ahead-byte b w (some body) = refl
+
+ahead-none : (o : Option (List ℕ)) → o ≡ ahead [] o
+ahead-none none = refl
+ahead-none (some body) = refl
+
+module _ (t : List ℕ) where
+  -- n bytes that are neither `;` nor `&` are passed.
+  passed : (n a : ℕ) → a + n ≤ length t → Absent t a (a + n) 59 → Absent t a (a + n) 38 → bodyOf (drop a t) ≡ ahead (take n (drop a t)) (bodyOf (drop (a + n) t))
+  passed zero a h f g =
+      let z : a + 0 ≡ a = omega arith in
+      rw z (ahead-none (bodyOf (drop a t)))
+  passed (suc n) a h f g =
+      let l : a < length t = omega arith in
+      let z : a + suc n ≡ a + 1 + n = omega arith in
+      let ih = passed n (a + 1) (omega arith) (λ k i j. f k (omega arith) (omega arith)) (λ k i j. g k (omega arith) (omega arith)) in
+      rw (drop-next t a l, z, ne-eqb (getD t a 0) 59 (f a (omega arith) (omega arith)), ne-eqb (getD t a 0) 38 (g a (omega arith) (omega arith)), ih)
+      (ahead-byte (getD t a 0) (take n (drop (a + 1) t)) (bodyOf (drop (a + 1 + n) t)))
+
+  module _ (a r : ℕ) (h : a ≤ r) (l : r ≤ length t) (f : Absent t a r 59) (g : Absent t a r 38) where
+    up-to : bodyOf (drop a t) ≡ ahead (take (r - a) (drop a t)) (bodyOf (drop r t))
+    up-to =
+        let s : a + (r - a) ≡ r = omega arith in
+        rw s at (passed (r - a) a (omega arith) (rw s f) (rw s g))
+
+    -- At a `;` the body ends.
+    pub ends-here : r < length t → getD t r 0 ≡ 59 → Ends t a r
+    ends-here k e = record {
+      after = h;
+      within = l;
+      body = λ m. (e, up-to ∙ rw (drop-next t r k, e) (ap some (append-nil (take (r - a) (drop a t)))));
+      nobody = λ m. absurd (omega arith);
+    }
+
+    -- At an `&` there is none.
+    pub ends-amp : r < length t → getD t r 0 ≡ 38 → Ends t a (length t)
+    ends-amp k e = record { after = omega arith; within = omega arith; body = λ m. absurd (omega arith); nobody = λ m. up-to ∙ rw (drop-next t r k, e) }
+
+    -- Nor at the end of the text.
+    pub ends-none : length t ≤ r → Ends t a r
+    ends-none k = record { after = h; within = l; body = λ m. absurd (omega arith); nobody = λ m. up-to ∙ rw (drop-of-length-le t k) }
+
+-- ---- what follows `#`
+
+pub number-empty : (s : List ℕ) → length s ≡ 0 → numberOf s ≡ none
+number-empty [] e = refl
+number-empty (b ∷ s) e = absurd (omega arith)
+
+pub number-hex : (s : List ℕ) → (length s ≡ 0 → ⊥) → (getD s 0 0 ≡ 120) ⊎ (getD s 0 0 ≡ 88) → numberOf s ≡ number hexDigitAt 16 (drop 1 s)
+number-hex [] h e = absurd (h refl)
+number-hex (b ∷ s) h (inl e) = rw e
+number-hex (b ∷ s) h (inr e) = rw e
+
+pub number-decimal : (s : List ℕ) → (length s ≡ 0 → ⊥) → (getD s 0 0 ≡ 120 → ⊥) → (getD s 0 0 ≡ 88 → ⊥) → numberOf s ≡ number digit 10 s
+number-decimal [] h e f = absurd (h refl)
+number-decimal (b ∷ s) h e f = rw (ne-eqb b 120 e, ne-eqb b 88 f)

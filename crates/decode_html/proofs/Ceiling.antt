@@ -1,0 +1,135 @@
+-- Numbers under a ceiling: what is above every character's number stays above it, and every number above stands for the same, so that the
+-- ceiling may take its place at each digit.
+-- Assumes nothing.
+use mathlib.Core.Bool.{Bool, true, false, not, _&&_, _||_, cond}
+use mathlib.Core.Logic.{_⊎_, inl, inr}
+use mathlib.Core.Option.{Option, none, some}
+use mathlib.Core.Path.{_≡_, refl, sym, ap, _∙_}
+use mathlib.Core.List.{List, [], _∷_}
+use Prim.Native.Nat.{ℕ, _+_, _*_, _≤_, _<_}
+use native.Mathlib.Nat.{le-mul-of-pos-right}
+use native.Mathlib.Omega.{arith}
+use borrow.Author.Tests.{leb-true, leb-false, lt-ltb, le-ltb, lt-leb}
+use lib.Dec.{leb}
+use lib.ListN.{length, drop, getD, drop-of-length-le}
+use Rattle.rules.specs.Bytes.{inside}
+use Rattle.rules.specs.References.{digit, hexDigitAt, digits, number, scalar, charOf}
+use Rattle.rules.proofs.Loops.{drop-next}
+use Rattle.decode_html.specs.declared.Numbers.{Numbers}
+use Rattle.decode_html.specs.declared.Numbers.the-variants.{Decoded, Browsed}
+use Rattle.decode_html.specs.declared.digits.Number.{Number}
+use Rattle.decode_html.specs.Taking.{charBy}
+use Rattle.decode_html.specs.Digits.{below, digitBy, ceilingOf, capped, found}
+
+-- ---- tests
+
+pub and-true : (b : Bool) → b && true ≡ b
+and-true true = refl
+and-true false = refl
+
+pub or-none : (b : Bool) → b || false ≡ b
+or-none true = refl
+or-none false = refl
+
+pub both-left : (a b : Bool) → a && b ≡ true → a ≡ true
+both-left true b e = refl
+both-left false b e = e
+
+-- ---- the ceiling
+
+more : (a base k : ℕ) → 1 ≤ base → 0x10FFFF < a → 0x10FFFF < a * base + k
+more a base k h l = omega (arith, le-mul-of-pos-right a h)
+
+above : (d : ℕ → Option ℕ) (base a b : ℕ) (s : List ℕ) → 1 ≤ base → 0x10FFFF < a → 0x10FFFF < b → capped (digits d base a s) ≡ capped (digits d base b s)
+above d base a b [] h l m = rw (lt-leb a 0x10FFFF l, lt-leb b 0x10FFFF m)
+above d base a b (x ∷ s) h l m = go (d x) (λ k. above d base (a * base + k) (b * base + k) s h (more a base k h l) (more b base k h m))
+  where
+    go : (o : Option ℕ) → ((k : ℕ) → capped (digits d base (a * base + k) s) ≡ capped (digits d base (b * base + k) s))
+        → capped (elim o [ none ↦ none | some k ↦ digits d base (a * base + k) s ]) ≡ capped (elim o [ none ↦ none | some k ↦ digits d base (b * base + k) s ])
+    go none ih = refl
+    go (some k) ih = ih k
+
+-- At each digit the ceiling may take the number's place.
+capped-digits : (d : ℕ → Option ℕ) (base n : ℕ) (s : List ℕ) → 1 ≤ base → capped (digits d base (ceilingOf n) s) ≡ capped (digits d base n s)
+capped-digits d base n s h = go (leb n 0x10FFFF) refl
+  where
+    go : (x : Bool) → leb n 0x10FFFF ≡ x → capped (digits d base (cond x n 0x110000) s) ≡ capped (digits d base n s)
+    go true e = refl
+    go false e = above d base 0x110000 n s h (omega arith) (leb-false n 0x10FFFF e)
+
+pub ceiling-most : (n : ℕ) → ceilingOf n ≤ 0x110000
+ceiling-most n = go (leb n 0x10FFFF) refl
+  where
+    go : (x : Bool) → leb n 0x10FFFF ≡ x → cond x n 0x110000 ≤ 0x110000
+    go true e = omega (arith, leb-true n 0x10FFFF e)
+    go false e = omega arith
+
+-- A number under it stays.
+ceiling-same : (n : ℕ) → n ≤ 0x110000 → ceilingOf n ≡ n
+ceiling-same n h = go (leb n 0x10FFFF) refl
+  where
+    go : (x : Bool) → leb n 0x10FFFF ≡ x → cond x n 0x110000 ≡ n
+    go true e = refl
+    go false e = omega (arith, leb-false n 0x10FFFF e)
+
+-- ---- digits
+
+pub digit-by : (base byte value : ℕ) → (base ≡ 10) ⊎ (base ≡ 16) → below 10 value ≡ digit byte → below 16 value ≡ hexDigitAt byte → below base value ≡ digitBy base byte
+digit-by base byte value (inl e) h l = rw e h
+digit-by base byte value (inr e) h l = rw e l
+
+-- Either base is a number from 1 to 16.
+pub base-some : (base : ℕ) → (base ≡ 10) ⊎ (base ≡ 16) → 1 ≤ base
+base-some base (inl e) = omega arith
+base-some base (inr e) = omega arith
+
+pub base-most : (base n : ℕ) → (base ≡ 10) ⊎ (base ≡ 16) → n ≤ 0x110000 → n * base ≤ 0x1100000
+base-most base n (inl e) h = rw e (omega arith)
+base-most base n (inr e) h = rw e (omega arith)
+
+-- The byte at place i is looked at.
+digits-at : (d : ℕ → Option ℕ) (base n i : ℕ) (s : List ℕ) (o : Option ℕ) → i < length s → d (getD s i 0) ≡ o
+    → digits d base n (drop i s) ≡ elim o [ none ↦ none | some k ↦ digits d base (n * base + k) (drop (i + 1) s) ]
+digits-at d base n i s o l e = rw (drop-next s i l) (ap (λ (p : Option ℕ). elim p [ none ↦ none | some k ↦ digits d base (n * base + k) (drop (i + 1) s) ]) e)
+
+-- It is the digit v: the number so far takes it up.
+pub digits-more : (base n i v : ℕ) (s : List ℕ) → 1 ≤ base → i < length s → below base v ≡ digitBy base (getD s i 0) → v < base
+    → capped (digits (digitBy base) base (ceilingOf (n * base + v)) (drop (i + 1) s)) ≡ capped (digits (digitBy base) base n (drop i s))
+digits-more base n i v s h l e m =
+    capped-digits (digitBy base) base (n * base + v) (drop (i + 1) s) h
+    ∙ ap capped (sym (digits-at (digitBy base) base n i s (some v) l (sym e ∙ rw (lt-ltb v base m))))
+
+-- It is none: then there is no number.
+pub digits-none : (base n i v : ℕ) (s : List ℕ) → i < length s → below base v ≡ digitBy base (getD s i 0) → base ≤ v → capped (digits (digitBy base) base n (drop i s)) ≡ none
+digits-none base n i v s l e m = ap capped (digits-at (digitBy base) base n i s none l (sym e ∙ rw (le-ltb v base m)))
+
+-- Nothing is left of the digits.
+pub digits-end : (base n i : ℕ) (s : List ℕ) → length s ≤ i → n ≤ 0x110000 → capped (digits (digitBy base) base n (drop i s)) ≡ some n
+digits-end base n i s h l = rw (drop-of-length-le s h) (ap some (ceiling-same n l))
+
+pub number-none : (d : ℕ → Option ℕ) (base : ℕ) (s : List ℕ) → length s ≡ 0 → number d base s ≡ none
+number-none d base [] h = refl
+number-none d base (b ∷ s) h = absurd (omega arith)
+
+pub number-some : (d : ℕ → Option ℕ) (base : ℕ) (s : List ℕ) → (length s ≡ 0 → ⊥) → number d base s ≡ digits d base 0 s
+number-some d base [] h = absurd (h refl)
+number-some d base (b ∷ s) h = refl
+
+-- ---- characters
+
+pub scalar-most : (n : ℕ) → scalar n ≡ true → n ≤ 0x10FFFF
+scalar-most n e = leb-true n 0x10FFFF (both-left (leb n 0x10FFFF) (not (inside (0xD800, 0xDFFF) n)) e)
+
+-- Every number above the last character's stands for the same.
+char-capped : (numbers : Numbers) (o : Option ℕ) → charOf (charBy numbers) (capped o) ≡ charOf (charBy numbers) o
+char-capped numbers none = refl
+char-capped numbers (some n) = go numbers (leb n 0x10FFFF) refl
+  where
+    go : (numbers : Numbers) (x : Bool) → leb n 0x10FFFF ≡ x → charBy numbers (cond x n 0x110000) ≡ charBy numbers n
+    go numbers true e = refl
+    go Decoded false e = rw e
+    go Browsed false e = rw e
+
+-- So what the digit reader finds stands for what the digits make.
+pub found-char : (numbers : Numbers) (r : Number) (o : Option ℕ) → found r ≡ capped o → charOf (charBy numbers) (found r) ≡ charOf (charBy numbers) o
+found-char numbers r o e = ap (charOf (charBy numbers)) e ∙ char-capped numbers o

@@ -1,0 +1,184 @@
+-- What the reference reader finds is the move there: at an `&`, by where the body ends and what it stands for.
+-- Assumes nothing.
+use mathlib.Core.Bool.{Bool, true, false}
+use mathlib.Core.Option.{Option, none}
+use mathlib.Core.Path.{_≡_, refl, sym, ap, _∙_}
+use mathlib.Core.List.{List, [], _∷_, _++_}
+use Prim.Native.Nat.{ℕ, zero, suc, _+_, _-_, _/_, _≤_, _<_}
+use native.Mathlib.Nat.{div-add-mod'}
+use native.Mathlib.Omega.{arith}
+use borrow.Author.Tests.{leb-true, leb-false, le-ltb, ne-eqb}
+use lib.Dec.{T, leb, eqb→eq, leb→le}
+use lib.ListN.{length, take, drop, getD, length-drop}
+use lib.Seq.{take-suc, getD-drop}
+use Rattle.rules.specs.Bytes.{all}
+use Rattle.rules.specs.Moves.{keep}
+use Rattle.rules.specs.Names.{names}
+use Rattle.rules.specs.References.{bodyOf, decodeChar, browseChar, numberOf, charOf, lookup, meaning, onMeaning, onBody, referenceStep, browseStep}
+use Rattle.rules.specs.Utf8.{utf8}
+use Rattle.rules.specs.Tables.{Row, value}
+use Rattle.rules.specs.Answers.{meaningBytes}
+use Rattle.rules.specs.declared.DecodedEntityValue.the-variants.{Named, Character}
+use Rattle.rules.specs.declared.Meaning.{Meaning}
+use Rattle.rules.specs.declared.Meaning.the-variants.{Value, Nothing as NoMeaning}
+use Rattle.rules.specs.declared.Reference.{Reference}
+use Rattle.rules.specs.declared.Reference.the-variants.{Found, Nothing}
+use Rattle.rules.proofs.Loops.{drop-next}
+use Rattle.rules.proofs.Decoder.{reference-quiet}
+use Rattle.rules.proofs.Tests.{all-in}
+use Rattle.rules.proofs.Names.{looked-up}
+use Rattle.base.proofs.Part.{part-at}
+use Rattle.decode_html.specs.declared.Numbers.{Numbers}
+use Rattle.decode_html.specs.declared.Numbers.the-variants.{Decoded, Browsed}
+use Rattle.decode_html.specs.Taking.{charBy, stepBy, RealMeaning, Reads}
+use Rattle.decode_html.specs.Bodies.{Ends}
+
+-- ---- the rule at a byte
+
+step-at : (numbers : Numbers) (p : ℕ) (s : List ℕ) → stepBy numbers p (38 ∷ s) ≡ onBody (charBy numbers) true (bodyOf s) 38
+unfolding referenceStep browseStep
+step-at Decoded p s = refl
+step-at Browsed p s = refl
+
+-- Any byte but `&` is kept.
+pub step-quiet : (numbers : Numbers) (p x : ℕ) (s : List ℕ) → (x ≡ 38 → ⊥) → stepBy numbers p (x ∷ s) ≡ keep (x ∷ [])
+unfolding referenceStep browseStep
+step-quiet Decoded p x s h = reference-quiet decodeChar p x s (λ e. h (eqb→eq x 38 e))
+step-quiet Browsed p x s h = reference-quiet browseChar p x s (λ e. h (eqb→eq x 38 e))
+
+-- ---- by the body
+
+-- The reference from place i on that ends at place r, if its body has a meaning.
+abbrev pub answer : ℕ → ℕ → Meaning → Reference
+answer i r (Value v) = Found (record { start = i; end = r + 1; value = v })
+answer i r NoMeaning = Nothing
+
+module _ (numbers : Numbers) (t : List ℕ) (i : ℕ) (inside : i < length t) (amp : getD t i 0 ≡ 38) where
+  starts : drop i t ≡ 38 ∷ drop (i + 1) t
+  starts = drop-next t i inside ∙ rw amp
+
+  -- There is no body.
+  pub reads-nobody : bodyOf (drop (i + 1) t) ≡ none → Reads numbers t i Nothing
+  reads-nobody e = record {
+    move = λ p. rw starts (sym (step-at numbers p (drop (i + 1) t) ∙ ap (λ (o : Option (List ℕ)). onBody (charBy numbers) true o 38) e));
+    lies = tt;
+  }
+
+  -- Another `&` follows, or the `;` at once.
+  pub reads-amp : i + 1 < length t → getD t (i + 1) 0 ≡ 38 → Reads numbers t i Nothing
+  reads-amp l e = reads-nobody (rw (drop-next t (i + 1) l, e))
+
+  pub reads-empty : i + 1 < length t → getD t (i + 1) 0 ≡ 59 → Reads numbers t i Nothing
+  reads-empty l e = record { move = λ p. rw starts (sym (step-at numbers p (drop (i + 1) t) ∙ rw (drop-next t (i + 1) l, e))); lies = tt }
+
+  module _ (r : ℕ) (end : Ends t (i + 1) r) (before : r < length t) where
+    at-meaning : (p : ℕ) → stepBy numbers p (38 ∷ drop (i + 1) t) ≡ onMeaning (meaning (charBy numbers) (take (r - (i + 1)) (drop (i + 1) t))) 38 (take (r - (i + 1)) (drop (i + 1) t))
+    at-meaning p = step-at numbers p (drop (i + 1) t) ∙ ap (λ (o : Option (List ℕ)). onBody (charBy numbers) true o 38) (end .body before .1)
+
+    -- The bytes from the `&` to the `;`.
+    taken : take (r + 1 - i) (drop i t) ≡ 38 ∷ (take (r - (i + 1)) (drop (i + 1) t) ++ (59 ∷ []))
+    taken =
+        let h : i + 1 ≤ r = end .after in
+        let n : r + 1 - i ≡ suc (suc (r - (i + 1))) = omega arith in
+        let m : i + 1 + (r - (i + 1)) ≡ r = omega arith in
+        rw (n, starts)
+        (ap (λ (s : List ℕ). 38 ∷ s)
+        (take-suc (drop (i + 1) t) (r - (i + 1)) 0 (rw length-drop (omega arith)) ∙ rw (getD-drop (i + 1) t (r - (i + 1)) 0, m, end .body before .0)))
+
+    -- The reference that the body's meaning makes is the move.
+    reads-meaning : (m : Meaning) → meaningBytes m ≡ meaning (charBy numbers) (take (r - (i + 1)) (drop (i + 1) t)) → RealMeaning m → Reads numbers t i (answer i r m)
+    reads-meaning m e real = go m (λ p. at-meaning p ∙ ap (λ (o : Option (List ℕ)). onMeaning o 38 (take (r - (i + 1)) (drop (i + 1) t))) (sym e)) real
+      where
+        go : (m : Meaning) → ((p : ℕ) → stepBy numbers p (38 ∷ drop (i + 1) t) ≡ onMeaning (meaningBytes m) 38 (take (r - (i + 1)) (drop (i + 1) t))) → RealMeaning m → Reads numbers t i (answer i r m)
+        go NoMeaning f real = record { move = λ p. rw starts (sym (f p)); lies = tt }
+        go (Value v) f real = record {
+          move = λ p. rw taken (rw starts (sym (f p)));
+          lies = (refl, (let h : i + 1 ≤ r = end .after in omega arith), omega arith, real);
+        }
+
+-- ---- a number
+
+-- The body from the `#` at place a on.
+number-ends : (t : List ℕ) (a r : ℕ) → a < length t → getD t a 0 ≡ 35 → Ends t (a + 1) r → Ends t a r
+number-ends t a r l e end =
+    let h : a + 1 ≤ r = end .after in
+    let n : r - a ≡ suc (r - (a + 1)) = omega arith in
+    let d : drop a t ≡ 35 ∷ drop (a + 1) t = drop-next t a l ∙ rw e in
+    record {
+      after = omega arith;
+      within = end .within;
+      body = λ m. (end .body m .0, rw (n, d, end .body m .1));
+      nobody = λ m. rw (d, end .nobody m);
+    }
+
+number-meaning : (char : ℕ → Option (List ℕ)) (t : List ℕ) (a r : ℕ) → a < r → a < length t → getD t a 0 ≡ 35
+    → meaning char (take (r - a) (drop a t)) ≡ charOf char (numberOf (take (r - (a + 1)) (drop (a + 1) t)))
+number-meaning char t a r h l e =
+    let n : r - a ≡ suc (r - (a + 1)) = omega arith in
+    let d : drop a t ≡ 35 ∷ drop (a + 1) t = drop-next t a l ∙ rw e in
+    rw (n, d)
+
+module _ (numbers : Numbers) (t : List ℕ) (i r : ℕ) (inside : i + 1 < length t) (amp : getD t i 0 ≡ 38) (hash : getD t (i + 1) 0 ≡ 35) (end : Ends t (i + 2) r) where
+  same : i + 1 + 1 ≡ i + 2
+  same = omega arith
+
+  number-end : Ends t (i + 1) r
+  number-end = number-ends t (i + 1) r inside hash (rw same end)
+
+  pub number-nobody : r ≡ length t → Reads numbers t i Nothing
+  number-nobody e = reads-nobody numbers t i (omega arith) amp (number-end .nobody e)
+
+  pub number-reads : r < length t → (m : Meaning) → meaningBytes m ≡ charOf (charBy numbers) (numberOf (take (r - (i + 2)) (drop (i + 2) t))) → RealMeaning m
+      → Reads numbers t i (answer i r m)
+  number-reads l m e real =
+      let h : i + 2 ≤ r = end .after in
+      reads-meaning numbers t i (omega arith) amp r number-end l m (e ∙ sym (rw same at (number-meaning (charBy numbers) t (i + 1) r (omega arith) inside hash))) real
+
+-- ---- a name
+
+name-first : (t : List ℕ) (a r : ℕ) → (getD t a 0 ≡ 35 → ⊥) → getD (take (r - a) (drop a t)) 0 0 ≡ 35 → ⊥
+name-first t a r h = go (r - a) refl
+  where
+    go : (n : ℕ) → r - a ≡ n → getD (take n (drop a t)) 0 0 ≡ 35 → ⊥
+    go zero e q = absurd (omega arith)
+    go (suc n) e q =
+        let z : a + 0 ≡ a = omega arith in
+        h (sym (rw (e, z) at (part-at t a r 0 (omega arith))) ∙ q)
+
+not-number : (char : ℕ → Option (List ℕ)) (s : List ℕ) → (getD s 0 0 ≡ 35 → ⊥) → meaning char s ≡ lookup names s
+unfolding names
+not-number char [] h = refl
+not-number char (b ∷ s) h = rw (ne-eqb b 35 h)
+
+name-meaning : (char : ℕ → Option (List ℕ)) (t : List ℕ) (a r : ℕ) → (getD t a 0 ≡ 35 → ⊥)
+    → meaning char (take (r - a) (drop a t)) ≡ lookup names (take (r - a) (drop a t))
+name-meaning char t a r h = not-number char (take (r - a) (drop a t)) (name-first t a r h)
+
+-- No value of the table begins with a byte above F0.
+abbrev low : Row → Bool
+low row = leb (getD (value row) 0 0) 0xF0
+
+names-low : T (all low names)
+unfolding names
+names-low = tt
+
+-- So a looked-up value is no character above 3FFFF.
+name-real : (body : List ℕ) (m : Meaning) → meaningBytes m ≡ lookup names body → RealMeaning m
+name-real body NoMeaning e = tt
+name-real body (Value (Named n)) e = tt
+name-real body (Value (Character n)) e = go (leb n 0x10FFFF) refl
+  where
+    go : (x : Bool) → leb n 0x10FFFF ≡ x → n ≤ 0x10FFFF
+    go true q = leb-true n 0x10FFFF q
+    go false q =
+        let big : 0x10FFFF < n = leb-false n 0x10FFFF q in
+        let first : 0xF0 + n / 262144 ≤ 0xF0 = rw (le-ltb n 0x80 (omega arith), le-ltb n 0x800 (omega arith), le-ltb n 0x10000 (omega arith)) at (leb→le (getD (utf8 n) 0 0) 0xF0 (all-in low names names-low (body, utf8 n) (looked-up names body (utf8 n) (sym e)))) in
+        absurd (omega (arith, div-add-mod' n 262144))
+
+module _ (numbers : Numbers) (t : List ℕ) (i r : ℕ) (inside : i < length t) (amp : getD t i 0 ≡ 38) (end : Ends t (i + 1) r) where
+  pub name-nobody : r ≡ length t → Reads numbers t i Nothing
+  name-nobody e = reads-nobody numbers t i inside amp (end .nobody e)
+
+  pub name-reads : (getD t (i + 1) 0 ≡ 35 → ⊥) → r < length t → (m : Meaning) → meaningBytes m ≡ lookup names (take (r - (i + 1)) (drop (i + 1) t)) → Reads numbers t i (answer i r m)
+  name-reads h l m e =
+      reads-meaning numbers t i inside amp r end l m (e ∙ sym (name-meaning (charBy numbers) t (i + 1) r h)) (name-real (take (r - (i + 1)) (drop (i + 1) t)) m e)

@@ -1,0 +1,42 @@
+-- `decode_html::entity::is_bare` meets its contract, by what follows the `&`.
+-- Assumes nothing.
+use mathlib.Core.Bool.{true≢false, false≢true}
+use Prim.Native.Nat.{_+_}
+use borrow.Author.Needs.{needs}
+use lib.ListN.{drop-of-length-le}
+use Rattle.decode_html.proofs.Readings.{reads-nobody, reads-amp, reads-empty}
+use Rattle.decode_html.proofs.entity.is_bare.Statement.{statement}
+use Rattle.decode_html.proofs.entity.is_bare.Tie as tie
+
+add-first : tie.Need-add-first
+add-first c = search needs
+
+returns : tie.Need-returns
+returns c = ((λ z numbers. reads-nobody numbers (c .before .args .text .now) (c .before .args .start) (c .before .pre .0) (c .before .pre .1) (rw (drop-of-length-le (c .before .args .text .now) {i = c .before .args .start + 1} (search needs)))), λ z. absurd (true≢false z))
+
+shared-slice-read-if2 : tie.Need-shared-slice-read-if2
+shared-slice-read-if2 c = search needs
+
+returns-2 : tie.Need-returns-2
+returns-2 c = ((λ z numbers. reads-amp numbers (c .before .before .before .args .text .now) (c .before .before .before .args .start) (c .before .before .before .pre .0) (c .before .before .before .pre .1) (search needs) (c .if2 .taken)), λ z. absurd (true≢false z))
+
+shared-slice-read-if3 : tie.Need-shared-slice-read-if3
+shared-slice-read-if3 c = search needs
+
+returns-3 : tie.Need-returns-3
+returns-3 c = ((λ z numbers. reads-empty numbers (c .before .before .before .before .before .args .text .now) (c .before .before .before .before .before .args .start) (c .before .before .before .before .before .pre .0) (c .before .before .before .before .before .pre .1) (search needs) (c .if3 .taken)), λ z. absurd (true≢false z))
+
+returns-4 : tie.Need-returns-4
+returns-4 c = ((λ z. absurd (false≢true z)), λ z. search needs)
+
+pub is-bare-spec : {M : Type 1} → statement M
+is-bare-spec =
+    tie.close
+    (tie.spec
+    add-first
+    returns
+    shared-slice-read-if2
+    returns-2
+    shared-slice-read-if3
+    returns-3
+    returns-4)

@@ -1,0 +1,17 @@
+-- `decode_html::entity::known_value` meets its contract: its tests are the definition's.
+-- Assumes nothing.
+use borrow.Author.Tests.{ne-eqb}
+use Rattle.decode_html.proofs.entity.known_value.Statement.{statement}
+use Rattle.decode_html.proofs.entity.known_value.Tie as tie
+
+returns : tie.Need-returns
+returns c = rw (c .if1 .taken)
+
+returns-2 : tie.Need-returns-2
+returns-2 c = rw (ne-eqb _ _ (c .before .if1 .left), c .if2 .taken)
+
+returns-3 : tie.Need-returns-3
+returns-3 c = rw (ne-eqb _ _ (c .before .if1 .left), ne-eqb _ _ (c .if2 .left))
+
+pub known-value-spec : {M : Type 1} → statement M
+known-value-spec = tie.close (tie.spec returns returns-2 returns-3)

@@ -1,0 +1,48 @@
+-- The two ways to take a number, and what the readers find.
+-- Assumes nothing.
+use mathlib.Core.Option.{Option}
+use mathlib.Core.Path.{_≡_}
+use mathlib.Core.List.{List}
+use Prim.Native.Nat.{ℕ, _≤_, _<_}
+use lib.ListN.{length, drop}
+use Rattle.rules.specs.Moves.{Rule}
+use Rattle.rules.specs.References.{decodeChar, browseChar, referenceStep, browseStep}
+use Rattle.rules.specs.Answers.{referenceMove}
+use Rattle.rules.specs.declared.DecodedEntityValue.{DecodedEntityValue}
+use Rattle.rules.specs.declared.DecodedEntityValue.the-variants.{Named, Character}
+use Rattle.rules.specs.declared.Meaning.{Meaning}
+use Rattle.rules.specs.declared.Meaning.the-variants.{Value, Nothing as NoMeaning}
+use Rattle.rules.specs.declared.Reference.{Reference}
+use Rattle.rules.specs.declared.Reference.the-variants.{Found, Nothing as NoReference}
+use Rattle.decode_html.specs.declared.Numbers.{Numbers}
+use Rattle.decode_html.specs.declared.Numbers.the-variants.{Decoded, Browsed}
+
+-- The character of a number.
+abbrev pub charBy : Numbers → ℕ → Option (List ℕ)
+charBy Decoded = decodeChar
+charBy Browsed = browseChar
+
+-- The rule.
+abbrev pub stepBy : Numbers → Rule
+stepBy Decoded = referenceStep
+stepBy Browsed = browseStep
+
+-- A character's number is at most 10FFFF.
+abbrev pub Real : DecodedEntityValue → Type 0
+Real (Named n) = Unit {0}
+Real (Character n) = n ≤ 0x10FFFF
+
+-- So is that of a meaning, if there is one.
+abbrev pub RealMeaning : Meaning → Type 0
+RealMeaning (Value v) = Real v
+RealMeaning NoMeaning = Unit {0}
+
+-- A found reference starts at place i and ends in the text.
+abbrev pub Lies : List ℕ → ℕ → Reference → Type 0
+Lies t i (Found e) = (e .start ≡ i) × (i < e .end) × (e .end ≤ length t) × Real (e .value)
+Lies t i NoReference = Unit {0}
+
+-- What the reference reader finds at place i is the move there, whatever the byte before.
+pub record Reads (numbers : Numbers) (t : List ℕ) (i : ℕ) (r : Reference) : Type 0 where
+  pub move : (p : ℕ) → referenceMove t i r ≡ stepBy numbers p (drop i t)
+  pub lies : Lies t i r

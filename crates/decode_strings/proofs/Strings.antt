@@ -1,0 +1,300 @@
+-- The rows of a script or style string by the byte that each stands for: a byte after a backslash, two hex digits, U+2028 and U+2029.
+-- Assumes nothing.
+use mathlib.Core.Bool.{Bool, true, false, not, _&&_, _||_, cond}
+use mathlib.Core.Logic.{_⊎_, inl, inr, ⊎-elim}
+use mathlib.Core.Path.{_≡_, refl, sym, ap, _∙_, subst}
+use mathlib.Core.List.{List, [], _∷_, _++_, map}
+use Prim.Native.Nat.{ℕ, zero, suc, _+_, _-_, _*_, _/_, _%_, _≤_, _<_}
+use native.Mathlib.Omega.{arith}
+use lib.Dec.{T, eqb, eqb→eq, eqb-refl, ltb, ltb→lt, T-not}
+use lib.ListN.{length, take, drop, getD, length-drop}
+use borrow.Author.Tests.{eqb-true, ltb-true}
+use Rattle.rules.specs.Bytes.{ascii, In, all, count, stands, oneOf}
+use Rattle.rules.specs.Answers.{escapeMove}
+use Rattle.rules.specs.Escapes.{afterLess, escapeBy}
+use Rattle.rules.specs.Operations.{decodeStep}
+use Rattle.rules.specs.Tables.{Row, value, slashed, rows}
+use Rattle.rules.specs.Moves.{keep, swap, before}
+use Rattle.rules.specs.Utf8.{utf8}
+use Rattle.rules.specs.declared.Context.the-variants.{InScript, InStyle}
+use Rattle.rules.specs.declared.Quotes.{Quotes}
+use Rattle.rules.specs.declared.Quotes.the-variants.{Single, Double, Both}
+use Rattle.rules.specs.declared.Escape.{Escape}
+use Rattle.rules.specs.declared.Escape.the-variants.{Taken, Nothing}
+use Rattle.rules.proofs.Tests.{and-both, or-cases, all-in, any-intro}
+use Rattle.rules.proofs.EveryByte.{every-byte}
+use Rattle.rules.proofs.Decoder.{at-mark}
+use Rattle.rules.proofs.Loops.{drop-next}
+use Rattle.rules.proofs.Quiet.{Keeps}
+use Rattle.base.proofs.Filled.{lent-rest}
+use Rattle.base.specs.Places.{Nearest}
+use Rattle.decode_strings.specs.Finds.{Within, Finds}
+use Rattle.decode_strings.specs.Hex.{hexBetween}
+use Rattle.decode_strings.specs.Strings.{stringOf, nameOf, slashedBytes, plainQuote, afterSlash, hexEscape, isHexed, lineSeparator, paragraphSeparator, separators, hexRow, hexedBytes, hexRows, unslashedRows, escapeOf}
+use Rattle.decode_strings.proofs.Finding.{one-of-in, utf8-ascii, Coded, finds-byte, finds-no-byte, finds-first, finds-second, undo-second, finds-later, finds-end}
+use Rattle.decode_strings.proofs.Hex.{pair-digits, stands-between}
+use Rattle.decode_strings.proofs.Standing.{stands-take}
+
+-- ---- what the code that looks behind a backslash meets
+
+pub slash-short : (s : List ℕ) → length s < 2 → afterSlash s ≡ 0
+slash-short [] h = refl
+slash-short (x ∷ []) h = go (eqb x 92)
+  where
+    go : (b : Bool) → _≡_ {A = ℕ} (cond b 0 0) 0
+    go true = refl
+    go false = refl
+slash-short (x ∷ y ∷ s) h = absurd (omega arith)
+
+pub slash-long : (s : List ℕ) → (length s < 2 → ⊥) → afterSlash s ≡ cond (eqb (getD s 0 0) 92) (getD s 1 0) 0
+slash-long [] h = absurd (h (omega arith))
+slash-long (x ∷ []) h = absurd (h (omega arith))
+slash-long (x ∷ y ∷ s) h = refl
+
+-- ---- a byte after a backslash
+
+-- The bytes that are written so: the backslash and the two quotes but the one that is plain.
+pub slashed-but : (q : Quotes) (b : ℕ) → oneOf (slashedBytes q) b ≡ cond (eqb b (plainQuote q)) false (oneOf (ascii "\\'\"") b)
+slashed-but q b = go (eqb b (plainQuote q)) refl
+  where
+    plain : (q : Quotes) → oneOf (slashedBytes q) (plainQuote q) ≡ false
+    plain Single = refl
+    plain Double = refl
+    plain Both = refl
+
+    other : (q : Quotes) → eqb b (plainQuote q) ≡ false → oneOf (slashedBytes q) b ≡ oneOf (ascii "\\'\"") b
+    other Single e = rw e
+    other Double e = rw e
+    other Both e = refl
+
+    go : (p : Bool) → eqb b (plainQuote q) ≡ p → oneOf (slashedBytes q) b ≡ cond p false (oneOf (ascii "\\'\"") b)
+    go true e = ap (oneOf (slashedBytes q)) (eqb-true b (plainQuote q) e) ∙ plain q
+    go false e = other q e
+
+no-zero : (q : Quotes) → In 0 (slashedBytes q) → ⊥
+no-zero q i = all-in (λ (b : ℕ). ltb 0 b) (slashedBytes q) (go q) 0 i
+  where
+    go : (q : Quotes) → T (all (λ (b : ℕ). ltb 0 b) (slashedBytes q))
+    go Single = tt
+    go Double = tt
+    go Both = tt
+
+slashed-sound : (q : Quotes) (s : List ℕ) → In (afterSlash s) (slashedBytes q) → T (stands (value (slashed (afterSlash s))) s)
+slashed-sound q [] i = no-zero q i
+slashed-sound q (x ∷ s) i = go (eqb x 92) refl s i
+  where
+    go : (b : Bool) → eqb x 92 ≡ b → (s : List ℕ) → In (cond b (getD s 0 0) 0) (slashedBytes q) → T (stands (value (slashed (cond b (getD s 0 0) 0))) (x ∷ s))
+    go false e s i = absurd (no-zero q i)
+    go true e [] i = absurd (no-zero q i)
+    go true e (y ∷ s) i =
+        subst (λ (x : ℕ). T (stands (value (slashed y)) (x ∷ y ∷ s))) (sym (eqb→eq x 92 (subst T (sym e) tt))) (and-both (eqb y y) true (eqb-refl y) tt)
+
+slashed-small : (q : Quotes) → T (all (λ (b : ℕ). ltb b 128) (slashedBytes q))
+slashed-small Single = tt
+slashed-small Double = tt
+slashed-small Both = tt
+
+slashed-coded : (q : Quotes) → Coded slashed afterSlash (slashedBytes q) 1
+slashed-coded q = record { finds = λ b i r. refl; sound = slashed-sound q; keys = λ b. refl; sizes = λ b. refl; small = slashed-small q }
+
+-- ---- two hex digits
+
+hexed-small : (style : Bool) → T (all (λ (b : ℕ). ltb b 128) (hexedBytes style))
+hexed-small true = tt
+hexed-small false = tt
+
+small-byte : (style : Bool) (b : ℕ) → In b (hexedBytes style) → b < 256
+small-byte style b i = omega (arith, ltb→lt b 128 (all-in (λ (b : ℕ). ltb b 128) (hexedBytes style) (hexed-small style) b i))
+
+hex-coded : (style : Bool) → Coded (hexRow style) (hexEscape style) (hexedBytes style) 3
+unfolding hexBetween
+hex-coded true = record {
+  finds = λ b i r. pair-digits b (small-byte true b i);
+  sound = λ s i. stands-between (ascii "\\") (ascii " ") s (small-byte true (hexEscape true s) i);
+  keys = λ b. refl;
+  sizes = λ b. refl;
+  small = tt;
+}
+hex-coded false = record {
+  finds = λ b i r. pair-digits b (small-byte false b i);
+  sound = λ s i. stands-between (ascii "\\x") [] s (small-byte false (hexEscape false s) i);
+  keys = λ b. refl;
+  sizes = λ b. refl;
+  small = tt;
+}
+
+-- What passes the test is a byte.
+pub hexed-byte : (style : Bool) (v : ℕ) → isHexed style v ≡ true → v < 256
+hexed-byte style v e = ⊎-elim (λ p. omega (arith, eqb-true v 60 p)) (λ p. omega (arith, ltb-true v 32 p)) (small (eqb v 60) (ltb v 32) (not (style && eqb v 0)) e)
+  where
+    small : (p q r : Bool) → (p || (q && r)) ≡ true → (p ≡ true) ⊎ (q ≡ true)
+    small true q r e = inl refl
+    small false true r e = inr refl
+    small false false r e = inr e
+
+-- These bytes are those that pass the test.
+hexed-in : (style : Bool) (v : ℕ) → isHexed style v ≡ true → In v (hexedBytes style)
+hexed-in style v e =
+    one-of-in (hexedBytes style) v
+    (go (or-cases (not (isHexed style v)) (oneOf (hexedBytes style) v) (every-byte (λ (v : ℕ). not (isHexed style v) || oneOf (hexedBytes style) v) (ok style) v (hexed-byte style v e))))
+  where
+    ok : (style : Bool) → T (all (λ (v : ℕ). not (isHexed style v) || oneOf (hexedBytes style) v) (count 0 256))
+    ok true = tt
+    ok false = tt
+
+    go : T (not (isHexed style v)) ⊎ T (oneOf (hexedBytes style) v) → T (oneOf (hexedBytes style) v)
+    go (inl t) = absurd (T-not (isHexed style v) t (subst T (sym e) tt))
+    go (inr t) = t
+
+hexed-out : (style : Bool) (v : ℕ) → isHexed style v ≡ false → In v (hexedBytes style) → ⊥
+hexed-out style v e i = subst T e (all-in (isHexed style) (hexedBytes style) (go style) v i)
+  where
+    go : (style : Bool) → T (all (isHexed style) (hexedBytes style))
+    go true = tt
+    go false = tt
+
+-- ---- the whole table
+
+string-rows : (style : Bool) (q : Quotes) → rows (stringOf style q) ≡ map slashed (slashedBytes q) ++ unslashedRows style
+string-rows true Single = refl
+string-rows true Double = refl
+string-rows true Both = refl
+string-rows false Single = refl
+string-rows false Double = refl
+string-rows false Both = refl
+
+-- Two hex digits of a byte that the string writes so.
+pub finds-hexed : (style : Bool) (s : List ℕ) → isHexed style (hexEscape style s) ≡ true → Finds (hexRows style) s (Taken 4 (hexEscape style s))
+finds-hexed style s e = finds-byte (hex-coded style) s (hexed-in style (hexEscape style s) e)
+
+-- Where they are not, no such row stands.
+pub finds-no-hexed : (style : Bool) (s : List ℕ) → isHexed style (hexEscape style s) ≡ false → Finds (hexRows style) s Nothing
+finds-no-hexed style s e = finds-no-byte (hex-coded style) s (hexed-out style (hexEscape style s) e)
+
+-- A number that tells one in hex tells the first of all that have no backslash before their byte.
+pub finds-told : (style : Bool) (s : List ℕ) (n : ℕ) → (n ≡ 0 → ⊥) → Finds (hexRows style) s (escapeOf n) → Finds (unslashedRows style) s (escapeOf n)
+finds-told style s zero h f = absurd (h refl)
+finds-told style s (suc n) h f = finds-first (hexRows style) (separators style) f
+
+-- Where it is 0, the separators count.
+pub finds-rest : (style : Bool) (s : List ℕ) (n : ℕ) {r : Escape} → n ≡ 0 → Finds (hexRows style) s (escapeOf n) → Finds (separators style) s r → Finds (unslashedRows style) s r
+finds-rest style s n h f g = finds-second (hexRows style) (separators style) (subst (λ (n : ℕ). Finds (hexRows style) s (escapeOf n)) h f) g
+
+module _ (style : Bool) (q : Quotes) (s : List ℕ) where
+  no-slashed : oneOf (slashedBytes q) (afterSlash s) ≡ false → Finds (map slashed (slashedBytes q)) s Nothing
+  no-slashed e = finds-no-byte (slashed-coded q) s (λ i. subst T e (any-intro (eqb (afterSlash s)) (slashedBytes q) (afterSlash s) i (eqb-refl (afterSlash s))))
+
+  -- A backslash and a byte that the string writes so.
+  pub finds-slashed : oneOf (slashedBytes q) (afterSlash s) ≡ true → Finds (rows (stringOf style q)) s (Taken 2 (afterSlash s))
+  finds-slashed e = rw (string-rows style q) (finds-first (map slashed (slashedBytes q)) (unslashedRows style) (finds-byte (slashed-coded q) s (one-of-in (slashedBytes q) (afterSlash s) (subst T (sym e) tt))))
+
+  -- Where it is none, the other rows count.
+  pub finds-unslashed : {r : Escape} → oneOf (slashedBytes q) (afterSlash s) ≡ false → Finds (unslashedRows style) s r → Finds (rows (stringOf style q)) s r
+  finds-unslashed e f = rw (string-rows style q) (finds-second (map slashed (slashedBytes q)) (unslashedRows style) (no-slashed e) f)
+
+-- ---- decode
+
+decode-string : (style : Bool) (q : Quotes) (p : ℕ) (s : List ℕ) → decodeStep (stringOf style q) p s ≡ escapeBy (nameOf style) (rows (stringOf style q)) p s
+unfolding decodeStep
+decode-string true q p s = refl
+decode-string false q p s = refl
+
+-- A backslash and a byte that the string writes so give way to the byte.
+decode-slashed : (style : Bool) (q : Quotes) (p : ℕ) (s : List ℕ) → oneOf (slashedBytes q) (afterSlash s) ≡ true
+    → (decodeStep (stringOf style q) p s ≡ swap (take 2 s) (afterSlash s ∷ [])) × (2 ≤ length s)
+decode-slashed style q p s e =
+    let f = finds-slashed style q s e in
+    let small = ltb→lt (afterSlash s) 128 (all-in (λ (b : ℕ). ltb b 128) (slashedBytes q) (slashed-small q) (afterSlash s) (one-of-in (slashedBytes q) (afterSlash s) (subst T (sym e) tt))) in
+    (decode-string style q p s ∙ f .undoes (afterLess (nameOf style) p s) ∙ ap (swap (take 2 s)) (utf8-ascii (afterSlash s) small), f .within .1)
+
+-- Where it is none, the other rows and the rules after `<` decide.
+decode-unslashed : (style : Bool) (q : Quotes) (p : ℕ) (s : List ℕ) → oneOf (slashedBytes q) (afterSlash s) ≡ false
+    → escapeBy (nameOf style) (unslashedRows style) p s ≡ decodeStep (stringOf style q) p s
+decode-unslashed style q p s e =
+    sym
+    (decode-string style q p s
+    ∙ ap (λ (table : List Row). escapeBy (nameOf style) table p s) (string-rows style q)
+    ∙ undo-second (map slashed (slashedBytes q)) (unslashedRows style) s (afterLess (nameOf style) p s) (no-slashed style q s e))
+
+-- A row that is found is undone.
+pub row-found : (style : Bool) (p : ℕ) (s : List ℕ) (n : ℕ) → (n ≡ 0 → ⊥) → Finds (unslashedRows style) s (escapeOf n)
+    → escapeMove s (escapeOf n) ≡ escapeBy (nameOf style) (unslashedRows style) p s
+row-found style p s zero h f = absurd (h refl)
+row-found style p s (suc n) h f = sym (f .undoes (afterLess (nameOf style) p s))
+
+-- Where there is none, the rules after `<` decide.
+pub row-after : (style : Bool) (p : ℕ) (s : List ℕ) → Finds (unslashedRows style) s Nothing
+    → afterLess (nameOf style) p s ≡ escapeBy (nameOf style) (unslashedRows style) p s
+row-after style p s f = sym (f .undoes (afterLess (nameOf style) p s))
+
+-- Between two backslashes each byte is kept.
+pub string-quiet : (style : Bool) (q : Quotes) (t : List ℕ) (i e : ℕ) → Nearest t i 92 e → Keeps (decodeStep (stringOf style q)) t i e
+string-quiet style q t i e near k h l =
+    ap (decodeStep (stringOf style q) (before t k)) (drop-next t k (omega (arith, near .within)))
+    ∙ go style (before t k) (getD t k 0) (drop (k + 1) t) (λ x. near .none k h l (eqb→eq (getD t k 0) 92 x))
+  where
+    go : (style : Bool) (p x : ℕ) (s : List ℕ) → (T (eqb x 92) → ⊥) → decodeStep (stringOf style q) p (x ∷ s) ≡ keep (x ∷ [])
+    go true = at-mark (InStyle q)
+    go false = at-mark (InScript q)
+
+-- A byte b that the string writes with a backslash before it, at place e: the two give way to it.
+pub slashed-here : (style : Bool) (q : Quotes) (t : List ℕ) (e b : ℕ) → b ≡ afterSlash (take (length t - e) (drop e t)) → oneOf (slashedBytes q) b ≡ true
+    → (decodeStep (stringOf style q) (before t e) (drop e t) ≡ swap (take 2 (drop e t)) (b ∷ [])) × (e + 2 ≤ length t)
+slashed-here style q t e b h f =
+    let h : b ≡ afterSlash (drop e t) = rw (← lent-rest e t) h in
+    let d = decode-slashed style q (before t e) (drop e t) (ap (oneOf (slashedBytes q)) (sym h) ∙ f) in
+    (rw h (d .0), omega (arith, rw length-drop at (d .1)))
+
+-- Where it is not so, what the reader of the others answers there, lent the rest of the text, is the move.
+pub told-here : (style : Bool) (q : Quotes) (t : List ℕ) (e b p : ℕ) (r r′ : Escape) → b ≡ afterSlash (take (length t - e) (drop e t)) → oneOf (slashedBytes q) b ≡ false
+    → p ≡ before t e → r ≡ r′
+    → (escapeMove (take (length t - e) (drop e t)) r′ ≡ escapeBy (nameOf style) (unslashedRows style) p (take (length t - e) (drop e t)))
+    × Within r′ (take (length t - e) (drop e t))
+    → (decodeStep (stringOf style q) (before t e) (drop e t) ≡ escapeMove (drop e t) r) × Within r (take (length t - e) (drop e t))
+told-here style q t e b p r r′ h f k told g =
+    let rest = take (length t - e) (drop e t) in
+    let d = decode-unslashed style q p rest (ap (oneOf (slashedBytes q)) (sym h) ∙ f) in
+    (rw (← k, ← lent-rest e t, told) (sym (g .0 ∙ d)), rw told (g .1))
+
+-- And it stays within the text.
+pub within-rest : (t : List ℕ) (e n c : ℕ) → Within (Taken n c) (take (length t - e) (drop e t)) → (1 ≤ n) × (e + n ≤ length t) × (length (utf8 c) ≤ n) × (c < 0x10000)
+within-rest t e n c w = (w .0, omega (arith, w .0, rw (lent-rest, length-drop) at (w .1)), w .2, w .3)
+
+-- The byte before a place that is not the start.
+pub before-at : (t : List ℕ) (i : ℕ) → (i ≡ 0 → ⊥) → getD t (i - 1) 0 ≡ before t i
+before-at t zero h = absurd (h refl)
+before-at t (suc i) h = let e : suc i - 1 ≡ i = omega arith in rw e
+
+-- ---- an escape as a number
+
+-- A number that is not 0 tells an escape.
+pub escape-some : (n : ℕ) → (n ≡ 0 → ⊥) → escapeOf n ≡ Taken (n / 65536) (n % 65536)
+escape-some zero h = absurd (h refl)
+escape-some (suc n) h = refl
+
+-- It is made of how many bytes there are and of the character.
+pub escape-told : (n v : ℕ) → 1 ≤ n → v < 65536 → escapeOf (n * 65536 + v) ≡ Taken n v
+escape-told n v h l =
+    let d : (n * 65536 + v) / 65536 ≡ n = omega arith in
+    let m : (n * 65536 + v) % 65536 ≡ v = omega arith in
+    escape-some (n * 65536 + v) (λ z. omega arith) ∙ rw (d, m)
+
+-- The byte after a backslash, by the first two bytes.
+pub slash-taken : (s : List ℕ) (b : ℕ) → take 2 s ≡ 0x5C ∷ b ∷ [] → afterSlash s ≡ b
+slash-taken s b e = two s ∙ ap afterSlash e
+  where
+    two : (s : List ℕ) → afterSlash s ≡ afterSlash (take 2 s)
+    two [] = refl
+    two (x ∷ []) = refl
+    two (x ∷ y ∷ s) = refl
+
+-- Where it is not `u`, neither separator stands.
+pub no-separator : (s : List ℕ) → (afterSlash s ≡ 0x75 → ⊥) → Finds (separators false) s Nothing
+no-separator s h = finds-later (none (value lineSeparator) (omega arith) refl) (finds-later (none (value paragraphSeparator) (omega arith) refl) finds-end)
+  where
+    none : (v : List ℕ) → 2 ≤ length v → take 2 v ≡ 0x5C ∷ 0x75 ∷ [] → stands v s ≡ false
+    none v l e = go (stands v s) refl
+      where
+        go : (b : Bool) → stands v s ≡ b → b ≡ false
+        go true t = absurd (h (slash-taken s 0x75 (stands-take v s 2 l t ∙ e)))
+        go false t = refl

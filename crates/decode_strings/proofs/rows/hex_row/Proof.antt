@@ -1,0 +1,28 @@
+-- `hex_row` meets its contract: the value that is read is that of a byte which the string writes in hex, or of none.
+-- Assumes nothing.
+use mathlib.Core.Path.{sym, ap, _∙_}
+use native.Mathlib.Omega.{arith}
+use Rattle.decode_strings.specs.Strings.{isHexed}
+use Rattle.decode_strings.proofs.Strings.{hexed-byte, escape-told, finds-hexed, finds-no-hexed}
+use borrow.Author.Needs.{needs}
+use Rattle.decode_strings.proofs.rows.hex_row.Statement.{statement}
+use Rattle.decode_strings.proofs.rows.hex_row.Tie as tie
+
+hex-escape-requires : tie.Need-hex-escape-requires
+hex-escape-requires c κs = search needs
+
+is-hexed-requires : tie.Need-is-hexed-requires
+is-hexed-requires c κs = search needs
+
+add-result : tie.Need-add-result
+add-result c = omega (arith, hexed-byte (c .before .before .before .before .args .style) (c .before .before .hex-escape .result) (sym (c .before .is-hexed .ensures) ∙ c .if1 .taken))
+
+returns : tie.Need-returns
+returns c = let e = sym (c .before .is-hexed .ensures) ∙ c .if1 .taken in rw (escape-told 4 (c .before .before .hex-escape .result) (omega arith) (omega (arith, hexed-byte (c .before .before .before .before .args .style) (c .before .before .hex-escape .result) e)), c .before .before .hex-escape .ensures) (finds-hexed (c .before .before .before .before .args .style) (c .before .before .before .before .args .rest .now) (ap (isHexed (c .before .before .before .before .args .style)) (sym (c .before .before .hex-escape .ensures)) ∙ e))
+
+returns-2 : tie.Need-returns-2
+returns-2 c = finds-no-hexed (c .before .before .before .before .args .style) (c .before .before .before .before .args .rest .now) (ap (isHexed (c .before .before .before .before .args .style)) (sym (c .before .before .hex-escape .ensures)) ∙ sym (c .before .is-hexed .ensures) ∙ c .if1 .left)
+
+pub hex-row-spec : {M : Type 1} → statement M
+hex-row-spec =
+    tie.close (tie.spec hex-escape-requires is-hexed-requires add-result returns returns-2)

@@ -1,0 +1,37 @@
+-- Of the eight bytes of a word as many count as its highest says, and these are what is written; the others are spilt.
+-- Assumes nothing.
+use mathlib.Core.Path.{refl, _∙_}
+use native.Mathlib.Omega.{arith}
+use borrow.Author.Needs.{needs}
+use Rattle.encode_html.specs.Words.{wordOf, eight}
+use Rattle.encode_html.specs.Written.{written}
+use Rattle.encode_html.proofs.Choices.{word-is}
+use Rattle.encode_html.proofs.Spilt.{word-spills}
+use Rattle.encode_html.proofs.Text.{written-some, written-most}
+use Rattle.encode_html.proofs.fill.write_byte.Statement.{statement}
+use Rattle.encode_html.proofs.fill.write_byte.Tie as tie
+
+word-requires : tie.Need-word-requires
+word-requires c κs = search needs
+
+stamp-requires : tie.Need-stamp-requires
+stamp-requires c κs = omega (arith, written-some (c .before .before .before .args .h) (c .before .before .before .args .b), c .before .before .before .pre .1)
+
+same-length : tie.Need-same-length
+same-length c = search needs
+
+returns : tie.Need-returns
+returns c =
+    let s = c .before .before .before .before .before .before in
+    let a = s .args in
+    let w = written (a .h) (a .b) in
+    let x = c .before .before .before .before .word in
+    let p = c .before .before .stamp in
+    let e = word-is (a .h) (a .b) (s .fits .b .fits) in (
+      p .ensures .0 ∙ rw (x .ensures) (e .0),
+      rw (p .ensures .1, x .ensures)
+          (word-spills w (eight (wordOf w)) (a .output .now) (e .1) refl (written-some (a .h) (a .b)) (omega (arith, written-most (a .h) (a .b)))),
+    )
+
+pub write-byte-spec : {M : Type 1} → statement M
+write-byte-spec = tie.close (tie.spec word-requires stamp-requires same-length returns)

@@ -1,0 +1,94 @@
+-- The parts so far grow by what is counted, and with what is left they are the whole; if none was counted as high, every byte so far is ASCII.
+-- Assumes nothing.
+use mathlib.Core.Path.{_≡_}
+use Prim.Native.Nat.{ℕ, _-_, _≤_, _<_}
+use native.Mathlib.Omega.{arith}
+use lib.ListN.{length, getD}
+use borrow.Author.Needs.{needs}
+use Rattle.base.proofs.Part.{part-length}
+use Rattle.encode_html.specs.Gains.{Ascii}
+use Rattle.encode_html.proofs.Growth.{Grown, grown-start, grown-part, grown-end}
+use Rattle.encode_html.proofs.Text.{each-part}
+use Rattle.encode_html.proofs.look.count.Statement.{statement}
+use Rattle.encode_html.proofs.look.count.Tie as tie
+
+abbrev Inv-loop : tie.InvT-loop
+Inv-loop h g text high-bytes₀ n₀ i₀ high-bytes n i = Grown h text i n × (high-bytes ≤ i) × (high-bytes ≡ 0 → (k : ℕ) → k < i → Ascii (getD text k 0))
+
+abbrev μ-loop : tie.MeasureT-loop
+μ-loop h g text high-bytes₀ n₀ i₀ high-bytes n i = length text - i
+
+loop-holds : tie.Need-loop-holds Inv-loop μ-loop
+loop-holds c = (grown-start (c .before .args .h) (c .before .args .text .now), search needs, λ e k l. absurd (omega arith))
+
+clip-requires : tie.Need-clip-requires Inv-loop μ-loop
+clip-requires c κs = search needs
+
+sub-tally : tie.Need-sub-tally Inv-loop μ-loop
+sub-tally c = search needs
+
+part-tally-start : tie.Need-part-tally-start Inv-loop μ-loop
+part-tally-start c = search needs
+
+part-tally-end : tie.Need-part-tally-end Inv-loop μ-loop
+part-tally-end c = search needs
+
+tally-requires : tie.Need-tally-requires Inv-loop μ-loop
+tally-requires c κs =
+    let s = c .before .before .before .before .before in
+    (s .pre .0, omega (arith, part-length (s .args .text .now) (c .before .before .before .loop .i) (c .before .clip .result) (search needs) (search needs)))
+
+cast-high-bytes : tie.Need-cast-high-bytes Inv-loop μ-loop
+cast-high-bytes c = search needs
+
+add-high-bytes : tie.Need-add-high-bytes Inv-loop μ-loop
+add-high-bytes c = search needs
+
+cast-n : tie.Need-cast-n Inv-loop μ-loop
+cast-n c = search needs
+
+add-n : tie.Need-add-n Inv-loop μ-loop
+add-n c = search needs
+
+loop-less : tie.Need-loop-less Inv-loop μ-loop
+loop-less c = search needs
+
+loop-again : tie.Need-loop-again Inv-loop μ-loop
+loop-again c =
+    let a = c .before .before .before .before .before .before .before .before .args in
+    let t = a .text .now in
+    let l = c .before .before .before .before .before .before .loop in
+    let e = c .before .before .before .before .clip in
+    let y = c .before .before .tally in
+    let from : l .i ≤ e .result = omega (arith, e .ensures) in
+    let size = part-length t (l .i) (e .result) from (search needs) in (
+      grown-part (a .h) t (l .i) (e .result) (l .n) (y .result .grow) from (search needs) (y .ensures .0) (l .inv .0),
+      omega (arith, y .ensures .1),
+      λ z. each-part Ascii t (l .i) (e .result) from (search needs) (l .inv .2 (omega arith)) (y .ensures .2 (omega arith)),
+    )
+
+returns : tie.Need-returns Inv-loop μ-loop
+returns c =
+    let s = c .before .before .before in
+    let l = c .before .loop in
+    (grown-end (s .args .h) (s .args .text .now) (l .i) (l .n) (c .loop-test .left) (l .inv .0), λ e k b. l .inv .2 e k (omega arith))
+
+pub count-spec : {M : Type 1} → statement M
+count-spec =
+    tie.close
+    (tie.spec
+    Inv-loop
+    μ-loop
+    loop-holds
+    clip-requires
+    sub-tally
+    part-tally-start
+    part-tally-end
+    tally-requires
+    cast-high-bytes
+    add-high-bytes
+    cast-n
+    add-n
+    loop-less
+    loop-again
+    returns)

@@ -1,0 +1,17 @@
+-- One byte, and the number one in the highest.
+-- Assumes nothing.
+use native.Mathlib.Omega.{arith}
+use borrow.Author.Needs.{needs}
+use Rattle.encode_html.specs.Words.{wordOf}
+use Rattle.encode_html.proofs.words.plain.Statement.{statement}
+use Rattle.encode_html.proofs.words.plain.Tie as tie
+
+add-result : tie.Need-add-result
+add-result c = search needs
+
+returns : tie.Need-returns
+unfolding wordOf
+returns c = omega arith
+
+pub plain-spec : {M : Type 1} → statement M
+plain-spec = tie.close (tie.spec add-result returns)

@@ -1,0 +1,47 @@
+-- What is written for a byte, as one word of eight bytes.
+-- Assumes nothing.
+use mathlib.Core.Path.{_≡_}
+use mathlib.Core.List.{List, [], _∷_}
+use Prim.Native.Nat.{ℕ, _+_, _*_, _/_, _%_}
+use lib.ListN.{length, take, drop}
+use Rattle.rules.specs.declared.Html.{Html}
+use Rattle.plain.specs.Plain.{unquoted}
+use Rattle.encode_html.specs.Written.{written, few}
+use Rattle.encode_html.specs.declared.words.Words.{Words}
+
+-- Bytes as a number, the first the lowest.
+abbrev pub number : List ℕ → ℕ
+number [] = 0
+number (b ∷ w) = b + 0x100 * number w
+
+-- The word of up to seven bytes: these, and in its highest byte how many they are.
+unfoldable pub wordOf : List ℕ → ℕ
+wordOf w = number w + 0x100000000000000 * length w
+
+-- The eight bytes of a word, the lowest first.
+abbrev pub eight : ℕ → List ℕ
+eight x =
+    x % 0x100
+    ∷ x / 0x100 % 0x100
+    ∷ x / 0x10000 % 0x100
+    ∷ x / 0x1000000 % 0x100
+    ∷ x / 0x100000000 % 0x100
+    ∷ x / 0x10000000000 % 0x100
+    ∷ x / 0x1000000000000 % 0x100
+    ∷ x / 0x100000000000000 % 0x100
+    ∷ []
+
+-- What is to be known of a context, so that a word is a choice: which kind it is, and the words of `>`, `"`, `'` and `/`.
+abbrev pub wordsOf : Html → Words
+wordsOf h = record {
+  few = few h;
+  unquoted = unquoted h;
+  gt = wordOf (written h 62);
+  double = wordOf (written h 34);
+  single = wordOf (written h 39);
+  slash = wordOf (written h 47);
+}
+
+-- The bytes w stand at the start of the output, and it is as before from seven bytes past them on.
+abbrev pub Spills : List ℕ → List ℕ → List ℕ → Type 0
+Spills w before after = (take (length w) after ≡ w) × (drop (length w + 7) after ≡ drop (length w + 7) before)

@@ -1,0 +1,114 @@
+// Writes the encoding of a text by words. Each word is stored whole, so that up to seven bytes past what counts of it are written over, and by
+// the next word again; only the last bytes of a text are written exactly.
+use super::gains::Gains;
+use super::gains::growth;
+use super::gains::weigh;
+use super::words::Words;
+use super::words::word;
+use rules::Html;
+ghost use mathlib.Core.Path.{_≡_};
+ghost use Prim.Native.Nat.{_+_, _/_, _≤_, _<_};
+ghost use lib.ListN.{length};
+ghost use Rattle.rules.specs.Bytes.{over};
+ghost use Rattle.rules.specs.Operations.{encodeOf};
+ghost use Rattle.rules.specs.declared.Context.the-variants.{InHtml};
+ghost use Rattle.encode_html.specs.Written.{written};
+ghost use Rattle.encode_html.specs.Gains.{gainsOf};
+ghost use Rattle.encode_html.specs.Words.{eight, wordsOf, Spills};
+
+// Stores the eight bytes of a word, and returns how many of them count.
+fn stamp(x: u64, output: &mut [u8]) -> usize
+    requires { ⌜ 8 ≤ length (now output) ⌝ }
+    ensures { λ r. ⌜ (r ≡ x / 0x100000000000000) × (now (output .exit) ≡ over (eight x) (now (output .entry))) ⌝ }
+{
+    output[0] = (x % 0x100) as u8;
+    output[1] = (x / 0x100 % 0x100) as u8;
+    output[2] = (x / 0x1_0000 % 0x100) as u8;
+    output[3] = (x / 0x100_0000 % 0x100) as u8;
+    output[4] = (x / 0x1_0000_0000 % 0x100) as u8;
+    output[5] = (x / 0x100_0000_0000 % 0x100) as u8;
+    output[6] = (x / 0x1_0000_0000_0000 % 0x100) as u8;
+    output[7] = (x / 0x100_0000_0000_0000 % 0x100) as u8;
+    (x / 0x100_0000_0000_0000) as usize
+}
+
+// Writes what stands for a byte.
+fn write_byte(h: Html, w: Words, b: u8, output: &mut [u8]) -> usize
+    requires { ⌜ w ≡ wordsOf h ⌝ }
+    requires { ⌜ length (written h b) + 7 ≤ length (now output) ⌝ }
+    ensures { λ r. ⌜ (r ≡ length (written h b)) × Spills (written h b) (now (output .entry)) (now (output .exit)) ⌝ }
+{
+    stamp(word(h, w, b), output)
+}
+
+// Writes the encoding of a text byte by byte, at the same speed whatever is replaced.
+fn write_bytes(h: Html, w: Words, text: &[u8], output: &mut [u8]) -> usize
+    requires { ⌜ w ≡ wordsOf h ⌝ }
+    requires { ⌜ length (encodeOf (InHtml h) (now text)) + 7 ≤ length (now output) ⌝ }
+    ensures { λ r. ⌜ r ≡ length (encodeOf (InHtml h) (now (text .entry))) ⌝ }
+    ensures { λ _. ⌜ Spills (encodeOf (InHtml h) (now (text .entry))) (now (output .entry)) (now (output .exit)) ⌝ }
+{
+    let mut at: usize = 0;
+    let mut i: usize = 0;
+    while i < text.len() {
+        at += write_byte(h, w, text[i], &mut output[at..]);
+        i += 1;
+    }
+    at
+}
+
+// Writes the encoding of a part: a copy, if it does not grow.
+fn write_part(h: Html, g: Gains, w: Words, part: &[u8], output: &mut [u8]) -> usize
+    requires { ⌜ (g ≡ gainsOf h) × (w ≡ wordsOf h) × (length (now part) ≤ 48) ⌝ }
+    requires { ⌜ length (encodeOf (InHtml h) (now part)) + 7 ≤ length (now output) ⌝ }
+    ensures { λ r. ⌜ r ≡ length (encodeOf (InHtml h) (now (part .entry))) ⌝ }
+    ensures { λ _. ⌜ Spills (encodeOf (InHtml h) (now (part .entry))) (now (output .entry)) (now (output .exit)) ⌝ }
+{
+    if growth(h, g, part) == 0 {
+        return base::put(part, output);
+    }
+    write_bytes(h, w, part, output)
+}
+
+// Writes the encoding of a text part by part, which is quick where most parts are copied.
+fn write_parts(h: Html, w: Words, text: &[u8], output: &mut [u8]) -> usize
+    requires { ⌜ w ≡ wordsOf h ⌝ }
+    requires { ⌜ length (encodeOf (InHtml h) (now text)) + 7 ≤ length (now output) ⌝ }
+    ensures { λ r. ⌜ r ≡ length (encodeOf (InHtml h) (now (text .entry))) ⌝ }
+    ensures { λ _. ⌜ Spills (encodeOf (InHtml h) (now (text .entry))) (now (output .entry)) (now (output .exit)) ⌝ }
+{
+    let g = weigh(h);
+    let mut at: usize = 0;
+    let mut i: usize = 0;
+    while i < text.len() {
+        let end = base::clip(i, text.len(), 16);
+        at += write_part(h, g, w, &text[i..end], &mut output[at..]);
+        i = end;
+    }
+    at
+}
+
+// Writes the encoding of a text that grows by about `grow` bytes: byte by byte, if an eighth of it or more.
+pub fn write_most(h: Html, w: Words, text: &[u8], grow: usize, output: &mut [u8]) -> usize
+    requires { ⌜ w ≡ wordsOf h ⌝ }
+    requires { ⌜ length (encodeOf (InHtml h) (now text)) + 7 ≤ length (now output) ⌝ }
+    ensures { λ r. ⌜ r ≡ length (encodeOf (InHtml h) (now (text .entry))) ⌝ }
+    ensures { λ _. ⌜ Spills (encodeOf (InHtml h) (now (text .entry))) (now (output .entry)) (now (output .exit)) ⌝ }
+{
+    if text.len() / 8 <= grow {
+        return write_bytes(h, w, text, output);
+    }
+    write_parts(h, w, text, output)
+}
+
+// Writes the encoding of a short text by way of a buffer that takes what spills over; what lies past it keeps its values.
+pub fn write_exactly(h: Html, w: Words, text: &[u8], output: &mut [u8]) -> usize
+    requires { ⌜ (w ≡ wordsOf h) × (length (now text) < 8) ⌝ }
+    requires { ⌜ length (encodeOf (InHtml h) (now text)) ≤ length (now output) ⌝ }
+    ensures { λ r. ⌜ r ≡ length (encodeOf (InHtml h) (now (text .entry))) ⌝ }
+    ensures { λ _. ⌜ now (output .exit) ≡ over (encodeOf (InHtml h) (now (text .entry))) (now (output .entry)) ⌝ }
+{
+    let mut buffer: [u8; 64] = [0; 64];
+    let n = write_bytes(h, w, text, &mut buffer);
+    base::put(&buffer[..n], output)
+}

@@ -1,0 +1,132 @@
+-- A text may be cut where no line separator lies across: what is written for it is what is written for the two parts.
+-- Assumes nothing.
+use mathlib.Core.Bool.{Bool, true, false}
+use mathlib.Core.Logic.{_⊎_, inl, inr}
+use mathlib.Core.Path.{_≡_, refl, sym, ap, _∙_}
+use mathlib.Core.List.{List, [], _∷_, _++_}
+use Prim.Native.Nat.{ℕ, suc, _+_, _-_, _≤_, _<_}
+use native.Mathlib.Nat.{add-zero}
+use native.Mathlib.Omega.{arith}
+use borrow.Author.Tests.{eqb-true, eqb-false, ltb-true, ltb-false}
+use lib.Dec.{T, eqb, ltb}
+use lib.ListN.{length, take, drop, getD, length-append, drop-of-length-le}
+use lib.Seq.{getD-drop}
+use Rattle.rules.specs.Moves.{Move, keep, takes}
+use Rattle.rules.specs.Encoding.{encodeStep}
+use Rattle.rules.specs.Operations.{encodeOf}
+use Rattle.rules.specs.declared.Quotes.{Quotes}
+use Rattle.rules.specs.declared.Context.{Context}
+use Rattle.rules.specs.declared.Context.the-variants.{InScript, InStyle}
+use Rattle.rules.proofs.Tests.{is-false}
+use Rattle.rules.proofs.Blind.{Local, Parted, parted-result}
+use Rattle.base.proofs.Part.{part-length, part-at, parted as part-split}
+use Rattle.base.proofs.Filled.{Next}
+use Rattle.encode_strings.specs.declared.Strings.{Strings}
+use Rattle.encode_strings.specs.Strings.{contextIn, endsOf, ended, Apart}
+use Rattle.encode_strings.proofs.Heads.{kept, lone}
+use Rattle.encode_strings.proofs.Finds.{at, ends-are, lead-kept, lead-taken, lead-style}
+use Rattle.encode_strings.proofs.Sums.{encode-blind, grows}
+
+-- Two bytes before a place that are not E2 are all that Apart asks.
+pub two-before : (t : List ℕ) (r : ℕ) → (getD t (r - 1) 0 ≡ 0xE2 → ⊥) → (getD t (r - 2) 0 ≡ 0xE2 → ⊥) → (k : ℕ) → k < r → r ≤ k + 2 → getD t k 0 ≡ 0xE2 → ⊥
+two-before t r n m k h l e = go (ltb (k + 1) r) refl
+  where
+    go : (b : Bool) → ltb (k + 1) r ≡ b → ⊥
+    go true w = let u : k ≡ r - 2 = omega (arith, ltb-true (k + 1) r w) in m (rw u at e)
+    go false w = let u : k ≡ r - 1 = omega (arith, ltb-false (k + 1) r w) in n (rw u at e)
+
+-- ---- the same of two lists
+
+-- No separator lies across the end of a, where b follows.
+abbrev Clear : List ℕ → List ℕ → Type 0
+Clear a b = (b ≡ []) ⊎ (getD b 0 0 ≡ 0xE2) ⊎ ((k : ℕ) → k < length a → length a ≤ k + 2 → getD a k 0 ≡ 0xE2 → ⊥)
+
+clear-tail : (x : ℕ) (a b : List ℕ) → Clear (x ∷ a) b → Clear a b
+clear-tail x a b (inl e) = inl e
+clear-tail x a b (inr (inl e)) = inr (inl e)
+clear-tail x a b (inr (inr f)) = inr (inr (λ k h l e. f (suc k) (omega arith) (omega arith) e))
+
+nil-cons : {x : ℕ} {s : List ℕ} → x ∷ s ≡ [] → ⊥
+nil-cons e = let z : _≡_ {A = ℕ} 0 1 = cc in omega arith
+
+T→true : (b : Bool) → T b → b ≡ true
+T→true true t = refl
+T→true false t = absurd t
+
+-- E2 ends no separator.
+lead-first : (y : ℕ) → endsOf 0xE2 y ≡ false
+lead-first y = is-false (endsOf 0xE2 y) (λ t. let (a, b, c) = ends-are 0xE2 y (T→true _ t) in omega arith)
+
+lead-last : (x : ℕ) → endsOf x 0xE2 ≡ false
+lead-last x = is-false (endsOf x 0xE2) (λ t. let (a, b, c) = ends-are x 0xE2 (T→true _ t) in omega arith)
+
+ended-clear : (a b : List ℕ) → Clear (0xE2 ∷ a) b → ended (a ++ b) ≡ ended a
+ended-clear (y ∷ z ∷ a) b c = refl
+ended-clear [] [] c = refl
+ended-clear [] (w ∷ []) c = refl
+ended-clear [] (w ∷ v ∷ b) (inl e) = absurd (nil-cons e)
+ended-clear [] (w ∷ v ∷ b) (inr (inl e)) = rw e (lead-first v)
+ended-clear [] (w ∷ v ∷ b) (inr (inr f)) = absurd (f 0 (omega arith) (omega arith) refl)
+ended-clear (y ∷ []) [] c = refl
+ended-clear (y ∷ []) (w ∷ b) (inl e) = absurd (nil-cons e)
+ended-clear (y ∷ []) (w ∷ b) (inr (inl e)) = rw e (lead-last y)
+ended-clear (y ∷ []) (w ∷ b) (inr (inr f)) = absurd (f 0 (omega arith) (omega arith) refl)
+
+-- ---- the moves at the places of a
+
+local-byte : (strings : Strings) (x : ℕ) (a b : List ℕ) → (x ≡ 0xE2 → ⊥) → Local (encodeStep (contextIn strings)) (x ∷ a) b
+local-byte strings x a b ne =
+    let c = contextIn strings in
+    (lone c 0 x (a ++ b) ne ∙ sym (lone c 0 x a ne), 0, ap (λ (m : Move). length (takes m)) (lone c 0 x a ne) ∙ grows strings x ne .0, omega arith)
+
+local-kept : (c : Context) (x : ℕ) (a b : List ℕ) → encodeStep c 0 (x ∷ (a ++ b)) ≡ keep (x ∷ []) → encodeStep c 0 (x ∷ a) ≡ keep (x ∷ []) → Local (encodeStep c) (x ∷ a) b
+local-kept c x a b e f = (e ∙ sym f, 0, ap (λ (m : Move). length (takes m)) f, omega arith)
+
+local-script : (q : Quotes) (a b : List ℕ) → Clear (0xE2 ∷ a) b → Local (encodeStep (InScript q)) (0xE2 ∷ a) b
+local-script q [] b h = local-kept (InScript q) 0xE2 [] b (lead-kept q b (ended-clear [] b h)) (lead-kept q [] refl)
+local-script q (y ∷ []) b h = local-kept (InScript q) 0xE2 (y ∷ []) b (lead-kept q (y ∷ b) (ended-clear (y ∷ []) b h)) (lead-kept q (y ∷ []) refl)
+local-script q (y ∷ z ∷ a) b h = go (endsOf y z) refl
+  where
+    go : (t : Bool) → endsOf y z ≡ t → Local (encodeStep (InScript q)) (0xE2 ∷ y ∷ z ∷ a) b
+    go false e = local-kept (InScript q) 0xE2 (y ∷ z ∷ a) b (lead-kept q (y ∷ z ∷ (a ++ b)) e) (lead-kept q (y ∷ z ∷ a) e)
+    go true e = (
+      lead-taken q (y ∷ z ∷ (a ++ b)) e ∙ sym (lead-taken q (y ∷ z ∷ a) e),
+      2,
+      ap (λ (m : Move). length (takes m)) (lead-taken q (y ∷ z ∷ a) e),
+      omega arith,
+    )
+
+local-lead : (style : Bool) (q : Quotes) (a b : List ℕ) → Clear (0xE2 ∷ a) b → Local (encodeStep (contextIn (at style q))) (0xE2 ∷ a) b
+local-lead true q a b h = local-kept (InStyle q) 0xE2 a b (kept (InStyle q) 0 0xE2 (a ++ b) (lead-style q)) (kept (InStyle q) 0 0xE2 a (lead-style q))
+local-lead false q a b h = local-script q a b h
+
+module _ (strings : Strings) where
+  parted : (a b : List ℕ) → Clear a b → Parted (encodeStep (contextIn strings)) a b
+  parted [] b h = tt
+  parted (x ∷ a) b h = (go (eqb x 0xE2) refl, parted a b (clear-tail x a b h))
+    where
+      go : (t : Bool) → eqb x 0xE2 ≡ t → Local (encodeStep (contextIn strings)) (x ∷ a) b
+      go true e = let u = eqb-true x 0xE2 e in rw u (local-lead (strings .style) (strings .quotes) a b (rw u at h))
+      go false e = local-byte strings x a b (eqb-false x 0xE2 e)
+
+  module _ (t : List ℕ) (i e : ℕ) (h : i ≤ e) (l : e ≤ length t) where
+    clear-part : Apart t e → Clear (take (e - i) (drop i t)) (drop e t)
+    clear-part (inl q) = inl (drop-of-length-le t q)
+    clear-part (inr (inl q)) = inr (inl (getD-drop e t 0 0 ∙ rw add-zero q))
+    clear-part (inr (inr f)) =
+        let w = part-length t i e h l in
+        inr (inr (λ k u v r. f (i + k) (omega arith) (omega arith) (sym (part-at t i e k (omega arith)) ∙ r)))
+
+    -- What is written for it comes first, and then what is written for the rest after it.
+    pub next-part : Apart t e → Next (encodeOf (contextIn strings) (drop i t)) (encodeOf (contextIn strings) (take (e - i) (drop i t))) (encodeOf (contextIn strings) (drop e t))
+    next-part p =
+        record {
+          next =
+              ap (encodeOf (contextIn strings)) (sym (part-split t i e h))
+              ∙ parted-result (encodeStep (contextIn strings)) (encode-blind (contextIn strings)) (take (e - i) (drop i t)) (drop e t)
+              (parted (take (e - i) (drop i t)) (drop e t) (clear-part p));
+        }
+
+    pub next-length : Apart t e
+        → length (encodeOf (contextIn strings) (drop i t)) ≡ length (encodeOf (contextIn strings) (take (e - i) (drop i t))) + length (encodeOf (contextIn strings) (drop e t))
+    next-length p = ap length (next-part p .next) ∙ length-append (encodeOf (contextIn strings) (take (e - i) (drop i t))) (encodeOf (contextIn strings) (drop e t))

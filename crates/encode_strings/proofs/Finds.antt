@@ -1,0 +1,296 @@
+-- What is found at the head of a text. One test, computed for every ASCII byte in every string: its flags say whether a key begins with it, its kind
+-- makes the move of the rules, and it grows as much as the code counts. Of the other bytes only E2 begins keys, those of the line separators.
+-- Assumes nothing.
+use mathlib.Core.Bool.{Bool, true, false, not, _&&_, _||_, cond}
+use mathlib.Core.Logic.{_⊎_, inl, inr}
+use mathlib.Core.Option.{Option, none, some}
+use mathlib.Core.Path.{_≡_, refl, sym, ap, _∙_, subst}
+use mathlib.Core.List.{List, [], _∷_}
+use Prim.Native.Nat.{ℕ, _+_, _<_, _≤_}
+use native.Mathlib.Nat.{zero-add, not-suc-le-zero}
+use native.Mathlib.Omega.{arith}
+use borrow.Author.Tests.{ne-eqb, le-ltb, eqb-true, eqb-false, ltb-true, ltb-false}
+use lib.Bits.{bitAnd, and-zero-l}
+use lib.Dec.{T, eqb, ltb, eqb→eq}
+use lib.ListN.{length, drop, getD}
+use Rattle.rules.specs.Bytes.{ascii, stands, sameBytes}
+use Rattle.rules.specs.Moves.{Move, keep, swap, stop, takes, gives}
+use Rattle.rules.specs.Tables.{Row, rowAt, key, table}
+use Rattle.rules.specs.Encoding.{write, keepByte, encodeStep}
+use Rattle.rules.specs.Answers.{replacementMove}
+use Rattle.rules.specs.declared.Quotes.{Quotes}
+use Rattle.rules.specs.declared.Quotes.the-variants.{Single, Double, Both}
+use Rattle.rules.specs.declared.Context.the-variants.{InScript, InStyle}
+use Rattle.rules.specs.declared.Replacement.{Replacement}
+use Rattle.rules.specs.declared.Replacement.the-variants.{Slashed, Hex, Separator, Substitute, Nothing}
+use Rattle.rules.proofs.Tests.{and-left, and-right, or-cases, same-bytes}
+use Rattle.rules.proofs.Below.{below, counted, agree, agrees, eqb-comm}
+use Rattle.encode_strings.specs.declared.Strings.{Strings}
+use Rattle.encode_strings.specs.Strings.{contextIn, flagOf, escapeFlags, maskOf, starts, Held, singleKey, doubleKey, gainOf, sameOf, endsOf, ended}
+use Rattle.encode_strings.proofs.Heads.{not-ascii, kept, no-start, lone}
+
+abbrev sameMove : Move → Move → Bool
+sameMove (keep a) (keep b) = sameBytes a b
+sameMove (keep a) (swap c d) = false
+sameMove (keep a) stop = false
+sameMove (swap a b) (keep c) = false
+sameMove (swap a b) (swap c d) = sameBytes a c && sameBytes b d
+sameMove (swap a b) stop = false
+sameMove stop (keep a) = false
+sameMove stop (swap a b) = false
+sameMove stop stop = true
+
+same-move : (m n : Move) → T (sameMove m n) → m ≡ n
+same-move (keep a) (keep b) t = ap keep (same-bytes a b t)
+same-move (keep a) (swap c d) t = absurd t
+same-move (keep a) stop t = absurd t
+same-move (swap a b) (keep c) t = absurd t
+same-move (swap a b) (swap c d) t =
+    let e = same-bytes a c (and-left (sameBytes a c) (sameBytes b d) t) in
+    let f = same-bytes b d (and-right (sameBytes a c) (sameBytes b d) t) in
+    λ i. swap (e i) (f i)
+same-move (swap a b) stop t = absurd t
+same-move stop (keep a) t = absurd t
+same-move stop (swap a b) t = absurd t
+same-move stop stop t = refl
+
+-- ---- the test
+
+-- The kind of a byte that begins a key, but E2.
+abbrev pub kindOf : Bool → ℕ → Replacement
+kindOf style b = cond (eqb b 34 || eqb b 39 || eqb b 92) Slashed (cond (eqb b 0 && style) Substitute Hex)
+
+-- The strings of a kind and quotes.
+abbrev pub at : Bool → Quotes → Strings
+at style q = record { style = style; quotes = q }
+
+-- The move of one byte by itself.
+abbrev pub alone : Strings → ℕ → Move
+alone strings b = encodeStep (contextIn strings) 0 (b ∷ [])
+
+abbrev flagged : Strings → ℕ → Bool
+flagged strings b = agree (not (eqb (bitAnd (flagOf b) (maskOf strings)) 0)) (starts (table (contextIn strings)) b)
+
+abbrev kinded : Strings → ℕ → Bool
+kinded strings b =
+    sameMove (replacementMove (strings .style) (b ∷ []) (cond (starts (table (contextIn strings)) b) (kindOf (strings .style) b) Nothing)) (alone strings b)
+
+abbrev grown : Strings → ℕ → Bool
+grown strings b =
+    eqb (length (takes (alone strings b))) 1
+    && eqb (length (gives (alone strings b)) + cond (strings .style) (sameOf 0 b) 0) (1 + gainOf (singleKey (strings .quotes)) (doubleKey (strings .quotes)) b)
+
+-- A byte by itself takes one byte, and gives as much more as it grows; but one less for NUL in a style sheet.
+abbrev pub Grows : Strings → ℕ → Type 0
+Grows strings b =
+    (length (takes (alone strings b)) ≡ 1)
+    × (length (gives (alone strings b)) + cond (strings .style) (sameOf 0 b) 0 ≡ 1 + gainOf (singleKey (strings .quotes)) (doubleKey (strings .quotes)) b)
+
+abbrev right : Strings → ℕ → Bool
+right strings b = flagged strings b && (kinded strings b && grown strings b)
+
+all-right : (style : Bool) (q : Quotes) (b : ℕ) → b < 0x80 → T (right (at style q) b)
+unfolding encodeStep starts gainOf sameOf
+all-right true Single = below (right (at true Single)) 0x80 tt
+all-right true Double = below (right (at true Double)) 0x80 tt
+all-right true Both = below (right (at true Both)) 0x80 tt
+all-right false Single = below (right (at false Single)) 0x80 tt
+all-right false Double = below (right (at false Double)) 0x80 tt
+all-right false Both = below (right (at false Both)) 0x80 tt
+
+module _ (strings : Strings) (b : ℕ) (h : b < 0x80) where
+  byte-right : T (right strings b)
+  byte-right = all-right (strings .style) (strings .quotes) b h
+
+  ascii-flags : not (eqb (bitAnd (flagOf b) (maskOf strings)) 0) ≡ starts (table (contextIn strings)) b
+  ascii-flags =
+      agrees (not (eqb (bitAnd (flagOf b) (maskOf strings)) 0)) (starts (table (contextIn strings)) b)
+      (and-left (flagged strings b) (kinded strings b && grown strings b) byte-right)
+
+  -- How much a byte grows by itself.
+  pub ascii-grows : Grows strings b
+  ascii-grows =
+      let one = eqb (length (takes (alone strings b))) 1 in
+      let more = eqb (length (gives (alone strings b)) + cond (strings .style) (sameOf 0 b) 0) (1 + gainOf (singleKey (strings .quotes)) (doubleKey (strings .quotes)) b) in
+      let g = and-right (kinded strings b) (grown strings b) (and-right (flagged strings b) (kinded strings b && grown strings b) byte-right) in
+      (eqb→eq _ _ (and-left one more g), eqb→eq _ _ (and-right one more g))
+
+  ascii-kind : starts (table (contextIn strings)) b ≡ true → replacementMove (strings .style) (b ∷ []) (kindOf (strings .style) b) ≡ alone strings b
+  ascii-kind e =
+      let k : replacementMove (strings .style) (b ∷ []) (cond (starts (table (contextIn strings)) b) (kindOf (strings .style) b) Nothing) ≡ alone strings b =
+      same-move _ (alone strings b) (and-left (kinded strings b) (grown strings b) (and-right (flagged strings b) (kinded strings b && grown strings b) byte-right)) in
+      rw e at k
+
+-- ---- the flags of all bytes
+
+lead-flags : (style : Bool) (q : Quotes) → not (eqb (bitAnd (flagOf 0xE2) (maskOf (at style q))) 0) ≡ starts (table (contextIn (at style q))) 0xE2
+unfolding starts
+lead-flags true Single = refl
+lead-flags true Double = refl
+lead-flags true Both = refl
+lead-flags false Single = refl
+lead-flags false Double = refl
+lead-flags false Both = refl
+
+high-flags : (b : ℕ) → 0x80 ≤ b → (b ≡ 0xE2 → ⊥) → flagOf b ≡ 0
+high-flags b h ne =
+    let l : ltb b 32 ≡ false = le-ltb b 32 (omega arith) in
+    rw (
+      l,
+      not-ascii b 0x5C h (omega arith),
+      not-ascii b 0x3C h (omega arith),
+      not-ascii b 0x27 h (omega arith),
+      not-ascii b 0x22 h (omega arith),
+      ne-eqb b 0xE2 ne,
+    )
+
+-- The flags of a byte that count say whether a key begins with it.
+pub flags-right : (strings : Strings) (b : ℕ) → b < 256 → not (eqb (bitAnd (getD escapeFlags b 0) (maskOf strings)) 0) ≡ starts (table (contextIn strings)) b
+unfolding escapeFlags
+flags-right strings b h = rw (counted flagOf 0 256 b h, zero-add) (go (ltb b 0x80) (eqb b 0xE2) refl refl)
+  where
+    go : (t u : Bool) → ltb b 0x80 ≡ t → eqb b 0xE2 ≡ u → not (eqb (bitAnd (flagOf b) (maskOf strings)) 0) ≡ starts (table (contextIn strings)) b
+    go true u e f = ascii-flags strings b (ltb-true b 0x80 e)
+    go false true e f = rw (eqb-true b 0xE2 f) (lead-flags (strings .style) (strings .quotes))
+    go false false e f =
+        let ne = eqb-false b 0xE2 f in
+        let l = ltb-false b 0x80 e in
+        rw (high-flags b l ne, no-start (contextIn strings) b l ne) (ap (λ (n : ℕ). not (eqb n 0)) (and-zero-l (maskOf strings)))
+
+-- The move at a byte that begins a key, but E2.
+byte-kind : (strings : Strings) (b : ℕ) → (b ≡ 0xE2 → ⊥) → starts (table (contextIn strings)) b ≡ true
+    → (p : ℕ) (s : List ℕ) → replacementMove (strings .style) (b ∷ s) (kindOf (strings .style) b) ≡ encodeStep (contextIn strings) p (b ∷ s)
+byte-kind strings b ne e p s =
+    headmost (eqb b 34 || eqb b 39 || eqb b 92) (eqb b 0 && strings .style) ∙ go (ltb b 0x80) refl ∙ sym (lone (contextIn strings) p b s ne)
+  where
+    headmost : (t u : Bool) → replacementMove (strings .style) (b ∷ s) (cond t Slashed (cond u Substitute Hex)) ≡ replacementMove (strings .style) (b ∷ []) (cond t Slashed (cond u Substitute Hex))
+    headmost true u = refl
+    headmost false true = refl
+    headmost false false = refl
+
+    go : (t : Bool) → ltb b 0x80 ≡ t → replacementMove (strings .style) (b ∷ []) (kindOf (strings .style) b) ≡ alone strings b
+    go true l = ascii-kind strings b (ltb-true b 0x80 l) e
+    go false l = absurd (subst T (sym e ∙ no-start (contextIn strings) b (ltb-false b 0x80 l) ne) tt)
+
+-- ---- the line separators
+
+-- What ends a separator is 80, and A8 or A9.
+pub ends-are : (b c : ℕ) → endsOf b c ≡ true → (b ≡ 0x80) × (0xA8 ≤ c) × (c ≤ 0xA9)
+unfolding endsOf
+ends-are b c e =
+    let t : T (eqb b 0x80 && (eqb c 0xA8 || eqb c 0xA9)) = subst T (sym e) tt in
+    let last = go (or-cases (eqb c 0xA8) (eqb c 0xA9) (and-right (eqb b 0x80) (eqb c 0xA8 || eqb c 0xA9) t)) in
+    (eqb→eq b 0x80 (and-left (eqb b 0x80) (eqb c 0xA8 || eqb c 0xA9) t), last .0, last .1)
+  where
+    go : T (eqb c 0xA8) ⊎ T (eqb c 0xA9) → (0xA8 ≤ c) × (c ≤ 0xA9)
+    go (inl t) = let e = eqb→eq c 0xA8 t in (omega arith, omega arith)
+    go (inr t) = let e = eqb→eq c 0xA9 t in (omega arith, omega arith)
+
+-- What is found where E2 stands before s.
+abbrev pub separatorAt : List ℕ → Replacement
+separatorAt s = cond (ended s) Separator Nothing
+
+-- The row of the one, of the other, or none.
+abbrev two : Bool → Bool → Option Row
+two t u =
+    elim t [
+      | true ↦ some (0xE2 ∷ 0x80 ∷ 0xA8 ∷ [], ascii "\\u2028")
+      | false ↦ elim u [ true ↦ some (0xE2 ∷ 0x80 ∷ 0xA9 ∷ [], ascii "\\u2029") | false ↦ none ]
+    ]
+
+lead-row : (q : Quotes) (s : List ℕ) → rowAt key (table (InScript q)) (0xE2 ∷ s) ≡ two (stands (0x80 ∷ 0xA8 ∷ []) s) (stands (0x80 ∷ 0xA9 ∷ []) s)
+lead-row Single s = refl
+lead-row Double s = refl
+lead-row Both s = refl
+
+separator-row : (s : List ℕ) → write (two (stands (0x80 ∷ 0xA8 ∷ []) s) (stands (0x80 ∷ 0xA9 ∷ []) s)) (keep (0xE2 ∷ [])) ≡ replacementMove false (0xE2 ∷ s) (separatorAt s)
+unfolding endsOf
+separator-row [] = refl
+separator-row (x ∷ []) = go (eqb 0x80 x)
+  where
+    go : (a : Bool) → write (two (a && false) (a && false)) (keep (0xE2 ∷ [])) ≡ keep (0xE2 ∷ [])
+    go true = refl
+    go false = refl
+separator-row (x ∷ y ∷ s) =
+    go (eqb 0x80 x) (eqb 0xA8 y) (eqb 0xA9 y) refl refl refl
+    ∙ (λ i. replacementMove false (0xE2 ∷ x ∷ y ∷ s) (cond (eqb-comm 0x80 x i && (eqb-comm 0xA8 y i || eqb-comm 0xA9 y i)) Separator Nothing))
+  where
+    go : (a b c : Bool) → eqb 0x80 x ≡ a → eqb 0xA8 y ≡ b → eqb 0xA9 y ≡ c
+        → write (two (a && (b && true)) (a && (c && true))) (keep (0xE2 ∷ [])) ≡ replacementMove false (0xE2 ∷ x ∷ y ∷ s) (cond (a && (b || c)) Separator Nothing)
+    go true true c e f g = rw (sym (eqb-true 0x80 x e), sym (eqb-true 0xA8 y f))
+    go true false true e f g = rw (sym (eqb-true 0x80 x e), sym (eqb-true 0xA9 y g))
+    go true false false e f g = refl
+    go false b c e f g = refl
+
+-- The move at E2 in a script.
+lead-script : (q : Quotes) (p : ℕ) (s : List ℕ) → replacementMove false (0xE2 ∷ s) (separatorAt s) ≡ encodeStep (InScript q) p (0xE2 ∷ s)
+unfolding encodeStep
+lead-script q p s = sym (ap (λ (o : Option Row). write o (keep (0xE2 ∷ []))) (lead-row q s) ∙ separator-row s)
+
+-- It is kept where no separator is ended.
+pub lead-kept : (q : Quotes) (s : List ℕ) → ended s ≡ false → encodeStep (InScript q) 0 (0xE2 ∷ s) ≡ keep (0xE2 ∷ [])
+lead-kept q s e = sym (lead-script q 0 s) ∙ rw e
+
+-- Where one is, all of it is taken.
+pub lead-taken : (q : Quotes) (s : List ℕ) → ended s ≡ true → encodeStep (InScript q) 0 (0xE2 ∷ s) ≡ replacementMove false (0xE2 ∷ s) Separator
+lead-taken q s e = sym (lead-script q 0 s) ∙ rw e
+
+-- E2 begins no key in a style sheet.
+pub lead-style : (q : Quotes) → starts (table (InStyle q)) 0xE2 ≡ false
+unfolding starts
+lead-style Single = refl
+lead-style Double = refl
+lead-style Both = refl
+
+lead-only : (style : Bool) (q : Quotes) → starts (table (contextIn (at style q))) 0xE2 ≡ true → style ≡ false
+lead-only true q e = absurd (subst T (sym e ∙ lead-style q) tt)
+lead-only false q e = refl
+
+-- ---- the same of the bytes that the code is lent
+
+module _ (strings : Strings) where
+  -- No key begins with the first byte.
+  pub found-none : (s : List ℕ) → 0 < length s → starts (table (contextIn strings)) (getD s 0 0) ≡ false → (p : ℕ) → keepByte s ≡ encodeStep (contextIn strings) p s
+  found-none [] h e p = absurd (not-suc-le-zero h)
+  found-none (x ∷ s) h e p = sym (kept (contextIn strings) p x s e)
+
+  -- A key begins with it, and it is not E2.
+  pub found-kind : (s : List ℕ) (r : Replacement) → 0 < length s → starts (table (contextIn strings)) (getD s 0 0) ≡ true → (getD s 0 0 ≡ 0xE2 → ⊥)
+      → kindOf (strings .style) (getD s 0 0) ≡ r → (p : ℕ) → replacementMove (strings .style) s r ≡ encodeStep (contextIn strings) p s
+  found-kind [] r h e ne k p = absurd (not-suc-le-zero h)
+  found-kind (x ∷ s) r h e ne k p = rw (← k) (byte-kind strings x ne e p s)
+
+  -- A key begins with it, and it is E2.
+  pub found-lead : (s : List ℕ) (r : Replacement) → 0 < length s → getD s 0 0 ≡ 0xE2 → starts (table (contextIn strings)) (getD s 0 0) ≡ true
+      → separatorAt (drop 1 s) ≡ r → (p : ℕ) → replacementMove (strings .style) s r ≡ encodeStep (contextIn strings) p s
+  found-lead [] r h e l k p = absurd (not-suc-le-zero h)
+  found-lead (x ∷ s) r h e l k p =
+      let o : strings .style ≡ false = lead-only (strings .style) (strings .quotes) (rw e at l) in
+      rw (o, e, ← k) (lead-script (strings .quotes) p s)
+
+-- Less than two bytes after it end no separator; otherwise the two tell.
+pub ended-short : (s : List ℕ) → length s < 3 → ended (drop 1 s) ≡ false
+ended-short [] h = refl
+ended-short (x ∷ []) h = refl
+ended-short (x ∷ y ∷ []) h = refl
+ended-short (x ∷ y ∷ z ∷ s) h = absurd (omega arith)
+
+pub ended-long : (s : List ℕ) → 3 ≤ length s → ended (drop 1 s) ≡ endsOf (getD s 1 0) (getD s 2 0)
+ended-long [] h = absurd (omega arith)
+ended-long (x ∷ []) h = absurd (omega arith)
+ended-long (x ∷ y ∷ []) h = absurd (omega arith)
+ended-long (x ∷ y ∷ z ∷ s) h = refl
+
+-- ---- what the writer of a replacement needs
+
+pub held-some : (r : Replacement) (s : List ℕ) → Held r s → 1 ≤ length s
+held-some Slashed s h = h
+held-some Hex s h = h
+held-some Separator s h = omega (arith, h .0)
+held-some Substitute s h = h
+held-some Nothing s h = h
+
+-- Where nothing replaces it the first byte is given.
+pub kept-gives : (s : List ℕ) → 1 ≤ length s → gives (keepByte s) ≡ getD s 0 0 ∷ []
+kept-gives [] h = absurd (not-suc-le-zero h)
+kept-gives (x ∷ s) h = refl

@@ -1,0 +1,91 @@
+-- `encode_strings::growth::weigh` meets its contract. The invariant: each sum so far, with that of the bytes from here on, is the whole sum. The measure is
+-- what is left of the part.
+-- Assumes nothing.
+use mathlib.Core.Path.{_≡_}
+use Prim.Native.Nat.{_+_, _-_, _*_, _≤_}
+use native.Mathlib.Omega.{arith}
+use borrow.Author.Needs.{needs}
+use lib.ListN.{length, drop}
+use Rattle.encode_strings.specs.Strings.{gainOf, sameOf, total}
+use Rattle.encode_strings.proofs.Sums.{total-more, total-none}
+use Rattle.encode_strings.proofs.growth.weigh.Statement.{statement}
+use Rattle.encode_strings.proofs.growth.weigh.Tie as tie
+
+abbrev Inv-loop : tie.InvT-loop
+Inv-loop single double odd part growth₀ n₀ i₀ growth n i =
+    (i ≤ length part)
+    × (growth + total (gainOf single double) (drop i part) ≡ total (gainOf single double) part)
+    × (n + total (sameOf odd) (drop i part) ≡ total (sameOf odd) part)
+    × (growth ≤ 3 * i)
+    × (n ≤ i)
+
+abbrev μ-loop : tie.MeasureT-loop
+μ-loop single double odd part growth₀ n₀ i₀ growth n i = length part - i
+
+loop-holds : tie.Need-loop-holds Inv-loop μ-loop
+loop-holds c = (search needs, omega arith, omega arith, search needs, search needs)
+
+shared-slice-read-b : tie.Need-shared-slice-read-b Inv-loop μ-loop
+shared-slice-read-b c = search needs
+
+gain-requires : tie.Need-gain-requires Inv-loop μ-loop
+gain-requires c κs = search needs
+
+add-growth : tie.Need-add-growth Inv-loop μ-loop
+add-growth c = omega (arith, c .gain .ensures .1)
+
+when-requires : tie.Need-when-requires Inv-loop μ-loop
+when-requires c κs = search needs
+
+add-n : tie.Need-add-n Inv-loop μ-loop
+add-n c = omega (arith, c .when .ensures .1)
+
+add-i : tie.Need-add-i Inv-loop μ-loop
+add-i c = search needs
+
+loop-less : tie.Need-loop-less Inv-loop μ-loop
+loop-less c = search needs
+
+loop-again : tie.Need-loop-again Inv-loop μ-loop
+unfolding sameOf
+loop-again c =
+    let c₁ = c .before .before .before in
+    let c₂ = c₁ .before .before .before in
+    let a = c₂ .args in
+    let l = c₁ .before .loop in
+    let s = a .part .now in
+    let h = c₁ .loop-test .taken in (
+      search needs,
+      omega (arith, total-more (gainOf (a .single) (a .double)) s (l .i) h, c .before .gain .ensures .0),
+      omega (arith, total-more (sameOf (a .odd)) s (l .i) h, c .when .ensures .0),
+      omega (arith, c .before .gain .ensures .1),
+      omega (arith, c .when .ensures .1),
+    )
+
+returns : tie.Need-returns Inv-loop μ-loop
+returns c =
+    let a = c .before .before .before .args in
+    let l = c .before .loop in
+    let s = a .part .now in
+    let h = c .loop-test .left in (
+      omega (arith, total-none (gainOf (a .single) (a .double)) s (l .i) h),
+      omega (arith, total-none (sameOf (a .odd)) s (l .i) h),
+      search needs,
+    )
+
+pub weigh-spec : {M : Type 1} → statement M
+weigh-spec =
+    tie.close
+    (tie.spec
+    Inv-loop
+    μ-loop
+    loop-holds
+    shared-slice-read-b
+    gain-requires
+    add-growth
+    when-requires
+    add-n
+    add-i
+    loop-less
+    loop-again
+    returns)

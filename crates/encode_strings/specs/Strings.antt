@@ -1,0 +1,119 @@
+-- What the code of the strings speaks of, beside the rules: the one value of a context, the escape flags, and how bytes grow.
+-- Assumes nothing.
+use mathlib.Core.Bool.{Bool, true, false, _&&_, _||_, cond}
+use mathlib.Core.Logic.{_⊎_}
+use mathlib.Core.Path.{_≡_}
+use mathlib.Core.List.{List, [], _∷_, map}
+use Prim.Native.Nat.{ℕ, _+_, _≤_, _<_}
+use lib.Dec.{eqb, ltb}
+use lib.ListN.{length, getD}
+use Rattle.rules.specs.Bytes.{ascii, count, any, oneOf}
+use Rattle.rules.specs.Tables.{Row, key, value, scriptHex, styleHex}
+use Rattle.rules.specs.declared.Quotes.{Quotes}
+use Rattle.rules.specs.declared.Quotes.the-variants.{Single, Double, Both}
+use Rattle.rules.specs.declared.Context.{Context}
+use Rattle.rules.specs.declared.Context.the-variants.{InScript, InStyle}
+use Rattle.rules.specs.declared.Replacement.{Replacement}
+use Rattle.rules.specs.declared.Replacement.the-variants.{Slashed, Hex, Separator, Substitute, Nothing}
+use Rattle.encode_strings.specs.declared.Strings.{Strings}
+
+-- The context that the value stands for.
+abbrev pub contextIn : Strings → Context
+contextIn strings = cond (strings .style) (InStyle (strings .quotes)) (InScript (strings .quotes))
+
+-- ---- the escape flags
+
+-- The rule of the flags: `\`, `<` and the bytes 0 to 31 have 1, `'` has 2, `"` has 4, and the first byte of U+2028 and U+2029 has 8.
+abbrev pub flagOf : ℕ → ℕ
+flagOf b = cond (ltb b 32 || oneOf (ascii "\\<") b) 1 (cond (eqb b 0x27) 2 (cond (eqb b 0x22) 4 (cond (eqb b 0xE2) 8 0)))
+
+-- The flags of all bytes.
+unfoldable pub escapeFlags : List ℕ
+escapeFlags = map flagOf (count 0 256)
+
+-- The flags of the quotes that are escaped.
+abbrev pub quoteFlags : Quotes → ℕ
+quoteFlags Single = 2
+quoteFlags Double = 4
+quoteFlags Both = 6
+
+-- The flags that count in a string: 1 in every one, 8 in a script.
+abbrev pub maskOf : Strings → ℕ
+maskOf strings = cond (strings .style) (quoteFlags (strings .quotes) + 1) (quoteFlags (strings .quotes) + 9)
+
+-- The bytes begin with b, if there are any.
+abbrev pub headed : ℕ → List ℕ → Bool
+headed b [] = true
+headed b (x ∷ xs) = eqb x b
+
+-- Some row's key begins with b.
+unfoldable pub starts : List Row → ℕ → Bool
+starts rows b = any (λ (row : Row). headed b (key row)) rows
+
+-- ---- one replacement
+
+-- How many bytes of the text it takes.
+abbrev pub takenBy : Replacement → ℕ
+takenBy Slashed = 1
+takenBy Hex = 1
+takenBy Separator = 3
+takenBy Substitute = 1
+takenBy Nothing = 1
+
+-- What is written for a byte by its hex digits.
+abbrev pub hexIn : Bool → ℕ → List ℕ
+hexIn style b = value (cond style (styleHex b) (scriptHex b))
+
+-- What its writer needs of the bytes s that it is found at: all that it takes is there, and the third byte of a separator is at least 70.
+abbrev pub Held : Replacement → List ℕ → Type 0
+Held Slashed s = 1 ≤ length s
+Held Hex s = 1 ≤ length s
+Held Separator s = (3 ≤ length s) × (0x70 ≤ getD s 2 0)
+Held Substitute s = 1 ≤ length s
+Held Nothing s = 1 ≤ length s
+
+-- ---- growth
+
+-- The single quote where it is escaped, else the backslash, which grows as much.
+abbrev pub singleKey : Quotes → ℕ
+singleKey Single = 0x27
+singleKey Double = 0x5C
+singleKey Both = 0x27
+
+-- The same of the double quote.
+abbrev pub doubleKey : Quotes → ℕ
+doubleKey Single = 0x5C
+doubleKey Double = 0x22
+doubleKey Both = 0x22
+
+-- By how much a byte grows: the backslash and the quotes by one, `<` and the bytes 0 to 31 by three.
+unfoldable pub gainOf : ℕ → ℕ → ℕ → ℕ
+gainOf single double b = cond (eqb b 0x5C || eqb b single || eqb b double) 1 (cond (eqb b 0x3C || ltb b 32) 3 0)
+
+-- 1 where the two bytes are the same.
+unfoldable pub sameOf : ℕ → ℕ → ℕ
+sameOf a b = cond (eqb a b) 1 0
+
+-- The sum over the bytes.
+abbrev pub total : (ℕ → ℕ) → List ℕ → ℕ
+total f [] = 0
+total f (b ∷ s) = f b + total f s
+
+-- The bytes b and c end a line separator that E2 begins.
+unfoldable pub endsOf : ℕ → ℕ → Bool
+endsOf b c = eqb b 0x80 && (eqb c 0xA8 || eqb c 0xA9)
+
+-- The bytes s begin with two that do.
+abbrev pub ended : List ℕ → Bool
+ended [] = false
+ended (b ∷ []) = false
+ended (b ∷ c ∷ s) = endsOf b c
+
+-- How many line separators stand in the bytes.
+abbrev pub separatorsIn : List ℕ → ℕ
+separatorsIn [] = 0
+separatorsIn (a ∷ s) = cond (eqb a 0xE2 && ended s) 1 0 + separatorsIn s
+
+-- No line separator lies across the place r of the text: it is the end, a separator may begin there, or none begins in the two bytes before.
+abbrev pub Apart : List ℕ → ℕ → Type 0
+Apart t r = (length t ≤ r) ⊎ (getD t r 0 ≡ 0xE2) ⊎ ((k : ℕ) → k < r → r ≤ k + 2 → getD t k 0 ≡ 0xE2 → ⊥)

@@ -1,4 +1,0 @@
-pub mod Filled
-pub mod Part
-pub mod Counted
-pub mod Firsts

@@ -1,2 +1,0 @@
--- What its contracts do not cite of `rules`.
-pub mod First

@@ -1,0 +1,139 @@
+-- `put_answer` meets its contract: the five parts fill the output, one after the other.
+-- Assumes nothing.
+use mathlib.Core.Path.{refl, ap, _∙_}
+use mathlib.Core.List.{List, _++_}
+use Prim.Native.Nat.{ℕ}
+use native.Mathlib.Omega.{arith}
+use borrow.Author.Needs.{needs}
+use lib.ListN.{length}
+use Rattle.rules.specs.Bytes.{over}
+use Rattle.base.proofs.Filled.{filled-put}
+use Rattle.base.proofs.Counted.{filled-all}
+use Rattle.requests.proofs.Parted.{filled-first, next-part, last-part, statusPart, lengthPart, samePart, placePart, textPart, parts-room, printed-parts}
+use Rattle.requests.proofs.print.put_answer.Tie as tie
+use Rattle.requests.proofs.print.put_answer.Statement.{statement}
+
+slice-aggregate-put-number : tie.Need-slice-aggregate-put-number
+slice-aggregate-put-number c = search needs
+
+put-number-requires : tie.Need-put-number-requires
+put-number-requires c κs = search needs
+
+slice-aggregate-put-number-2 : tie.Need-slice-aggregate-put-number-2
+slice-aggregate-put-number-2 c = search needs
+
+sub-put-number : tie.Need-sub-put-number
+sub-put-number c = search needs
+
+part-put-number-start : tie.Need-part-put-number-start
+part-put-number-start c = search needs
+
+part-put-number-end : tie.Need-part-put-number-end
+part-put-number-end c = search needs
+
+put-number-requires-2 : tie.Need-put-number-requires-2
+put-number-requires-2 c κs = search needs
+
+add-at : tie.Need-add-at
+add-at c = search needs
+
+slice-aggregate-put-number-3 : tie.Need-slice-aggregate-put-number-3
+slice-aggregate-put-number-3 c = search needs
+
+sub-put-number-2 : tie.Need-sub-put-number-2
+sub-put-number-2 c = search needs
+
+part-put-number-start-2 : tie.Need-part-put-number-start-2
+part-put-number-start-2 c = search needs
+
+part-put-number-end-2 : tie.Need-part-put-number-end-2
+part-put-number-end-2 c = search needs
+
+put-number-requires-3 : tie.Need-put-number-requires-3
+put-number-requires-3 c κs = search needs
+
+add-at-2 : tie.Need-add-at-2
+add-at-2 c = search needs
+
+slice-aggregate-put-number-4 : tie.Need-slice-aggregate-put-number-4
+slice-aggregate-put-number-4 c = search needs
+
+sub-put-number-3 : tie.Need-sub-put-number-3
+sub-put-number-3 c = search needs
+
+part-put-number-start-3 : tie.Need-part-put-number-start-3
+part-put-number-start-3 c = search needs
+
+part-put-number-end-3 : tie.Need-part-put-number-end-3
+part-put-number-end-3 c = search needs
+
+put-number-requires-4 : tie.Need-put-number-requires-4
+put-number-requires-4 c κs = search needs
+
+add-at-3 : tie.Need-add-at-3
+add-at-3 c = search needs
+
+slice-aggregate-put : tie.Need-slice-aggregate-put
+slice-aggregate-put c = search needs
+
+sub-put : tie.Need-sub-put
+sub-put c = search needs
+
+part-put-start : tie.Need-part-put-start
+part-put-start c = search needs
+
+part-put-end : tie.Need-part-put-end
+part-put-end c = search needs
+
+put-requires : tie.Need-put-requires
+put-requires c κs = search needs
+
+add-at-4 : tie.Need-add-at-4
+add-at-4 c = search needs
+
+same-length : tie.Need-same-length
+same-length c = search needs
+
+returns : tie.Need-returns
+returns c = let a = c .before .before .before .before .before .before .before .before .before .before .before .before .before .before .before .before .before .before .before .before .before .before .before .before .before .before .args .answer in
+    let o = c .before .before .before .before .before .before .before .before .before .before .before .before .before .before .before .before .before .before .before .before .before .before .before .before .before .before .args .output .now in
+    let room = parts-room a in
+    let f = filled-first (statusPart a) (lengthPart a ++ (samePart a ++ (placePart a ++ textPart))) o (c .before .before .before .before .before .before .before .before .before .before .before .before .before .before .before .before .before .before .before .before .before .before .put-number .last .1 .1 .0) (c .before .before .before .before .before .before .before .before .before .before .before .before .before .before .before .before .before .before .before .before .before .before .put-number .result) (omega (arith, room, c .before .before .before .before .before .before .before .before .before .before .before .before .before .before .before .before .before .before .before .before .before .before .before .before .before .before .pre)) (c .before .before .before .before .before .before .before .before .before .before .before .before .before .before .before .before .before .before .before .before .before .before .put-number .ensures .0) (c .before .before .before .before .before .before .before .before .before .before .before .before .before .before .before .before .before .before .before .before .before .before .put-number .ensures .1) in
+    let g = filled-put f (next-part (lengthPart a) (samePart a ++ (placePart a ++ textPart))) (c .before .before .before .before .before .before .before .before .before .before .before .before .before .before .before .before .before .put-number2 .last .1 .1 .0) (c .before .before .before .before .before .before .before .before .before .before .before .before .before .before .before .before .before .put-number2 .result) (c .before .before .before .before .before .before .before .before .before .before .before .before .before .before .before .before .before .put-number2 .ensures .0) (c .before .before .before .before .before .before .before .before .before .before .before .before .before .before .before .before .before .put-number2 .ensures .1) in
+    let h = filled-put g (next-part (samePart a) (placePart a ++ textPart)) (c .before .before .before .before .before .before .before .before .before .before .before .before .put-number3 .last .1 .1 .0) (c .before .before .before .before .before .before .before .before .before .before .before .before .put-number3 .result) (c .before .before .before .before .before .before .before .before .before .before .before .before .put-number3 .ensures .0) (c .before .before .before .before .before .before .before .before .before .before .before .before .put-number3 .ensures .1) in
+    let i = filled-put h (next-part (placePart a) textPart) (c .before .before .before .before .before .before .before .put-number4 .last .1 .1 .0) (c .before .before .before .before .before .before .before .put-number4 .result) (c .before .before .before .before .before .before .before .put-number4 .ensures .0) (c .before .before .before .before .before .before .before .put-number4 .ensures .1) in
+    let all = filled-all (filled-put i (last-part textPart) (c .before .before .put .last .1 .0) (c .before .before .put .result) (c .before .before .put .ensures .0) (c .before .before .put .ensures .1)) refl in
+    (all .0 ∙ ap length (printed-parts a), all .1 ∙ ap (λ (l : List ℕ). over l o) (printed-parts a), omega (arith, all .0, room))
+
+pub put-answer-spec : {M : Type 1} → statement M
+put-answer-spec =
+    tie.close
+    (tie.spec
+    slice-aggregate-put-number
+    put-number-requires
+    slice-aggregate-put-number-2
+    sub-put-number
+    part-put-number-start
+    part-put-number-end
+    put-number-requires-2
+    add-at
+    slice-aggregate-put-number-3
+    sub-put-number-2
+    part-put-number-start-2
+    part-put-number-end-2
+    put-number-requires-3
+    add-at-2
+    slice-aggregate-put-number-4
+    sub-put-number-3
+    part-put-number-start-3
+    part-put-number-end-3
+    put-number-requires-4
+    add-at-3
+    slice-aggregate-put
+    sub-put
+    part-put-start
+    part-put-end
+    put-requires
+    add-at-4
+    same-length
+    returns)

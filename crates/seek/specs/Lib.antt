@@ -1,2 +1,0 @@
--- Where a byte stands in a text.
-pub mod Places
