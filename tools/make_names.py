@@ -1,5 +1,5 @@
 #!/usr/bin/env python3
-"""Writes the number tables of the crates `upper` and `lower` from the readable entries of crates/rules/specs/Names.antt.
+"""Writes the number tables of the crates names_upper and names_lower from the readable entries of crates/rules/specs/Names.antt.
 
     tools/make_names.py           write src/lib.rt of both crates and the proof of each of its functions
     tools/make_names.py --check   write nothing; fail if a file is not what would be written
@@ -14,8 +14,8 @@ ENTRIES = ROOT / "crates/rules/specs/Names.antt"
 
 # The groups of each crate, by their first and last letters: few enough for the check, and small enough to be laid out anew at each look-up.
 CRATES = {
-    "upper": ["AF", "GM", "NR", "SZ"],
-    "lower": ["aa", "bb", "cd", "eg", "hk", "ll", "mm", "nn", "oq", "rr", "ss", "tw", "xz"],
+    "names_upper": ["AF", "GM", "NR", "SZ"],
+    "names_lower": ["aa", "bb", "cd", "eg", "hk", "ll", "mm", "nn", "oq", "rr", "ss", "tw", "xz"],
 }
 
 HEAD = """\
@@ -26,7 +26,7 @@ ghost use mathlib.Core.Path.{{_≡_}};
 ghost use Rattle.rules.specs.Names.{{names}};
 ghost use Rattle.rules.specs.References.{{lookup}};
 ghost use Rattle.rules.specs.Answers.{{meaningBytes}};
-ghost use Rattle.search.specs.Starting.{{starting}};
+ghost use Rattle.names_search.specs.Starting.{{starting}};
 use rules::Meaning;
 """
 
@@ -46,7 +46,7 @@ const {const}_VALUES: [u64; {count}] = [
 pub fn {function}(name: &[u8]) -> Meaning
     ensures {{ λ r. ⌜ meaningBytes r ≡ lookup (starting ({low}, {high}) names) (now (name .entry)) ⌝ }}
 {{
-    search::find(name, &{const}_NAMES, &{const}_OFFSETS, &{const}_VALUES)
+    names_search::find(name, &{const}_NAMES, &{const}_OFFSETS, &{const}_VALUES)
 }}
 """
 
@@ -131,7 +131,7 @@ def files():
     made = {}
     for crate, groups in CRATES.items():
         folder = ROOT / "crates" / crate
-        code = HEAD.format(case=f"{crate}-case")
+        code = HEAD.format(case=f"{crate.removeprefix('names_')}-case")
         for first, last in groups:
             group, function, proof = group_of(crate, first, last, [row for row in table if first <= row[0][0] <= last])
             code += group
