@@ -2,3 +2,4 @@
 pub mod First
 pub mod Places
 pub mod Closing
+pub mod Digits

@@ -10,6 +10,8 @@ ghost use lib.Dec.{eqb, leb};
 ghost use lib.ListN.{length};
 ghost use Rattle.rules.specs.Bytes.{over, inside};
 ghost use Rattle.rules.specs.Tables.{letterOrDigit, hexDigit};
+ghost use Rattle.rules.specs.References.{digit, hexDigitAt};
+ghost use Rattle.base.specs.Digits.{below};
 
 // Writes all of `bytes` to the start of `output` and returns how many they are; what lies past them keeps its values.
 pub fn put(bytes: &[u8], output: &mut [u8]) -> usize
@@ -57,6 +59,31 @@ pub fn hex_digit(n: u8) -> u8
     ensures { λ r. ⌜ (r ≡ hexDigit n) × (r < 128) ⌝ }
 {
     if n < 10 { b'0' + n } else { b'A' + (n - 10) }
+}
+
+// The value of a digit, hex digits of either letter case among them; 255 for any other byte. `A` is 55 + 10, `a` is 87 + 10.
+pub fn digit_value(byte: u8) -> u8
+    ensures { λ r. ⌜ (below 10 r ≡ digit byte) × (below 16 r ≡ hexDigitAt byte) ⌝ }
+{
+    if byte < b'0' {
+        return 255;
+    }
+    if byte <= b'9' {
+        return byte - b'0';
+    }
+    if byte < b'A' {
+        return 255;
+    }
+    if byte <= b'F' {
+        return byte - 55;
+    }
+    if byte < b'a' {
+        return 255;
+    }
+    if byte <= b'f' {
+        return byte - 87;
+    }
+    255
 }
 
 // 1 if a number is at least `least`, 0 if not.

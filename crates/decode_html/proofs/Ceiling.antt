@@ -19,7 +19,8 @@ use Rattle.decode_html.specs.declared.Numbers.{Numbers}
 use Rattle.decode_html.specs.declared.Numbers.the-variants.{Decoded, Browsed}
 use Rattle.decode_html.specs.declared.digits.Number.{Number}
 use Rattle.decode_html.specs.Taking.{charBy}
-use Rattle.decode_html.specs.Digits.{below, digitBy, ceilingOf, capped, found}
+use Rattle.base.specs.Digits.{below}
+use Rattle.decode_html.specs.Digits.{digitBy, ceilingOf, capped, found}
 
 -- ---- tests
 

@@ -3,14 +3,10 @@
 use mathlib.Core.Bool.{cond}
 use mathlib.Core.Option.{Option, none, some}
 use Prim.Native.Nat.{ℕ}
-use lib.Dec.{leb, ltb, eqb}
+use lib.Dec.{leb, eqb}
 use Rattle.rules.specs.References.{digit, hexDigitAt}
 use Rattle.decode_html.specs.declared.digits.Number.{Number}
 use Rattle.decode_html.specs.declared.digits.Number.the-variants.{Is, Nothing}
-
--- A value is a digit of a base if it is below it.
-abbrev pub below : ℕ → ℕ → Option ℕ
-below base value = cond (ltb value base) (some value) none
 
 -- The digits of base 16, and of base 10.
 abbrev pub digitBy : ℕ → ℕ → Option ℕ

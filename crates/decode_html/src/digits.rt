@@ -8,7 +8,7 @@ ghost use Rattle.rules.specs.Bytes.{oneOf};
 ghost use Rattle.rules.specs.References.{digit, hexDigitAt, number, numberOf, scalar, decodeChar, browseChar, charOf};
 ghost use Rattle.rules.specs.Answers.{meaningBytes};
 ghost use Rattle.decode_html.specs.Taking.{charBy, RealMeaning};
-ghost use Rattle.decode_html.specs.Digits.{below, digitBy, ceilingOf, found, capped};
+ghost use Rattle.decode_html.specs.Digits.{digitBy, ceilingOf, found, capped};
 use crate::Numbers;
 use rules::DecodedEntityValue;
 use rules::Meaning;
@@ -17,31 +17,6 @@ use rules::Meaning;
 enum Number {
     Is(u32),
     Nothing,
-}
-
-// The value of a digit, hex digits of either letter case among them; 255 for any other byte.
-fn digit_value(byte: u8) -> u8
-    ensures { λ r. ⌜ (below 10 r ≡ digit byte) × (below 16 r ≡ hexDigitAt byte) ⌝ }
-{
-    if byte < b'0' {
-        return 255;
-    }
-    if byte <= b'9' {
-        return byte - 48;
-    }
-    if byte < b'A' {
-        return 255;
-    }
-    if byte <= b'F' {
-        return byte - 55;
-    }
-    if byte < b'a' {
-        return 255;
-    }
-    if byte <= b'f' {
-        return byte - 87;
-    }
-    255
 }
 
 // A byte as a number of 32 bits.
@@ -72,7 +47,7 @@ fn read_digits(base: u32, digits: &[u8]) -> Number
     let mut number: u32 = 0;
     let mut i: usize = 0;
     while i < digits.len() {
-        let value = wide(digit_value(digits[i]));
+        let value = wide(base::digit_value(digits[i]));
         if base <= value {
             return Number::Nothing;
         }

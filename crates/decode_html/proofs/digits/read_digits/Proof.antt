@@ -7,7 +7,8 @@ use Prim.Native.Nat.{_+_, _-_, _*_, _≤_}
 use native.Mathlib.Omega.{arith}
 use lib.ListN.{length, drop, getD}
 use Rattle.rules.specs.References.{digits as digitsOf}
-use Rattle.decode_html.specs.Digits.{below, digitBy, capped}
+use Rattle.base.specs.Digits.{below}
+use Rattle.decode_html.specs.Digits.{digitBy, capped}
 use Rattle.decode_html.proofs.Ceiling.{ceiling-most, digit-by, base-some, base-most, digits-more, digits-none, digits-end, number-none, number-some}
 use Rattle.decode_html.proofs.digits.read_digits.Statement.{statement}
 use Rattle.decode_html.proofs.digits.read_digits.Tie as tie

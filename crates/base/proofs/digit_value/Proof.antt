@@ -1,11 +1,11 @@
--- `decode_html::digits::digit_value` meets its contract: in each of the seven ranges of bytes, the value is below 10 or 16 where the byte is a digit.
+-- `base::digit_value` meets its contract: in each of the seven ranges of bytes, the value is below 10 or 16 where the byte is a digit.
 -- Assumes nothing.
 use borrow.Author.Needs.{needs}
 use Prim.Native.Nat.{_-_}
 use native.Mathlib.Omega.{arith}
 use borrow.Author.Tests.{le-leb, lt-leb, lt-ltb, le-ltb}
-use Rattle.decode_html.proofs.digits.digit_value.Statement.{statement}
-use Rattle.decode_html.proofs.digits.digit_value.Tie as tie
+use Rattle.base.proofs.digit_value.Statement.{statement}
+use Rattle.base.proofs.digit_value.Tie as tie
 
 returns : tie.Need-returns
 returns c =
