@@ -24,7 +24,7 @@ use Rattle.base.proofs.Filled.{Next}
 use Rattle.encode_strings.specs.declared.Strings.{Strings}
 use Rattle.encode_strings.specs.Strings.{contextIn, endsOf, ended, Apart}
 use Rattle.encode_strings.proofs.Heads.{kept, lone}
-use Rattle.encode_strings.proofs.Finds.{at, ends-are, lead-kept, lead-taken, lead-style}
+use Rattle.encode_strings.proofs.Finds.{at, ends-are, lead-kept, separator-sizes, lead-taken, lead-style}
 use Rattle.encode_strings.proofs.Sums.{encode-blind, grows}
 
 -- Two bytes before a place that are not E2 are all that Apart asks.
@@ -92,7 +92,7 @@ local-script q (y ∷ z ∷ a) b h = go (endsOf y z) refl
     go true e = (
       lead-taken q (y ∷ z ∷ (a ++ b)) e ∙ sym (lead-taken q (y ∷ z ∷ a) e),
       2,
-      ap (λ (m : Move). length (takes m)) (lead-taken q (y ∷ z ∷ a) e),
+      ap (λ (m : Move). length (takes m)) (lead-taken q (y ∷ z ∷ a) e) ∙ separator-sizes (eqb z 0xA8) .0,
       omega arith,
     )
 

@@ -5,8 +5,8 @@ use mathlib.Core.Bool.{Bool, true, false, not, _&&_, _||_, cond}
 use mathlib.Core.Logic.{_⊎_, inl, inr}
 use mathlib.Core.Option.{Option, none, some}
 use mathlib.Core.Path.{_≡_, refl, sym, ap, _∙_, subst}
-use mathlib.Core.List.{List, [], _∷_}
-use Prim.Native.Nat.{ℕ, _+_, _<_, _≤_}
+use mathlib.Core.List.{List, [], _∷_, _++_}
+use Prim.Native.Nat.{ℕ, _+_, _-_, _<_, _≤_}
 use native.Mathlib.Nat.{zero-add, not-suc-le-zero}
 use native.Mathlib.Omega.{arith}
 use borrow.Author.Tests.{ne-eqb, le-ltb, eqb-true, eqb-false, ltb-true, ltb-false}
@@ -15,7 +15,7 @@ use lib.Dec.{T, eqb, ltb, eqb→eq}
 use lib.ListN.{length, drop, getD}
 use Rattle.rules.specs.Bytes.{ascii, stands, sameBytes}
 use Rattle.rules.specs.Moves.{Move, keep, swap, stop, takes, gives}
-use Rattle.rules.specs.Tables.{Row, rowAt, key, table}
+use Rattle.rules.specs.Tables.{Row, rowAt, key, value, table, lineSeparator, paragraphSeparator}
 use Rattle.rules.specs.Encoding.{write, keepByte, encodeStep}
 use Rattle.rules.specs.Answers.{replacementMove}
 use Rattle.rules.specs.declared.Quotes.{Quotes}
@@ -186,6 +186,19 @@ ends-are b c e =
     go (inl t) = let e = eqb→eq c 0xA8 t in (omega arith, omega arith)
     go (inr t) = let e = eqb→eq c 0xA9 t in (omega arith, omega arith)
 
+-- Three bytes give way to six, and the last of the six is the last of the three less 70.
+pub separator-sizes : (b : Bool) → (length (key (cond b lineSeparator paragraphSeparator)) ≡ 3) × (length (value (cond b lineSeparator paragraphSeparator)) ≡ 6)
+separator-sizes true = (refl, refl)
+separator-sizes false = (refl, refl)
+
+pub separator-value : (c : ℕ) → 0xA8 ≤ c → c ≤ 0xA9 → value (cond (eqb c 0xA8) lineSeparator paragraphSeparator) ≡ ascii "\\u202" ++ (c - 0x70) ∷ []
+separator-value c l h = go (eqb c 0xA8) refl
+  where
+    go : (b : Bool) → eqb c 0xA8 ≡ b → value (cond b lineSeparator paragraphSeparator) ≡ ascii "\\u202" ++ (c - 0x70) ∷ []
+    go true e = rw (eqb-true c 0xA8 e)
+    go false e =
+        let last : c ≡ 0xA9 = omega (arith, eqb-false c 0xA8 e) in rw last
+
 -- What is found where E2 stands before s.
 abbrev pub separatorAt : List ℕ → Replacement
 separatorAt s = cond (ended s) Separator Nothing
@@ -194,8 +207,8 @@ separatorAt s = cond (ended s) Separator Nothing
 abbrev two : Bool → Bool → Option Row
 two t u =
     elim t [
-      | true ↦ some (0xE2 ∷ 0x80 ∷ 0xA8 ∷ [], ascii "\\u2028")
-      | false ↦ elim u [ true ↦ some (0xE2 ∷ 0x80 ∷ 0xA9 ∷ [], ascii "\\u2029") | false ↦ none ]
+      | true ↦ some lineSeparator
+      | false ↦ elim u [ true ↦ some paragraphSeparator | false ↦ none ]
     ]
 
 lead-row : (q : Quotes) (s : List ℕ) → rowAt key (table (InScript q)) (0xE2 ∷ s) ≡ two (stands (0x80 ∷ 0xA8 ∷ []) s) (stands (0x80 ∷ 0xA9 ∷ []) s)
@@ -217,8 +230,8 @@ separator-row (x ∷ y ∷ s) =
   where
     go : (a b c : Bool) → eqb 0x80 x ≡ a → eqb 0xA8 y ≡ b → eqb 0xA9 y ≡ c
         → write (two (a && (b && true)) (a && (c && true))) (keep (0xE2 ∷ [])) ≡ replacementMove false (0xE2 ∷ x ∷ y ∷ s) (cond (a && (b || c)) Separator Nothing)
-    go true true c e f g = rw (sym (eqb-true 0x80 x e), sym (eqb-true 0xA8 y f))
-    go true false true e f g = rw (sym (eqb-true 0x80 x e), sym (eqb-true 0xA9 y g))
+    go true true c e f g = rw (sym (eqb-true 0xA8 y f))
+    go true false true e f g = rw (sym (eqb-true 0xA9 y g))
     go true false false e f g = refl
     go false b c e f g = refl
 

@@ -6,6 +6,7 @@ use mathlib.Core.List.{List, [], _∷_}
 use Prim.Native.Nat.{ℕ, _+_, _-_, _≤_, _<_}
 use native.Mathlib.Nat.{not-suc-le-zero, add-zero}
 use native.Mathlib.Omega.{arith}
+use lib.Dec.{eqb}
 use lib.ListN.{length, take, drop, getD, length-drop, drop-of-length-le}
 use lib.Seq.{length-take-le, getD-drop}
 use Rattle.rules.specs.Moves.{takes, gives}
@@ -20,7 +21,7 @@ use Rattle.rules.proofs.Growth.{encode-no-longer}
 use Rattle.base.proofs.Filled.{Next, lent-rest}
 use Rattle.encode_strings.specs.declared.Strings.{Strings}
 use Rattle.encode_strings.specs.Strings.{contextIn, takenBy, Held}
-use Rattle.encode_strings.proofs.Finds.{kept-gives}
+use Rattle.encode_strings.proofs.Finds.{kept-gives, separator-sizes}
 use Rattle.encode_strings.proofs.Sums.{encode-blind}
 
 -- What a replacement takes is there.
@@ -35,7 +36,7 @@ takes-taken : (style : Bool) (r : Replacement) (s : List ℕ) → Held r s → l
 takes-taken style Slashed s h = refl
 takes-taken true Hex s h = refl
 takes-taken false Hex s h = refl
-takes-taken style Separator s h = length-take-le 3 s (h .0)
+takes-taken style Separator s h = separator-sizes (eqb (getD s 2 0) 0xA8) .0
 takes-taken style Substitute s h = length-take-le 1 s h
 takes-taken style Nothing [] h = absurd (not-suc-le-zero h)
 takes-taken style Nothing (x ∷ s) h = refl

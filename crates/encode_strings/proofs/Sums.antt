@@ -23,7 +23,7 @@ use Rattle.rules.proofs.Growth.{encode-sum}
 use Rattle.encode_strings.specs.declared.Strings.{Strings}
 use Rattle.encode_strings.specs.Strings.{contextIn, singleKey, doubleKey, gainOf, sameOf, total, endsOf, ended, separatorsIn}
 use Rattle.encode_strings.proofs.Heads.{not-ascii, kept, no-start, lone}
-use Rattle.encode_strings.proofs.Finds.{alone, at, Grows, ascii-grows, ends-are, lead-kept, lead-taken, lead-style}
+use Rattle.encode_strings.proofs.Finds.{alone, at, Grows, ascii-grows, ends-are, lead-kept, lead-taken, lead-style, separator-sizes}
 
 -- ---- the sums as a loop meets them
 
@@ -167,8 +167,8 @@ module _ (q : Quotes) where
       let (g, h, m, n) = ends-none q x y e in
       let w : encodeOf (InScript q) (0xE2 ∷ x ∷ y ∷ s) ≡ gives (replacementMove false (0xE2 ∷ x ∷ y ∷ s) Separator) ++ encodeOf (InScript q) s =
       ap result (blind-next (encodeStep (InScript q)) (encode-blind (InScript q)) 0xE2 (x ∷ y ∷ s) 2 (replacementMove false (0xE2 ∷ x ∷ y ∷ s) Separator)
-      (lead-taken q (x ∷ y ∷ s) e) refl) in
-      rw (w, gain-high q 0xE2 (omega arith), g, h, e, m, n) (omega arith)
+      (lead-taken q (x ∷ y ∷ s) e) (separator-sizes (eqb y 0xA8) .0)) in
+      rw (w, length-append, separator-sizes (eqb y 0xA8) .1, gain-high q 0xE2 (omega arith), g, h, e, m, n) (omega arith)
 
   grows-script : (s : List ℕ) → Grown q s
   grows-script [] = refl

@@ -64,11 +64,11 @@ takenBy Nothing = 1
 abbrev pub hexIn : Bool → ℕ → List ℕ
 hexIn style b = value (cond style (styleHex b) (scriptHex b))
 
--- What its writer needs of the bytes s that it is found at: all that it takes is there, and the third byte of a separator is at least 70.
+-- What its writer needs of the bytes s that it is found at: all that it takes is there, and the last byte of a separator is A8 or A9.
 abbrev pub Held : Replacement → List ℕ → Type 0
 Held Slashed s = 1 ≤ length s
 Held Hex s = 1 ≤ length s
-Held Separator s = (3 ≤ length s) × (0x70 ≤ getD s 2 0)
+Held Separator s = (3 ≤ length s) × (0xA8 ≤ getD s 2 0) × (getD s 2 0 ≤ 0xA9)
 Held Substitute s = 1 ≤ length s
 Held Nothing s = 1 ≤ length s
 

@@ -16,7 +16,7 @@ use borrow.Author.Tests.{ltb-true, ltb-false}
 use Rattle.rules.specs.Tables.{Row, key, value}
 use Rattle.rules.specs.References.{lookup}
 use Rattle.rules.specs.Answers.{unpackTo}
-use Rattle.rules.proofs.Names.{below, rising, risingFrom}
+use Rattle.rules.specs.Names.{below, rising, risingFrom}
 use Rattle.rules.proofs.Tests.{and-left, and-right}
 use Rattle.names_search.specs.Lent.{Ordered, rowsFrom, rowsOf, cutsFrom, cuts, isTable}
 use Rattle.names_search.specs.declared.Order.the-variants.{Before, Same, After}

@@ -12,7 +12,7 @@ use lib.ListN.{length, drop, getD, drop-of-length-le}
 use lib.Seq.{drop-cons}
 use borrow.Author.Tests.{eq-eqb}
 use Rattle.rules.specs.Bytes.{sameBytes}
-use Rattle.rules.proofs.Names.{below}
+use Rattle.rules.specs.Names.{below}
 use Rattle.rules.proofs.Tests.{and-left, and-right, and-both, or-cases, or-left, or-right, is-false, same-bytes}
 use Rattle.names_search.specs.Lent.{Ordered}
 use Rattle.names_search.specs.declared.Order.{Order}

@@ -8,7 +8,7 @@ use lib.Dec.{T, leb}
 use lib.ListN.{length, take, drop}
 use Rattle.rules.specs.Tables.{Row}
 use Rattle.rules.specs.Answers.{unpackTo}
-use Rattle.rules.proofs.Names.{below, rising}
+use Rattle.rules.specs.Names.{below, rising}
 use Rattle.names_search.specs.declared.Order.{Order}
 use Rattle.names_search.specs.declared.Order.the-variants.{Before, Same, After}
 

@@ -3,41 +3,20 @@
 use mathlib.Core.Bool.{Bool, true, false, _&&_, _||_}
 use mathlib.Core.Option.{Option, none, some, Option·some-injective, Option·none-ne-some}
 use mathlib.Core.Path.{_≡_, refl, subst}
-use mathlib.Core.List.{List, [], _∷_}
+use mathlib.Core.List.{List, [], _∷_, map}
 use Prim.Native.Nat.{ℕ, zero, suc, _+_, _*_, _/_, _%_, _≤_}
 use native.Mathlib.Nat.{not-suc-le-zero, le-of-suc-le-suc}
 use native.Mathlib.Omega.{arith}
 use borrow.Author.Tests.{ne-eqb}
 use lib.Dec.{T, eqb, ltb, leb, eqb→eq, leb→le}
 use lib.ListN.{length}
-use Rattle.rules.specs.Bytes.{In, all, first, sameBytes, inside}
+use Rattle.rules.specs.Bytes.{ascii, In, all, only, first, sameBytes, inside}
 use Rattle.rules.specs.Utf8.{validTo, charStep}
 use Rattle.rules.specs.Tables.{Row, key, value}
-use Rattle.rules.specs.Names.{names}
+use Rattle.rules.specs.Names.{names, rising, valid, sound, grows}
 use Rattle.rules.specs.Answers.{unpackTo}
 use Rattle.rules.specs.References.{lookup, valueOf}
 use Rattle.rules.proofs.Tests.{and-left, and-right, all-in, first-sound, same-bytes}
-
--- The bytes a come before the bytes b.
-abbrev pub below : List ℕ → List ℕ → Bool
-below [] [] = false
-below [] (y ∷ b) = true
-below (x ∷ a) [] = false
-below (x ∷ a) (y ∷ b) = ltb x y || (eqb x y && below a b)
-
--- The keys come one before the other, from a on.
-abbrev pub risingFrom : List ℕ → List Row → Bool
-risingFrom a [] = true
-risingFrom a (row ∷ rows) = below a (key row) && risingFrom (key row) rows
-
--- Each key comes before the next one.
-abbrev pub rising : List Row → Bool
-rising [] = true
-rising (row ∷ rows) = risingFrom (key row) rows
-
--- The value is valid UTF-8.
-abbrev pub valid : Row → Bool
-valid row = eqb (validTo (value row)) (length (value row))
 
 -- The value has one to six bytes, and none of them is NUL.
 abbrev pub short : Row → Bool
@@ -47,13 +26,23 @@ pub names-size : length names ≡ 2125
 unfolding names
 names-size = refl
 
-pub names-rise : T (rising names)
-unfolding names
-names-rise = tt
-
-pub names-valid : T (all valid names)
+-- One test computes the order of the table and the validity of its values.
+names-sound : T (sound names)
 unfolding names charStep
-names-valid = tt
+names-sound = tt
+
+-- The names rise strictly, byte by byte.
+pub names-rise : T (rising names)
+names-rise = and-left (rising names) (all valid names) names-sound
+
+-- Every value is valid UTF-8.
+pub names-valid : T (all valid names)
+names-valid = and-right (rising names) (all valid names) names-sound
+
+-- Only two references are shorter than what they stand for: `&nGt;` and `&nLt;`.
+pub names-grow : map key (only grows names) ≡ ascii "nGt" ∷ ascii "nLt" ∷ []
+unfolding names
+names-grow = refl
 
 pub names-short : T (all short names)
 unfolding names

@@ -1,16 +1,16 @@
--- 14. "For every answer that is an enum": what each case is on paper. The other enums are contexts and operations (4) and cases (13).
+-- 14. "For every answer that is an enum": what each case is on paper, and what a pass over a text measures. Contexts and operations are in (4), the
+-- cases of the refusal table in (13); enums that one crate alone uses have theirs in its own specs.
 -- Assumes nothing.
 use mathlib.Core.Bool.{Bool, cond}
 use mathlib.Core.Option.{Option, none, some}
 use mathlib.Core.Path.{_≡_}
-use mathlib.Core.List.{List, [], _∷_, _++_}
+use mathlib.Core.List.{List, [], _∷_}
 use Prim.Native.Nat.{ℕ, zero, suc, _-_, _/_, _%_}
 use lib.Dec.{eqb}
 use lib.ListN.{length as size, take, drop, getD}
-use Rattle.rules.specs.Bytes.{ascii}
 use Rattle.rules.specs.Moves.{Move, swap, result, replaced, place as placeOf}
-use Rattle.rules.specs.Utf8.{utf8}
-use Rattle.rules.specs.Tables.{Row, key, value, slashed, scriptHex, styleHex}
+use Rattle.rules.specs.Utf8.{utf8, substitute}
+use Rattle.rules.specs.Tables.{Row, key, value, slashed, scriptHex, styleHex, lineSeparator, paragraphSeparator}
 use Rattle.rules.specs.Encoding.{keepByte}
 use Rattle.rules.specs.declared.Measured.{Measured}
 use Rattle.rules.specs.declared.DecodedEntityValue.{DecodedEntityValue}
@@ -54,12 +54,12 @@ abbrev pub writeRow : Row → Move
 writeRow row = swap (key row) (value row)
 
 -- The move at the head of s, where the writer of strings was asked, in a style string or a script string.
--- U+2028 and U+2029 differ in their last byte: A8 is written `8`, A9 `9`.
+-- U+2028 ends in A8, U+2029 in A9.
 abbrev pub replacementMove : Bool → List ℕ → Replacement → Move
 replacementMove style s Slashed = writeRow (slashed (getD s 0 0))
 replacementMove style s Hex = writeRow (cond style (styleHex (getD s 0 0)) (scriptHex (getD s 0 0)))
-replacementMove style s Separator = swap (take 3 s) (ascii "\\u202" ++ (getD s 2 0 - 0x70) ∷ [])
-replacementMove style s Substitute = swap (take 1 s) (0xEF ∷ 0xBF ∷ 0xBD ∷ [])
+replacementMove style s Separator = writeRow (cond (eqb (getD s 2 0) 0xA8) lineSeparator paragraphSeparator)
+replacementMove style s Substitute = swap (take 1 s) substitute
 replacementMove style s NoReplacement = keepByte s
 
 -- What a pass over a text finds is read off the moves through it.

@@ -1,4 +1,4 @@
--- 1. Lists of bytes: what stands at the head of one, and the first entry of a table that stands there.
+-- 1. Lists of bytes: what a list begins with, and the first entry of a table that it begins with.
 -- Assumes nothing.
 use mathlib.Core.Bool.{Bool, true, false, _&&_, _||_}
 use mathlib.Core.Logic.{_⊎_}
@@ -6,7 +6,7 @@ use mathlib.Core.Option.{Option, none, some}
 use mathlib.Core.Path.{_≡_}
 use mathlib.Core.List.{List, [], _∷_, _++_}
 use Prim.Native.Char.{Char, code}
-use Prim.Native.Nat.{ℕ, zero, suc}
+use Prim.Native.Nat.{ℕ, zero, suc, _-_}
 use Prim.Native.String.{String, [] as []ˢ, _∷_ as _∷ˢ_}
 use lib.Dec.{eqb, leb}
 use lib.ListN.{length, drop}
@@ -25,10 +25,14 @@ abbrev pub join : {A : Type 0} → List (List A) → List A
 join [] = []
 join (a ∷ rest) = a ++ join rest
 
--- The n bytes from a on.
+-- The n numbers from a on.
 abbrev pub count : ℕ → ℕ → List ℕ
 count a zero = []
 count a (suc n) = a ∷ count (suc a) n
+
+-- The bytes from a to b, both in it.
+abbrev pub bytes : ℕ → ℕ → List ℕ
+bytes a b = count a (suc b - a)
 
 -- The bytes w over the start of what stood there.
 abbrev pub over : List ℕ → List ℕ → List ℕ
@@ -88,6 +92,10 @@ Range = ℕ × ℕ
 -- The byte x is in the range.
 abbrev pub inside : Range → ℕ → Bool
 inside r x = leb (r .0) x && leb x (r .1)
+
+-- The byte is one of the characters from a to z.
+abbrev pub between : Char → Char → ℕ → Bool
+between a z b = inside (code a, code z) b
 
 -- The byte x is one of a set.
 abbrev pub oneOf : List ℕ → ℕ → Bool

@@ -17,16 +17,16 @@ use Rattle.rules.specs.declared.AnyContext.the-variants.{Units, ScriptRa
 use Rattle.rules.specs.declared.Operation.{Operation}
 use Rattle.rules.specs.declared.Operation.the-variants.{Encode, Decode, Read, Browse}
 
--- A name that document 01 gives, and what it names.
+-- A name and what it names.
 pub record Label (A : Type 0) : Type 0 where
   pub name : List ℕ
   pub names : A
 
--- A name and what it names.
+-- The same, made of the two.
 abbrev pub label : {A : Type 0} → List ℕ → A → Label A
 label n a = record { name = n; names = a }
 
--- The fourteen contexts in document 01's order: the HTML seven, the script strings, the style strings, script_raw.
+-- The fourteen contexts in the order of their numbers: the HTML seven, the script strings, the style strings, script_raw.
 abbrev pub contextNames : List (Label AnyContext)
 contextNames =
     label (ascii "text_minimal") (Units (InHtml TextMinimal))

@@ -1,15 +1,16 @@
--- 17. Not in document 01: its rules at their edges, so that a slip in the data above is refused. What encode and decode give here is what
--- the Rust gives; the rest is read off the document by hand.
+-- 17. The rules at their edges, so that a slip in the data above is refused; read off the rules by hand. Two entries are the rules' own words:
+-- the one-bits of a lead byte (`longByOnes`), and the listing of `entity` (the first of `requests`).
 -- Assumes nothing.
 use mathlib.Core.Bool.{Bool, true, false, not, _&&_, _||_, cond}
 use mathlib.Core.List.{List, [], _∷_, _++_, map}
 use Prim.Native.Nat.{ℕ, zero, suc, _+_, _-_, _*_, _%_}
+use Prim.Native.String.{String}
 use lib.Dec.{leb, eqb}
 use lib.ListN.{length as size}
-use Rattle.rules.specs.Bytes.{ascii, count, join, only, Range, inside, oneOf, sameBytes}
+use Rattle.rules.specs.Bytes.{ascii, count, bytes, join, only, Range, inside, oneOf, sameBytes}
 use Rattle.rules.specs.Moves.{Move, keep, swap, stop}
-use Rattle.rules.specs.Utf8.{validTo}
-use Rattle.rules.specs.Contexts.{Label, label, contextOf}
+use Rattle.rules.specs.Utf8.{validTo, utf8, substitute}
+use Rattle.rules.specs.Contexts.{contextOf}
 use Rattle.rules.specs.Tables.{Row, key, value}
 use Rattle.rules.specs.Encoding.{closes}
 use Rattle.rules.specs.Refusals.{answer}
@@ -138,40 +139,82 @@ longByOnes b (q ∷ qs) = not (inside q b) || eqb (size (q ∷ qs)) (cond (eqb (
 
 -- ---- encoders
 
--- Every ASCII byte, and U+2027 to U+202A.
-abbrev pub everyByte : List ℕ
-everyByte = count 0 128 ++ 0xE2 ∷ 0x80 ∷ 0xA7 ∷ 0xE2 ∷ 0x80 ∷ 0xA8 ∷ 0xE2 ∷ 0x80 ∷ 0xA9 ∷ 0xE2 ∷ 0x80 ∷ 0xAA ∷ []
+-- U+2027 to U+202A: the two separators and their neighbours.
+abbrev pub aroundSeparators : List ℕ
+aroundSeparators = join (map utf8 (count 0x2027 4))
 
--- What each context writes of them, in the order of their numbers.
-abbrev pub encoders : List (Label (List ℕ))
+-- Every ASCII byte, and these four.
+abbrev pub everyByte : List ℕ
+everyByte = bytes 0 127 ++ aroundSeparators
+
+-- The control bytes as references, in a script string, and in a style string.
+abbrev pub controlReferences : List ℕ
+controlReferences =
+    ascii "&#x00;&#x01;&#x02;&#x03;&#x04;&#x05;&#x06;&#x07;&#x08;&#x09;&#x0A;&#x0B;&#x0C;&#x0D;&#x0E;&#x0F;"
+    ++ ascii "&#x10;&#x11;&#x12;&#x13;&#x14;&#x15;&#x16;&#x17;&#x18;&#x19;&#x1A;&#x1B;&#x1C;&#x1D;&#x1E;&#x1F;"
+
+abbrev pub controlsInScript : List ℕ
+controlsInScript =
+    ascii "\\x00\\x01\\x02\\x03\\x04\\x05\\x06\\x07\\x08\\x09\\x0A\\x0B\\x0C\\x0D\\x0E\\x0F"
+    ++ ascii "\\x10\\x11\\x12\\x13\\x14\\x15\\x16\\x17\\x18\\x19\\x1A\\x1B\\x1C\\x1D\\x1E\\x1F"
+
+abbrev pub controlsInStyle : List ℕ
+controlsInStyle =
+    substitute
+    ++ ascii "\\01 \\02 \\03 \\04 \\05 \\06 \\07 \\08 \\09 \\0A \\0B \\0C \\0D \\0E \\0F "
+    ++ ascii "\\10 \\11 \\12 \\13 \\14 \\15 \\16 \\17 \\18 \\19 \\1A \\1B \\1C \\1D \\1E \\1F "
+
+-- DEL and the four as they are, and with the separators escaped.
+abbrev pub delKept : List ℕ
+delKept = 0x7F ∷ aroundSeparators
+
+abbrev pub delInScript : List ℕ
+delInScript = 0x7F ∷ utf8 0x2027 ++ ascii "\\u2028\\u2029" ++ utf8 0x202A
+
+-- What is written of every byte: of the controls, of the signs before the digits, between digits and letters, between the letters, and after them,
+-- and of the rest. Letters and digits are always copied.
+abbrev pub written : List ℕ → String → String → String → String → List ℕ → List ℕ
+written controls before between middle after rest =
+    controls ++ ascii before ++ ascii "0123456789" ++ ascii between ++ ascii "ABCDEFGHIJKLMNOPQRSTUVWXYZ"
+    ++ ascii middle ++ ascii "abcdefghijklmnopqrstuvwxyz" ++ ascii after ++ rest
+
+-- What each context writes, by its name, in the order of their numbers.
+abbrev pub encoders : List (List ℕ × List ℕ)
 encoders =
-    label (ascii "text_minimal") (count 0x00 32 ++ ascii " !\"#$%&amp;'()*+,-./0123456789:;&lt;=>?@ABCDEFGHIJKLMNOPQRSTUVWXYZ[\\]^_`abcdefghijklmnopqrstuvwxyz{|}~" ++ 0x7F ∷ 0xE2 ∷ 0x80 ∷ 0xA7 ∷ 0xE2 ∷ 0x80 ∷ 0xA8 ∷ 0xE2 ∷ 0x80 ∷ 0xA9 ∷ 0xE2 ∷ 0x80 ∷ 0xAA ∷ [])
-    ∷ label (ascii "text") (count 0x00 32 ++ ascii " !\"#$%&amp;'()*+,-./0123456789:;&lt;=&gt;?@ABCDEFGHIJKLMNOPQRSTUVWXYZ[\\]^_`abcdefghijklmnopqrstuvwxyz{|}~" ++ 0x7F ∷ 0xE2 ∷ 0x80 ∷ 0xA7 ∷ 0xE2 ∷ 0x80 ∷ 0xA8 ∷ 0xE2 ∷ 0x80 ∷ 0xA9 ∷ 0xE2 ∷ 0x80 ∷ 0xAA ∷ [])
-    ∷ label (ascii "double_quoted") (count 0x00 32 ++ ascii " !&quot;#$%&amp;'()*+,-./0123456789:;&lt;=&gt;?@ABCDEFGHIJKLMNOPQRSTUVWXYZ[\\]^_`abcdefghijklmnopqrstuvwxyz{|}~" ++ 0x7F ∷ 0xE2 ∷ 0x80 ∷ 0xA7 ∷ 0xE2 ∷ 0x80 ∷ 0xA8 ∷ 0xE2 ∷ 0x80 ∷ 0xA9 ∷ 0xE2 ∷ 0x80 ∷ 0xAA ∷ [])
-    ∷ label (ascii "single_quoted") (count 0x00 32 ++ ascii " !\"#$%&amp;&#x27;()*+,-./0123456789:;&lt;=&gt;?@ABCDEFGHIJKLMNOPQRSTUVWXYZ[\\]^_`abcdefghijklmnopqrstuvwxyz{|}~" ++ 0x7F ∷ 0xE2 ∷ 0x80 ∷ 0xA7 ∷ 0xE2 ∷ 0x80 ∷ 0xA8 ∷ 0xE2 ∷ 0x80 ∷ 0xA9 ∷ 0xE2 ∷ 0x80 ∷ 0xAA ∷ [])
-    ∷ label (ascii "quoted") (count 0x00 32 ++ ascii " !&quot;#$%&amp;&#x27;()*+,-./0123456789:;&lt;=&gt;?@ABCDEFGHIJKLMNOPQRSTUVWXYZ[\\]^_`abcdefghijklmnopqrstuvwxyz{|}~" ++ 0x7F ∷ 0xE2 ∷ 0x80 ∷ 0xA7 ∷ 0xE2 ∷ 0x80 ∷ 0xA8 ∷ 0xE2 ∷ 0x80 ∷ 0xA9 ∷ 0xE2 ∷ 0x80 ∷ 0xAA ∷ [])
-    ∷ label (ascii "safe") (count 0x00 32 ++ ascii " !&quot;#$%&amp;&#x27;()*+,-.&#x2F;0123456789:;&lt;=&gt;?@ABCDEFGHIJKLMNOPQRSTUVWXYZ[\\]^_`abcdefghijklmnopqrstuvwxyz{|}~" ++ 0x7F ∷ 0xE2 ∷ 0x80 ∷ 0xA7 ∷ 0xE2 ∷ 0x80 ∷ 0xA8 ∷ 0xE2 ∷ 0x80 ∷ 0xA9 ∷ 0xE2 ∷ 0x80 ∷ 0xAA ∷ [])
-    ∷ label (ascii "unquoted") (ascii "&#x00;&#x01;&#x02;&#x03;&#x04;&#x05;&#x06;&#x07;&#x08;&#x09;&#x0A;&#x0B;&#x0C;&#x0D;&#x0E;&#x0F;&#x10;&#x11;&#x12;&#x13;&#x14;&#x15;&#x16;&#x17;&#x18;&#x19;&#x1A;&#x1B;&#x1C;&#x1D;&#x1E;&#x1F;&#x20;&#x21;&quot;&#x23;&#x24;&#x25;&amp;&#x27;&#x28;&#x29;&#x2A;&#x2B;&#x2C;&#x2D;&#x2E;&#x2F;0123456789&#x3A;&#x3B;&lt;&#x3D;&gt;&#x3F;&#x40;ABCDEFGHIJKLMNOPQRSTUVWXYZ&#x5B;&#x5C;&#x5D;&#x5E;&#x5F;&#x60;abcdefghijklmnopqrstuvwxyz&#x7B;&#x7C;&#x7D;&#x7E;&#x7F;" ++ 0xE2 ∷ 0x80 ∷ 0xA7 ∷ 0xE2 ∷ 0x80 ∷ 0xA8 ∷ 0xE2 ∷ 0x80 ∷ 0xA9 ∷ 0xE2 ∷ 0x80 ∷ 0xAA ∷ [])
-    ∷ label (ascii "script_single") (ascii "\\x00\\x01\\x02\\x03\\x04\\x05\\x06\\x07\\x08\\x09\\x0A\\x0B\\x0C\\x0D\\x0E\\x0F\\x10\\x11\\x12\\x13\\x14\\x15\\x16\\x17\\x18\\x19\\x1A\\x1B\\x1C\\x1D\\x1E\\x1F !\"#$%&\\'()*+,-./0123456789:;\\x3C=>?@ABCDEFGHIJKLMNOPQRSTUVWXYZ[\\\\]^_`abcdefghijklmnopqrstuvwxyz{|}~" ++ 0x7F ∷ 0xE2 ∷ 0x80 ∷ 0xA7 ∷ [] ++ ascii "\\u2028\\u2029" ++ 0xE2 ∷ 0x80 ∷ 0xAA ∷ [])
-    ∷ label (ascii "script_double") (ascii "\\x00\\x01\\x02\\x03\\x04\\x05\\x06\\x07\\x08\\x09\\x0A\\x0B\\x0C\\x0D\\x0E\\x0F\\x10\\x11\\x12\\x13\\x14\\x15\\x16\\x17\\x18\\x19\\x1A\\x1B\\x1C\\x1D\\x1E\\x1F !\\\"#$%&'()*+,-./0123456789:;\\x3C=>?@ABCDEFGHIJKLMNOPQRSTUVWXYZ[\\\\]^_`abcdefghijklmnopqrstuvwxyz{|}~" ++ 0x7F ∷ 0xE2 ∷ 0x80 ∷ 0xA7 ∷ [] ++ ascii "\\u2028\\u2029" ++ 0xE2 ∷ 0x80 ∷ 0xAA ∷ [])
-    ∷ label (ascii "script_quoted") (ascii "\\x00\\x01\\x02\\x03\\x04\\x05\\x06\\x07\\x08\\x09\\x0A\\x0B\\x0C\\x0D\\x0E\\x0F\\x10\\x11\\x12\\x13\\x14\\x15\\x16\\x17\\x18\\x19\\x1A\\x1B\\x1C\\x1D\\x1E\\x1F !\\\"#$%&\\'()*+,-./0123456789:;\\x3C=>?@ABCDEFGHIJKLMNOPQRSTUVWXYZ[\\\\]^_`abcdefghijklmnopqrstuvwxyz{|}~" ++ 0x7F ∷ 0xE2 ∷ 0x80 ∷ 0xA7 ∷ [] ++ ascii "\\u2028\\u2029" ++ 0xE2 ∷ 0x80 ∷ 0xAA ∷ [])
-    ∷ label (ascii "style_single") (0xEF ∷ 0xBF ∷ 0xBD ∷ [] ++ ascii "\\01 \\02 \\03 \\04 \\05 \\06 \\07 \\08 \\09 \\0A \\0B \\0C \\0D \\0E \\0F \\10 \\11 \\12 \\13 \\14 \\15 \\16 \\17 \\18 \\19 \\1A \\1B \\1C \\1D \\1E \\1F  !\"#$%&\\'()*+,-./0123456789:;\\3C =>?@ABCDEFGHIJKLMNOPQRSTUVWXYZ[\\\\]^_`abcdefghijklmnopqrstuvwxyz{|}~" ++ 0x7F ∷ 0xE2 ∷ 0x80 ∷ 0xA7 ∷ 0xE2 ∷ 0x80 ∷ 0xA8 ∷ 0xE2 ∷ 0x80 ∷ 0xA9 ∷ 0xE2 ∷ 0x80 ∷ 0xAA ∷ [])
-    ∷ label (ascii "style_double") (0xEF ∷ 0xBF ∷ 0xBD ∷ [] ++ ascii "\\01 \\02 \\03 \\04 \\05 \\06 \\07 \\08 \\09 \\0A \\0B \\0C \\0D \\0E \\0F \\10 \\11 \\12 \\13 \\14 \\15 \\16 \\17 \\18 \\19 \\1A \\1B \\1C \\1D \\1E \\1F  !\\\"#$%&'()*+,-./0123456789:;\\3C =>?@ABCDEFGHIJKLMNOPQRSTUVWXYZ[\\\\]^_`abcdefghijklmnopqrstuvwxyz{|}~" ++ 0x7F ∷ 0xE2 ∷ 0x80 ∷ 0xA7 ∷ 0xE2 ∷ 0x80 ∷ 0xA8 ∷ 0xE2 ∷ 0x80 ∷ 0xA9 ∷ 0xE2 ∷ 0x80 ∷ 0xAA ∷ [])
-    ∷ label (ascii "style_quoted") (0xEF ∷ 0xBF ∷ 0xBD ∷ [] ++ ascii "\\01 \\02 \\03 \\04 \\05 \\06 \\07 \\08 \\09 \\0A \\0B \\0C \\0D \\0E \\0F \\10 \\11 \\12 \\13 \\14 \\15 \\16 \\17 \\18 \\19 \\1A \\1B \\1C \\1D \\1E \\1F  !\\\"#$%&\\'()*+,-./0123456789:;\\3C =>?@ABCDEFGHIJKLMNOPQRSTUVWXYZ[\\\\]^_`abcdefghijklmnopqrstuvwxyz{|}~" ++ 0x7F ∷ 0xE2 ∷ 0x80 ∷ 0xA7 ∷ 0xE2 ∷ 0x80 ∷ 0xA8 ∷ 0xE2 ∷ 0x80 ∷ 0xA9 ∷ 0xE2 ∷ 0x80 ∷ 0xAA ∷ [])
-    ∷ label (ascii "script_raw") (count 0x00 32 ++ ascii " !\"#$%&'()*+,-./0123456789:;<=>?@ABCDEFGHIJKLMNOPQRSTUVWXYZ[\\]^_`abcdefghijklmnopqrstuvwxyz{|}~" ++ 0x7F ∷ 0xE2 ∷ 0x80 ∷ 0xA7 ∷ 0xE2 ∷ 0x80 ∷ 0xA8 ∷ 0xE2 ∷ 0x80 ∷ 0xA9 ∷ 0xE2 ∷ 0x80 ∷ 0xAA ∷ [])
+    (ascii "text_minimal", written (bytes 0 31) " !\"#$%&amp;'()*+,-./" ":;&lt;=>?@" "[\\]^_`" "{|}~" delKept)
+    ∷ (ascii "text", written (bytes 0 31) " !\"#$%&amp;'()*+,-./" ":;&lt;=&gt;?@" "[\\]^_`" "{|}~" delKept)
+    ∷ (ascii "double_quoted", written (bytes 0 31) " !&quot;#$%&amp;'()*+,-./" ":;&lt;=&gt;?@" "[\\]^_`" "{|}~" delKept)
+    ∷ (ascii "single_quoted", written (bytes 0 31) " !\"#$%&amp;&#x27;()*+,-./" ":;&lt;=&gt;?@" "[\\]^_`" "{|}~" delKept)
+    ∷ (ascii "quoted", written (bytes 0 31) " !&quot;#$%&amp;&#x27;()*+,-./" ":;&lt;=&gt;?@" "[\\]^_`" "{|}~" delKept)
+    ∷ (ascii "safe", written (bytes 0 31) " !&quot;#$%&amp;&#x27;()*+,-.&#x2F;" ":;&lt;=&gt;?@" "[\\]^_`" "{|}~" delKept)
+    ∷ (
+      ascii "unquoted",
+      written controlReferences "&#x20;&#x21;&quot;&#x23;&#x24;&#x25;&amp;&#x27;&#x28;&#x29;&#x2A;&#x2B;&#x2C;&#x2D;&#x2E;&#x2F;"
+          "&#x3A;&#x3B;&lt;&#x3D;&gt;&#x3F;&#x40;" "&#x5B;&#x5C;&#x5D;&#x5E;&#x5F;&#x60;" "&#x7B;&#x7C;&#x7D;&#x7E;" (ascii "&#x7F;" ++ aroundSeparators),
+    )
+    ∷ (ascii "script_single", written controlsInScript " !\"#$%&\\'()*+,-./" ":;\\x3C=>?@" "[\\\\]^_`" "{|}~" delInScript)
+    ∷ (ascii "script_double", written controlsInScript " !\\\"#$%&'()*+,-./" ":;\\x3C=>?@" "[\\\\]^_`" "{|}~" delInScript)
+    ∷ (ascii "script_quoted", written controlsInScript " !\\\"#$%&\\'()*+,-./" ":;\\x3C=>?@" "[\\\\]^_`" "{|}~" delInScript)
+    ∷ (ascii "style_single", written controlsInStyle " !\"#$%&\\'()*+,-./" ":;\\3C =>?@" "[\\\\]^_`" "{|}~" delKept)
+    ∷ (ascii "style_double", written controlsInStyle " !\\\"#$%&'()*+,-./" ":;\\3C =>?@" "[\\\\]^_`" "{|}~" delKept)
+    ∷ (ascii "style_quoted", written controlsInStyle " !\\\"#$%&\\'()*+,-./" ":;\\3C =>?@" "[\\\\]^_`" "{|}~" delKept)
+    ∷ (ascii "script_raw", written (bytes 0 31) " !\"#$%&'()*+,-./" ":;<=>?@" "[\\]^_`" "{|}~" delKept)
     ∷ []
 
 -- The lines of a request, and its text.
 abbrev pub request : List ℕ → List ℕ → List ℕ → List ℕ
 request op context text = ascii "op=" ++ op ++ ascii "\ncontext=" ++ context ++ ascii "\ntext=" ++ text
 
--- The contexts from number n on write these bytes, asked for by their numbers and by their names.
-abbrev pub writeFrom : ℕ → List (Label (List ℕ)) → Bool
+-- A context writes these bytes, asked for by its number and by its name.
+abbrev pub writes : ℕ → List ℕ → List ℕ → Bool
+writes n name r =
+    holds (example Encode (contextOf n) everyByte r)
+    && sameBytes (entityOf (request (ascii "encode") name everyByte)) (printed (answer 0 (size r) (cond (sameBytes everyByte r) 1 0) 0) r)
+
+-- The contexts from number n on do so.
+abbrev pub writeFrom : ℕ → List (List ℕ × List ℕ) → Bool
 writeFrom n [] = eqb n 14
-writeFrom n (e ∷ es) =
-    holds (example Encode (contextOf n) everyByte (e .names))
-    && sameBytes (entityOf (request (ascii "encode") (e .name) everyByte)) (printed (answer 0 (size (e .names)) (cond (sameBytes everyByte (e .names)) 1 0) 0) (e .names))
-    && writeFrom (suc n) es
+writeFrom n ((name, r) ∷ es) = writes n name r && writeFrom (suc n) es
 
 -- ---- closing tags
 
@@ -330,9 +373,9 @@ browsed =
     example Browse (Units (InHtml Text)) (ascii "&#0;&#x0;") (0xEF ∷ 0xBF ∷ 0xBD ∷ 0xEF ∷ 0xBF ∷ 0xBD ∷ [])
     ∷ example Browse (Units (InHtml Text)) (ascii "&#1;&#8;&#11;&#14;&#31;") (0x01 ∷ 0x08 ∷ 0x0B ∷ 0x0E ∷ 0x1F ∷ [])
     ∷ example Browse (Units (InHtml Text)) (ascii "&#127;&#128;&#159;") (0x7F ∷ 0xC2 ∷ 0x80 ∷ 0xC2 ∷ 0x9F ∷ [])
-    ∷ example Browse (Units (InHtml Text)) (ascii "&#xD7FF;&#xD800;&#xDFFF;&#xE000;") (0xED ∷ 0x9F ∷ 0xBF ∷ 0xEF ∷ 0xBF ∷ 0xBD ∷ 0xEF ∷ 0xBF ∷ 0xBD ∷ 0xEE ∷ 0x80 ∷ 0x80 ∷ [])
+    ∷ example Browse (Units (InHtml Text)) (ascii "&#xD7FF;&#xD800;&#xDFFF;&#xE000;") (0xED ∷ 0x9F ∷ 0xBF ∷ substitute ++ substitute ++ 0xEE ∷ 0x80 ∷ 0x80 ∷ [])
     ∷ example Browse (Units (InHtml Text)) (ascii "&#x10FFFF;&#x110000;") (0xF4 ∷ 0x8F ∷ 0xBF ∷ 0xBF ∷ 0xEF ∷ 0xBF ∷ 0xBD ∷ [])
-    ∷ example Browse (Units (InHtml Text)) (ascii "&#4294967296;&#4294967361;&#18446744073709551681;") (0xEF ∷ 0xBF ∷ 0xBD ∷ 0xEF ∷ 0xBF ∷ 0xBD ∷ 0xEF ∷ 0xBF ∷ 0xBD ∷ [])
+    ∷ example Browse (Units (InHtml Text)) (ascii "&#4294967296;&#4294967361;&#18446744073709551681;") (substitute ++ substitute ++ substitute)
     ∷ stays Browse (Units (InHtml Text)) (ascii "&#;&#x;&#+65;&bogus;&amp")
     ∷ example Browse (Units (InHtml Text)) (ascii "&lt;&amp;lt;") (ascii "<&lt;")
     ∷ []
@@ -342,7 +385,7 @@ abbrev pub digestOf : ℕ → List ℕ → ℕ
 digestOf h [] = h
 digestOf h (x ∷ s) = digestOf ((h * 257 + x + 1) % 2147483647) s
 
--- The digest of a table: of each name and each value, with a NUL after each. tools/check_names makes the same of tables.rs and of an outside copy.
+-- The digest of a table: of each name and each value, with a NUL after each. tools/check_names makes the same one of this table.
 abbrev pub digest : List Row → ℕ
 digest table = digestOf 0 (join (map (λ (row : Row). key row ++ 0 ∷ value row ++ 0 ∷ []) table))
 
@@ -376,7 +419,10 @@ papers =
     ∷ (replacementMove true (ascii "ab") NoReplacement, keep (ascii "a"))
     ∷ (escapeMove (ascii "\\u2028a") (Taken 6 0x2028), swap (ascii "\\u2028") (0xE2 ∷ 0x80 ∷ 0xA8 ∷ []))
     ∷ (escapeMove (ascii "\\a") NoEscape, keep (ascii "\\"))
-    ∷ (referenceMove (ascii "a&nGt;b") 1 (Found (record { start = 1; end = 6; value = NamedText 0x9283E2AB89E2 })), swap (ascii "&nGt;") (0xE2 ∷ 0x89 ∷ 0xAB ∷ 0xE2 ∷ 0x83 ∷ 0x92 ∷ []))
+    ∷ (
+      referenceMove (ascii "a&nGt;b") 1 (Found (record { start = 1; end = 6; value = NamedText 0x9283E2AB89E2 })),
+      swap (ascii "&nGt;") (0xE2 ∷ 0x89 ∷ 0xAB ∷ 0xE2 ∷ 0x83 ∷ 0x92 ∷ []),
+    )
     ∷ (referenceMove (ascii "a&#65;b") 1 (Found (record { start = 1; end = 6; value = Character 65 })), swap (ascii "&#65;") (ascii "A"))
     ∷ (referenceMove (ascii "a&;b") 1 NoReference, keep (ascii "&"))
     ∷ []
@@ -406,7 +452,7 @@ readings =
     ∷ refused Read (Units (InHtml Quoted)) (ascii "a'b") 4 1
     ∷ example Read (Units (InHtml Quoted)) (ascii "&#x27;") (ascii "'")
     ∷ refused Read (Units (InHtml Quoted)) (ascii "&apos;") 4 0
-    ∷ example Read (Units (InScript Both)) (ascii "\\\\\\'\\\"\\x00\\x3C\\u2028\\u2029") (ascii "\\'\"" ++ 0x00 ∷ [] ++ ascii "<" ++ 0xE2 ∷ 0x80 ∷ 0xA8 ∷ 0xE2 ∷ 0x80 ∷ 0xA9 ∷ [])
+    ∷ example Read (Units (InScript Both)) (ascii "\\\\\\'\\\"\\x00\\x3C\\u2028\\u2029") (ascii "\\'\"" ++ 0x00 ∷ ascii "<" ++ utf8 0x2028 ++ utf8 0x2029)
     ∷ refused Read (Units (InScript Both)) (0xE2 ∷ 0x80 ∷ 0xA8 ∷ []) 4 0
     ∷ refused Read (Units (InScript Both)) (ascii "a\\x3c") 4 1
     ∷ refused Read (Units (InScript Both)) (ascii "\\x20") 4 0
@@ -414,7 +460,7 @@ readings =
     ∷ refused Read (Units (InScript Both)) (ascii "<\\!--") 4 0
     ∷ refused Read (Units (InScript Single)) (ascii "\\\"") 4 0
     ∷ stays Read (Units (InScript Single)) (ascii "\"")
-    ∷ example Read (Units (InStyle Both)) (ascii "\\01 \\3C " ++ 0xEF ∷ 0xBF ∷ 0xBD ∷ 0xE2 ∷ 0x80 ∷ 0xA8 ∷ []) (0x01 ∷ [] ++ ascii "<" ++ 0xEF ∷ 0xBF ∷ 0xBD ∷ 0xE2 ∷ 0x80 ∷ 0xA8 ∷ [])
+    ∷ example Read (Units (InStyle Both)) (ascii "\\01 \\3C " ++ substitute ++ utf8 0x2028) (0x01 ∷ ascii "<" ++ substitute ++ utf8 0x2028)
     ∷ refused Read (Units (InStyle Both)) (ascii "\\00 ") 4 0
     ∷ refused Read (Units (InStyle Both)) (ascii "a" ++ 0x00 ∷ []) 4 1
     ∷ refused Read (Units (InStyle Both)) (ascii "\\20 ") 4 0

@@ -6,7 +6,7 @@ use mathlib.Core.List.{List, [], _∷_, _++_, map}
 use Prim.Native.Nat.{ℕ, _-_}
 use lib.Dec.{eqb}
 use lib.ListN.{length}
-use Rattle.rules.specs.Bytes.{ascii, count, fits, stands, inside, oneOf}
+use Rattle.rules.specs.Bytes.{ascii, is, bytes, fits, stands, between, oneOf}
 use Rattle.rules.specs.Moves.{Move, keep, swap, stop, Rule}
 use Rattle.rules.specs.Tables.{Row, rowAt, key, value, table}
 use Rattle.rules.specs.declared.Context.{Context}
@@ -33,11 +33,11 @@ encodeStep c = encodeBy (table c)
 
 -- A letter in either letter case; any other byte as it is.
 abbrev pub anyCase : ℕ → List ℕ
-anyCase b = cond (inside (97, 122) b) (b ∷ (b - 32) ∷ []) (b ∷ [])
+anyCase b = cond (between "a" "z" b) (b ∷ (b - 32) ∷ []) (b ∷ [])
 
 -- `/`, `>`, a byte 9 to 13 or 28 to 32.
 abbrev pub terminators : List ℕ
-terminators = ascii "/>" ++ count 9 5 ++ count 28 5
+terminators = ascii "/>" ++ bytes 9 13 ++ bytes 28 32
 
 -- The name in any letter case stands here, and a terminator follows.
 abbrev pub closes : List ℕ → List ℕ → Bool
@@ -54,4 +54,4 @@ parted s = stands (ascii "!--") s || closes (ascii "/script") s || closesAtEnd (
 -- encode in script_raw: a backslash goes in after each `<` that is followed by such bytes.
 unfoldable pub rawStep : Rule
 rawStep prev [] = stop
-rawStep prev (b ∷ s) = cond (eqb b 60 && parted s) (swap (b ∷ []) (b ∷ ascii "\\")) (keep (b ∷ []))
+rawStep prev (b ∷ s) = cond (is "<" b && parted s) (swap (b ∷ []) (b ∷ ascii "\\")) (keep (b ∷ []))

@@ -3,8 +3,7 @@
 use mathlib.Core.Bool.{_&&_, cond}
 use mathlib.Core.List.{List, _++_}
 use Prim.Native.Nat.{ℕ}
-use lib.Dec.{eqb}
-use Rattle.rules.specs.Bytes.{ascii, stands}
+use Rattle.rules.specs.Bytes.{ascii, is, stands}
 use Rattle.rules.specs.Moves.{swap, Rule}
 use Rattle.rules.specs.Tables.{Row, rowAt, value}
 use Rattle.rules.specs.Encoding.{keepByte, closes}
@@ -14,9 +13,9 @@ use Rattle.rules.specs.Reading.{undo}
 -- Otherwise the `\` stays.
 abbrev pub afterLess : List ℕ → Rule
 afterLess name prev s =
-    cond (eqb prev 60 && stands (ascii "\\!--") s) (swap (ascii "\\!") (ascii "!"))
-    (cond (eqb prev 60 && closes (ascii "\\/" ++ name) s) (swap (ascii "\\/") (ascii "/")) (keepByte s))
+    cond (is "<" prev && stands (ascii "\\!--") s) (swap (ascii "\\!") (ascii "!"))
+    (cond (is "<" prev && closes (ascii "\\/" ++ name) s) (swap (ascii "\\/") (ascii "/")) (keepByte s))
 
--- "First match counts": the escapes are the context's rows read from the written side, and then the two rules after `<`.
+-- The first match counts: the escapes are the context's rows read from the written side, and then the two rules after `<`.
 abbrev pub escapeBy : List ℕ → List Row → Rule
 escapeBy name rows prev s = undo (rowAt value rows s) (afterLess name prev s)

@@ -65,7 +65,7 @@ holdsIn borrows e =
 abbrev pub holds : Example → Bool
 holds e = holdsIn false e && holdsIn true e
 
--- The starred examples, numbered as in document 01.
+-- The starred examples, numbered.
 abbrev pub starred : List Example
 starred =
     -- 1

@@ -1,4 +1,4 @@
--- The definitions of document 01, in reading order.
+-- The definitions of the rules, in reading order.
 pub mod Bytes
 pub mod Moves
 pub mod Utf8

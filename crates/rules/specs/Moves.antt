@@ -32,11 +32,12 @@ andThen (keep a) ms = keep a ∷ ms
 andThen (swap a b) ms = swap a b ∷ ms
 andThen stop ms = []
 
--- The moves of a rule through a text: prev is the byte before, and skip bytes belong to the move before.
+-- The moves of a rule through a text: the rule's move here, and then the moves from behind what it takes.
+-- prev is the byte before, and skip bytes still belong to the move before.
 abbrev pub moves : Rule → ℕ → ℕ → List ℕ → List Move
 moves rule prev skip [] = []
 moves rule prev (suc skip) (b ∷ text) = moves rule b skip text
-moves rule prev zero (b ∷ text) = andThen (rule prev (b ∷ text)) (moves rule b (pred (length (takes (rule prev (b ∷ text))))) text)
+moves rule prev zero (b ∷ text) = let m = rule prev (b ∷ text) in andThen m (moves rule b (pred (length (takes m))) text)
 
 -- The moves of a rule through a whole text.
 abbrev pub through : Rule → List ℕ → List Move

@@ -1,12 +1,15 @@
 -- 9. The table of names: 2,125 entries, each a name without its `&` and `;` and the numbers of its characters.
--- It is the table of tables.rs, in its order, which rises by bytes; tools/check_names compares it with outside copies.
+-- They rise byte by byte; tools/check_names compares the table with outside copies.
 -- Assumes nothing.
+use mathlib.Core.Bool.{Bool, true, false, _&&_, _||_}
 use mathlib.Core.List.{List, [], _∷_, map}
-use Prim.Native.Nat.{ℕ}
+use Prim.Native.Nat.{ℕ, _+_}
 use Prim.Native.String.{String}
-use Rattle.rules.specs.Bytes.{ascii, join}
-use Rattle.rules.specs.Utf8.{utf8}
-use Rattle.rules.specs.Tables.{Row}
+use lib.Dec.{eqb, ltb}
+use lib.ListN.{length}
+use Rattle.rules.specs.Bytes.{ascii, join, all}
+use Rattle.rules.specs.Utf8.{utf8, validTo}
+use Rattle.rules.specs.Tables.{Row, key, value}
 
 -- An entry: the bytes of a name, and those of the characters that it stands for.
 abbrev pub entry : String → List ℕ → Row
@@ -2399,7 +2402,8 @@ lower-z =
 
 -- The table.
 unfoldable pub names : List Row
-unfolding upper-A upper-B upper-C upper-D upper-E upper-F upper-G upper-H upper-I upper-J upper-K upper-L upper-M upper-N upper-O upper-P upper-Q upper-R upper-S upper-T upper-U upper-V upper-W upper-X upper-Y upper-Z lower-a lower-b lower-c lower-d lower-e lower-f lower-g lower-h lower-i lower-j lower-k lower-l lower-m lower-n lower-o lower-p lower-q lower-r lower-s lower-t lower-u lower-v lower-w lower-x lower-y lower-z
+unfolding upper-A upper-B upper-C upper-D upper-E upper-F upper-G upper-H upper-I upper-J upper-K upper-L upper-M upper-N upper-O upper-P upper-Q upper-R upper-S upper-T upper-U upper-V upper-W upper-X upper-Y upper-Z
+    lower-a lower-b lower-c lower-d lower-e lower-f lower-g lower-h lower-i lower-j lower-k lower-l lower-m lower-n lower-o lower-p lower-q lower-r lower-s lower-t lower-u lower-v lower-w lower-x lower-y lower-z
 names =
     join (
     upper-A ∷ upper-B ∷ upper-C ∷ upper-D ∷ upper-E ∷ upper-F ∷ upper-G ∷ upper-H ∷ upper-I ∷ upper-J ∷ upper-K ∷ upper-L ∷ upper-M
@@ -2407,3 +2411,34 @@ names =
     ∷ lower-a ∷ lower-b ∷ lower-c ∷ lower-d ∷ lower-e ∷ lower-f ∷ lower-g ∷ lower-h ∷ lower-i ∷ lower-j ∷ lower-k ∷ lower-l ∷ lower-m
     ∷ lower-n ∷ lower-o ∷ lower-p ∷ lower-q ∷ lower-r ∷ lower-s ∷ lower-t ∷ lower-u ∷ lower-v ∷ lower-w ∷ lower-x ∷ lower-y ∷ lower-z
     ∷ [])
+
+-- ---- what is asked of the table
+
+-- The bytes a come before the bytes b.
+abbrev pub below : List ℕ → List ℕ → Bool
+below [] [] = false
+below [] (y ∷ b) = true
+below (x ∷ a) [] = false
+below (x ∷ a) (y ∷ b) = ltb x y || (eqb x y && below a b)
+
+-- The keys come one before the other, from a on.
+abbrev pub risingFrom : List ℕ → List Row → Bool
+risingFrom a [] = true
+risingFrom a (row ∷ rows) = below a (key row) && risingFrom (key row) rows
+
+-- Each key comes before the next one.
+abbrev pub rising : List Row → Bool
+rising [] = true
+rising (row ∷ rows) = risingFrom (key row) rows
+
+-- The value is valid UTF-8.
+abbrev pub valid : Row → Bool
+valid row = eqb (validTo (value row)) (length (value row))
+
+-- The table is sound: its names rise, and its values are valid UTF-8.
+abbrev pub sound : List Row → Bool
+sound table = rising table && all valid table
+
+-- The value is longer than the reference, which has `&` and `;` beside the name.
+abbrev pub grows : Row → Bool
+grows row = ltb (length (key row) + 2) (length (value row))

@@ -14,9 +14,9 @@ use Rattle.rules.specs.declared.Answer.{Answer}
 use Rattle.rules.specs.declared.AnyContext.{AnyContext}
 use Rattle.rules.specs.declared.Operation.{Operation}
 
--- A line of the header: what it is of, `=` and all, a name, and byte 0A.
+-- A line of the header: the field with its `=`, a name, and a line feed.
 abbrev pub line : {A : Type 0} → List ℕ → Label A → List ℕ
-line field l = field ++ l .name ++ 10 ∷ []
+line field l = field ++ l .name ++ ascii "\n"
 
 -- The text of a request.
 abbrev pub textOf : Operation → AnyContext → List ℕ → Option Call
@@ -33,7 +33,7 @@ contextLine op s =
       | some l ↦ textOf op (l .names) (drop (size (line (ascii "context=") l)) s)
     ]
 
--- The request: the line `op=` first. Its text limit is 8,192 bytes, its calls are copying, and its output holds every result.
+-- The request: the line `op=` first. Its text has at most 8,192 bytes, its call copies, and its output holds every result (`roomy`).
 abbrev pub requestOf : List ℕ → Option Call
 requestOf s =
     elim (first (λ (l : Label Operation). stands (line (ascii "op=") l)) operationNames s) [

@@ -6,9 +6,9 @@ use mathlib.Core.List.{List, [], _∷_, _++_}
 use Prim.Native.Nat.{ℕ, _+_, _-_, _*_}
 use lib.Dec.{leb, eqb}
 use lib.ListN.{drop}
-use Rattle.rules.specs.Bytes.{ascii, is, first, stands, inside, oneOf, sameBytes}
+use Rattle.rules.specs.Bytes.{ascii, is, first, stands, inside, between, oneOf, sameBytes}
 use Rattle.rules.specs.Moves.{Move, keep, swap, stop, Rule}
-use Rattle.rules.specs.Utf8.{utf8}
+use Rattle.rules.specs.Utf8.{utf8, substitute}
 use Rattle.rules.specs.Tables.{Row, key, value}
 use Rattle.rules.specs.Names.{names}
 
@@ -28,11 +28,11 @@ bodyOf (b ∷ s) = cond (is ";" b) (some []) (cond (is "&" b) none (onto b (body
 
 -- A digit.
 abbrev pub digit : ℕ → Option ℕ
-digit b = cond (inside (48, 57) b) (some (b - 48)) none
+digit b = cond (between "0" "9" b) (some (b - 48)) none
 
 -- A hex digit of either letter case.
 abbrev pub hexDigitAt : ℕ → Option ℕ
-hexDigitAt b = cond (inside (65, 70) b) (some (b - 55)) (cond (inside (97, 102) b) (some (b - 87)) (digit b))
+hexDigitAt b = cond (between "A" "F" b) (some (b - 55)) (cond (between "a" "f" b) (some (b - 87)) (digit b))
 
 -- Digits only: the number so far, and the digits that follow. Leading zeros are free.
 abbrev pub digits : (ℕ → Option ℕ) → ℕ → ℕ → List ℕ → Option ℕ
@@ -60,7 +60,7 @@ decodeChar n = cond (scalar n && (leb 32 n || oneOf (9 ∷ 10 ∷ 12 ∷ 13 ∷ 
 
 -- browse: 0, surrogates and anything above 10FFFF give U+FFFD; every other number stands for itself.
 abbrev pub browseChar : ℕ → Option (List ℕ)
-browseChar n = some (cond (scalar n && not (eqb n 0)) (utf8 n) (utf8 0xFFFD))
+browseChar n = some (cond (scalar n && not (eqb n 0)) (utf8 n) substitute)
 
 -- ---- what a body stands for
 

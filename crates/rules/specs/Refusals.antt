@@ -71,7 +71,7 @@ NoForm Read ScriptRaw t = ⊥
 NoForm Read Unknown t = ⊥
 NoForm Browse n t = ⊥
 
--- "Given exactly when": the words of each row.
+-- The words of each row: when it is given.
 abbrev pub Says : Call → Case → Type 0
 Says k bad-context = ruleOf (k .operation) (k .context) ≡ none
 Says k too-long = k .limit < size (k .text)
@@ -131,7 +131,7 @@ outAt written ms out = over (result ms) out
 
 -- ---- a public call
 
--- "Text above 65,536 bytes" is too long.
+-- A text of more bytes is too long.
 abbrev pub textLimit : ℕ
 textLimit = 65536
 

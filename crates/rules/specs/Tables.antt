@@ -3,9 +3,11 @@
 use mathlib.Core.Bool.{Bool, not, _||_, cond}
 use mathlib.Core.Option.{Option}
 use mathlib.Core.List.{List, [], _∷_, _++_, map}
+use Prim.Native.Char.{code}
 use Prim.Native.Nat.{ℕ, _+_, _/_, _%_}
 use lib.Dec.{ltb}
-use Rattle.rules.specs.Bytes.{ascii, count, only, first, stands, inside, oneOf}
+use Rattle.rules.specs.Bytes.{ascii, bytes, only, first, stands, between, oneOf}
+use Rattle.rules.specs.Utf8.{utf8, substitute}
 use Rattle.rules.specs.declared.Html.{Html}
 use Rattle.rules.specs.declared.Html.the-variants.{TextMinimal, Text, DoubleQuoted, SingleQuoted, Quoted, Safe, Unquoted}
 use Rattle.rules.specs.declared.Quotes.{Quotes}
@@ -61,19 +63,19 @@ reference b = (b ∷ [], ascii "&#x" ++ hexPair b ++ ascii ";")
 
 -- `'`→`&#x27;`
 abbrev pub apostrophe : Row
-apostrophe = reference 0x27
+apostrophe = reference (code "'")
 
 -- `/`→`&#x2F;`
 abbrev pub solidus : Row
-solidus = reference 0x2F
+solidus = reference (code "/")
 
 -- An ASCII letter or digit.
 abbrev pub letterOrDigit : ℕ → Bool
-letterOrDigit b = inside (48, 57) b || inside (65, 90) b || inside (97, 122) b
+letterOrDigit b = between "0" "9" b || between "A" "Z" b || between "a" "z" b
 
 -- Every other ASCII byte that is no letter or digit: those that the four named rows leave.
 abbrev pub others : List ℕ
-others = only (λ (b : ℕ). not (letterOrDigit b || oneOf (ascii "&<>\"") b)) (count 0 128)
+others = only (λ (b : ℕ). not (letterOrDigit b || oneOf (ascii "&<>\"") b)) (bytes 0 127)
 
 -- What each of the HTML seven replaces.
 abbrev pub htmlRows : Html → List Row
@@ -93,22 +95,25 @@ slashed b = (b ∷ [], ascii "\\" ++ b ∷ [])
 
 -- `\`→`\\`; `'`→`\'` in single and quoted; `"`→`\"` in double and quoted.
 abbrev pub quoteRows : Quotes → List Row
-quoteRows Single = slashed 0x5C ∷ slashed 0x27 ∷ []
-quoteRows Double = slashed 0x5C ∷ slashed 0x22 ∷ []
-quoteRows Both = slashed 0x5C ∷ slashed 0x27 ∷ slashed 0x22 ∷ []
+quoteRows Single = map slashed (ascii "\\'")
+quoteRows Double = map slashed (ascii "\\\"")
+quoteRows Both = map slashed (ascii "\\'\"")
 
 -- A byte →`\xHH`
 abbrev pub scriptHex : ℕ → Row
 scriptHex b = (b ∷ [], ascii "\\x" ++ hexPair b)
 
+-- U+2028→`\u2028`
+abbrev pub lineSeparator : Row
+lineSeparator = (utf8 0x2028, ascii "\\u2028")
+
+-- U+2029→`\u2029`
+abbrev pub paragraphSeparator : Row
+paragraphSeparator = (utf8 0x2029, ascii "\\u2029")
+
 -- Bytes 0 to 31 and `<`, U+2028 and U+2029 in a script string.
 abbrev pub scriptRows : List Row
-scriptRows =
-    map scriptHex (count 0 32)
-    ++ scriptHex 0x3C
-    ∷ (0xE2 ∷ 0x80 ∷ 0xA8 ∷ [], ascii "\\u2028")
-    ∷ (0xE2 ∷ 0x80 ∷ 0xA9 ∷ [], ascii "\\u2029")
-    ∷ []
+scriptRows = map scriptHex (bytes 0 31 ++ ascii "<") ++ lineSeparator ∷ paragraphSeparator ∷ []
 
 -- A byte →`\HH` and a space.
 abbrev pub styleHex : ℕ → Row
@@ -116,7 +121,7 @@ styleHex b = (b ∷ [], ascii "\\" ++ hexPair b ++ ascii " ")
 
 -- Bytes 1 to 31 and `<` in a style string.
 abbrev pub styleRows : List Row
-styleRows = map styleHex (count 1 31) ++ styleHex 0x3C ∷ []
+styleRows = map styleHex (bytes 1 31 ++ ascii "<")
 
 -- ---- every context
 
@@ -130,7 +135,7 @@ rows (InStyle q) = quoteRows q ++ styleRows
 abbrev pub lossy : Context → List Row
 lossy (InHtml h) = []
 lossy (InScript q) = []
-lossy (InStyle q) = (0x00 ∷ [], 0xEF ∷ 0xBF ∷ 0xBD ∷ []) ∷ []
+lossy (InStyle q) = (0x00 ∷ [], substitute) ∷ []
 
 -- All that the encoder of the context replaces; the rest is copied.
 abbrev pub table : Context → List Row

@@ -4,7 +4,7 @@ use mathlib.Core.Bool.{not}
 use mathlib.Core.Path.{_≡_}
 use mathlib.Core.List.{List, [], _∷_, map}
 use Prim.Native.Nat.{ℕ}
-use Rattle.rules.specs.Bytes.{In, All, count, only, oneOf}
+use Rattle.rules.specs.Bytes.{In, All, bytes, only, oneOf}
 use Rattle.rules.specs.Moves.{Move, keep, swap, stop, taken}
 use Rattle.rules.specs.Utf8.{IsChar}
 use Rattle.rules.specs.Tables.{Row, key, rows, lossy, replacedChars}
@@ -33,7 +33,7 @@ unread c = map key (lossy c)
 
 -- Bytes 0 to 31 other than 9, 10, 12, 13, as characters.
 abbrev pub controls : List (List ℕ)
-controls = map (λ (b : ℕ). b ∷ []) (only (λ (b : ℕ). not (oneOf (9 ∷ 10 ∷ 12 ∷ 13 ∷ []) b)) (count 0 32))
+controls = map (λ (b : ℕ). b ∷ []) (only (λ (b : ℕ). not (oneOf (9 ∷ 10 ∷ 12 ∷ 13 ∷ []) b)) (bytes 0 31))
 
 -- The characters of an HTML context whose references decode leaves.
 abbrev pub left : Html → List (List ℕ)

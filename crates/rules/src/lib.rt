@@ -1,5 +1,4 @@
-// The types that document 01 names: contexts, operations, the answer record, and what the readers and the string writer find. Its rules are the
-// definitions of specs/.
+// The types of the library: contexts, operations, the answer record, and what the readers and the string writer find. specs/ holds the rules.
 ghost use mathlib.Core.Path.{_≡_};
 ghost use Rattle.rules.specs.Contexts.{contextOf};
 
@@ -152,7 +151,7 @@ pub enum Replacement {
     Nothing,
 }
 
-// The context of a number, 0 to 13 in document 01's order.
+// Returns the context of a number, 0 to 13; any other number has none.
 pub fn context_of(number: u32) -> AnyContext
     ensures { λ r. ⌜ r ≡ contextOf number ⌝ }
 {

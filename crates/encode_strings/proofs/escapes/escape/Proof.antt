@@ -56,7 +56,7 @@ returns-3 c =
     let h : 0 < length s = c₃ .pre .0 in
     let l : 3 ≤ length s = c₁ .if3 .left in
     let e : endsOf (getD s 1 0) (getD s 2 0) ≡ true = sym (c .before .ends-separator .ensures) ∙ c .if4 .taken in
-    (found-lead (a .strings) s Separator h (c₁ .before .match .keys5) (sym (c₂ .needs-escape .ensures) ∙ not-false _ (c₁ .before .before .if1 .left)) (rw (ended-long s l, e)), (l, omega (arith, ends-are (getD s 1 0) (getD s 2 0) e .1)))
+    (found-lead (a .strings) s Separator h (c₁ .before .match .keys5) (sym (c₂ .needs-escape .ensures) ∙ not-false _ (c₁ .before .before .if1 .left)) (rw (ended-long s l, e)), (l, ends-are (getD s 1 0) (getD s 2 0) e .1, ends-are (getD s 1 0) (getD s 2 0) e .2))
 
 returns-4 : tie.Need-returns-4
 returns-4 c =

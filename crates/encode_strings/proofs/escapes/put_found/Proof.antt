@@ -1,7 +1,9 @@
 -- `encode_strings::escapes::put_found` meets its contract: one case for each replacement, each a copy of the bytes that it gives.
 -- Assumes nothing.
 use borrow.Author.Needs.{needs}
-use Rattle.encode_strings.proofs.Finds.{held-some, kept-gives}
+use native.Mathlib.Omega.{arith}
+use lib.ListN.{getD}
+use Rattle.encode_strings.proofs.Finds.{held-some, kept-gives, separator-value}
 use Rattle.encode_strings.proofs.escapes.put_found.Statement.{statement}
 use Rattle.encode_strings.proofs.escapes.put_found.Tie as tie
 
@@ -39,7 +41,7 @@ shared-slice-read-t19 c =
 sub-t20 : tie.Need-sub-t20
 sub-t20 c =
     let c₁ = c .before .before .before .before .before .before in
-    let h = rw (c .before .enum-told3 .given .1) at (c₁ .pre .0) in h .1
+    let h = rw (c .before .enum-told3 .given .1) at (c₁ .pre .0) in omega (arith, h .1)
 
 slice-aggregate-put-2 : tie.Need-slice-aggregate-put-2
 slice-aggregate-put-2 c = search needs
@@ -48,7 +50,8 @@ put-requires-2 : tie.Need-put-requires-2
 put-requires-2 c κs =
     let c₁ = c .before .before .before in
     let c₂ = c₁ .before .before .before .before .before in
-    rw (c₁ .enum-told3 .given .1) at (c₂ .pre .1)
+    let h = rw (c₁ .enum-told3 .given .1) at (c₂ .pre .0) in
+    rw (c₁ .enum-told3 .given .1, separator-value (getD (c₂ .args .rest .now) 2 0) (h .1) (h .2)) at (c₂ .pre .1)
 
 enum-told-4 : tie.Need-enum-told-4
 enum-told-4 c = search needs
@@ -95,7 +98,9 @@ same-length-3 c = search needs
 returns-3 : tie.Need-returns-3
 returns-3 c =
     let c₁ = c .before .before .before .before .before .before in
-    rw (c₁ .enum-told3 .given .1) (c .before .before .put2 .ensures)
+    let c₂ = c₁ .before .before .before .before .before in
+    let h = rw (c₁ .enum-told3 .given .1) at (c₂ .pre .0) in
+    rw (c₁ .enum-told3 .given .1, separator-value (getD (c₂ .args .rest .now) 2 0) (h .1) (h .2)) (c .before .before .put2 .ensures)
 
 same-length-4 : tie.Need-same-length-4
 same-length-4 c = search needs
