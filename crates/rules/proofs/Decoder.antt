@@ -9,7 +9,7 @@ use Prim.Native.Nat.{ℕ, pred}
 use lib.Dec.{T, eqb, eqb→eq, eqb-refl, T-not}
 use lib.ListN.{length}
 use Rattle.rules.specs.Bytes.{ascii, In, All, all, any, fits, stands, sameBytes, oneOf}
-use Rattle.rules.specs.Moves.{Move, keep, swap, stop, gives, moves, taken, result}
+use Rattle.rules.specs.Moves.{Move, keep, swap, stop, gives, taken, result, through}
 use Rattle.rules.specs.Tables.{Row, rowAt, key, value, htmlRows, rows, replacedChars}
 use Rattle.rules.specs.Units.{left, undecoded}
 use Rattle.rules.specs.declared.Context.{Context}
@@ -22,7 +22,7 @@ use Rattle.rules.specs.References.{onto, bodyOf, meaning, refer, atAmp, 
 use Rattle.rules.specs.Escapes.{afterLess, escapeBy}
 use Rattle.rules.specs.Operations.{decodeStep, decodeOf}
 use Rattle.rules.proofs.Tests.{and-left, and-right, and-both, or-cases, or-false, is-false, all-in, first-none, same-bytes, same-in, in-append}
-use Rattle.rules.proofs.Machine.{Makes, Follows, retrace, singly, cut-moves, result-cut}
+use Rattle.rules.proofs.Machine.{Makes, Follows, singly, cut, cut-moves, result-cut}
 use Rattle.rules.proofs.Chars.{isTail, taken-singles, char-singly}
 use Rattle.rules.proofs.Tables.{bar-stops, row-length, row-first}
 use Rattle.rules.proofs.Every.{every, values-code}
@@ -161,6 +161,10 @@ module _ (c : Context) where
     decode-row c (k, v) (u .0) (u .1) r (row-first value (rows c) (replacedChars c) (values-code c) (k, v) (u .0) r),
   )
 
-  -- Through such a run the decoder gives what the run gives.
+  -- Through such a run the decoder's moves are those of the run, byte by byte.
+  pub decode-cut : (us : List Move) → All (IsDecoded c) us → through (decodeStep c) (taken us) ≡ cut us
+  decode-cut us g = cut-moves (decodeStep c) (IsDecoded c) decode-keeps decode-swaps 0 us g
+
+  -- So it gives what the run gives.
   pub decode-run : (us : List Move) → All (IsDecoded c) us → decodeOf c (taken us) ≡ result us
-  decode-run us g = ap result (cut-moves (decodeStep c) (IsDecoded c) decode-keeps decode-swaps 0 us g) ∙ result-cut us
+  decode-run us g = ap result (decode-cut us g) ∙ result-cut us

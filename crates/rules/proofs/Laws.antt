@@ -1,4 +1,4 @@
--- The laws that document 01 asks for, each once over the context.
+-- The laws of encode, decode, read and browse, each once over the context.
 -- Assumes nothing.
 use mathlib.Core.Bool.{Bool, not, _&&_}
 use mathlib.Core.Logic.{_↔_}
@@ -22,12 +22,12 @@ use Rattle.rules.specs.declared.Html.the-variants.{Text, Quoted}
 use Rattle.rules.specs.declared.Context.{Context}
 use Rattle.rules.specs.declared.Context.the-variants.{InHtml}
 use Rattle.rules.proofs.Tests.{all-in, same-in}
-use Rattle.rules.proofs.Machine.{moves-fair, same-result, place-within, whole-if}
+use Rattle.rules.proofs.Machine.{moves-fair, same-result, place-within, whole-if, cut, result-cut}
 use Rattle.rules.proofs.Codes.{Reads, units-read, units-unique, place-written, place-longest, written-iff}
 use Rattle.rules.proofs.Tables.{table-reads}
 use Rattle.rules.proofs.Every.{every, values-code}
 use Rattle.rules.proofs.Encoder.{encode-run, run-of, run-free, wide, table-run, plain-run, run-text}
-use Rattle.rules.proofs.Decoder.{IsDecoded, decode-run}
+use Rattle.rules.proofs.Decoder.{IsDecoded, decode-cut, decode-run}
 use Rattle.rules.proofs.Growth.{encode-whole, encode-none, encode-six, encode-sum, raw-whole, raw-none, raw-six, raw-sum}
 use Rattle.rules.proofs.Whole.{decode-whole, decode-fifth, browse-whole, browse-fifth}
 
@@ -35,7 +35,7 @@ use Rattle.rules.proofs.Whole.{decode-whole, decode-fifth, browse-whole
 abbrev noLonger : Row → Bool
 noLonger e = leb (length (key e)) (length (value e))
 
--- ---- demand 3
+-- ---- forms, and the texts that they stand for
 
 module _ (c : Context) where
   units-reads : Reads (IsUnit (rows c) (replacedChars c)) (readStep c)
@@ -110,7 +110,7 @@ module _ (c : Context) where
       let (vs, i, f) = plain-run c us g in
       (vs, i, ap (encodeOf c) (e ∙ q) ∙ encode-run c us g ∙ f)
 
-  -- So a string is a form exactly if some text encodes to it; the strict reader refuses exactly the others.
+  -- So a string is a form exactly if some text encodes to it.
   pub form-encoded : (s : List ℕ) → IsForm c s ↔ ((x : List ℕ) × IsText x × (s ≡ encodeOf c x))
   form-encoded s = (
     λ f. let (cs, h, b, e) = form-free s f in (readOf c s, (cs, h, e), sym (encode-read s f)),
@@ -142,9 +142,17 @@ module _ (c : Context) where
       let (us, g, b, q) = run-of c (undecoded c) unread-undecoded cs h f in
       ap (decodeOf c) (ap (encodeOf c) (e ∙ q) ∙ encode-run c us (wide c us g)) ∙ decode-run c us (both-hold us g b) ∙ sym (e ∙ q)
 
-  -- On any written form of such a text, decode and read agree.
+  -- On any written form of such a text the decoder makes the moves of the strict reader, byte by byte.
+  pub decode-moves : (s : List ℕ) → IsForm c s → IsFree (undecoded c) (readOf c s) → through (decodeStep c) s ≡ cut (through (readStep c) s)
+  decode-moves s form t =
+      let (cs, h, f, e) = t in
+      let (us, g, b, q) = run-of c (undecoded c) unread-undecoded cs h f in
+      let w : s ≡ taken us = sym (encode-read s form) ∙ ap (encodeOf c) (e ∙ q) ∙ encode-run c us (wide c us g) in
+      ap (through (decodeStep c)) w ∙ decode-cut c us (both-hold us g b) ∙ ap cut (sym (ap (through (readStep c)) w ∙ form-moves us g))
+
+  -- So decode and read agree there.
   pub decode-read : (s : List ℕ) → IsForm c s → IsFree (undecoded c) (readOf c s) → decodeOf c s ≡ readOf c s
-  decode-read s f t = ap (decodeOf c) (sym (encode-read s f)) ∙ decode-encode (readOf c s) t
+  decode-read s form t = ap result (decode-moves s form t) ∙ result-cut (through (readStep c) s)
 
   -- ---- what is replaced
 
@@ -188,7 +196,7 @@ raw-same s = (λ z. same-result (through rawStep s) z ∙ raw-whole s, raw-none 
 pub raw-growth : (s : List ℕ) → length (rawOf s) ≡ length s + growth (through rawStep s)
 raw-growth = raw-sum
 
--- It is at most six times as long (twice, in fact).
+-- It is at most six times as long.
 pub raw-length : (s : List ℕ) → length (rawOf s) ≤ 6 * length s
 raw-length = raw-six
 

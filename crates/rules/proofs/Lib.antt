@@ -11,13 +11,16 @@ pub mod Decoder
 pub mod Search
 pub mod Growth
 pub mod Whole
+pub mod Names
+pub mod Characters
+pub mod Texts
 pub mod Laws
 pub mod Refused
 pub mod Calls
+pub mod Entity
 pub mod Examples
 pub mod Loops
 pub mod Bytewise
 pub mod Quiet
-pub mod Names
 pub mod Blind
 pub mod Below

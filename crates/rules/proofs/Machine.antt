@@ -204,6 +204,16 @@ result-cut (keep a ∷ ms) = result-singly a (cut ms) ∙ ap (λ (s : List ℕ).
 result-cut (swap a b ∷ ms) = ap (λ (s : List ℕ). b ++ s) (result-cut ms)
 result-cut (stop ∷ ms) = result-cut ms
 
+replaced-singly : (a : List ℕ) (ms : List Move) → replaced (singly a ++ ms) ≡ replaced ms
+replaced-singly [] ms = refl
+replaced-singly (x ∷ a) ms = replaced-singly a ms
+
+pub replaced-cut : (ms : List Move) → replaced (cut ms) ≡ replaced ms
+replaced-cut [] = refl
+replaced-cut (keep a ∷ ms) = replaced-singly a (cut ms) ∙ replaced-cut ms
+replaced-cut (swap a b ∷ ms) = ap suc (replaced-cut ms)
+replaced-cut (stop ∷ ms) = replaced-cut ms
+
 -- A rule that keeps each byte of what is kept, and makes each swap, has these moves byte by byte.
 module _ (rule : Rule) (unit : Move → Type 0) (keeps : (a : List ℕ) → unit (keep a) → (r : List ℕ) → Follows rule (singly a) r)
     (swaps : (a b : List ℕ) → unit (swap a b) → (r : List ℕ) → Makes rule (swap a b) r) where

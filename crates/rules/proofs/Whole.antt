@@ -8,7 +8,7 @@ use Prim.Native.Nat.{ℕ, suc, pred, _+_, _*_, _/_, _%_, _≤_}
 use native.Mathlib.Omega.{arith}
 use lib.Dec.{T, leb, ltb, eqb, eqb→eq, leb→le}
 use lib.ListN.{length, length-append}
-use Rattle.rules.specs.Bytes.{ascii, All, all, first, fits, stands, sameBytes, oneOf}
+use Rattle.rules.specs.Bytes.{ascii, In, All, all, first, fits, stands, sameBytes, oneOf}
 use Rattle.rules.specs.Moves.{Move, keep, swap, takes, gives, taken, result, through}
 use Rattle.rules.specs.Utf8.{utf8}
 use Rattle.rules.specs.Tables.{Row, rowAt, key, value, rows, replacedChars}
@@ -117,30 +117,64 @@ body-split (x ∷ xs) body e = go (eqb x 59) refl (eqb x 38) (bodyOf xs) refl (b
         let (r, w) = ih b f in
         (r, ap (λ (l : List ℕ). x ∷ l) w ∙ ap (λ (l : List ℕ). l ++ 59 ∷ r) (Option·some-injective (x ∷ b) body e))
 
-reference-fair : (char : ℕ → Option (List ℕ)) → Short char → (p : ℕ) (s : List ℕ) → Fair Fifth (referenceBy char p s) s
-reference-fair char short p [] = tt
-reference-fair char short p (x ∷ xs) = go (eqb x 38) refl (bodyOf xs) refl
-  where
-    long : (body : List ℕ) → length body + 2 ≡ length (ascii "&" ++ body ++ ascii ";")
-    long body = rw (length-append body (ascii ";")) (omega arith)
+closes-split : (name s : List ℕ) → T (closes (ascii "\\/" ++ name) s) → (r : List ℕ) × (s ≡ ascii "\\/" ++ r)
+closes-split name [] t = absurd t
+closes-split name (x ∷ []) t = absurd (and-right (oneOf (92 ∷ []) x) false t)
+closes-split name (x ∷ y ∷ s) t =
+    let rest = fits oneOf (map anyCase name ++ terminators ∷ []) s in
+    let u = and-right (oneOf (92 ∷ []) x) (oneOf (47 ∷ []) y && rest) t in
+    (s, λ i. eqb→eq x 92 (or-false (eqb x 92) (and-left (oneOf (92 ∷ []) x) (oneOf (47 ∷ []) y && rest) t)) i ∷ eqb→eq y 47 (or-false (eqb y 47) (and-left (oneOf (47 ∷ []) y) rest u)) i ∷ s)
 
-    kept : x ≡ 38 → Fair Fifth (keep (ascii "&")) (x ∷ xs)
-    kept e = (kept-fifth 38, xs, (λ i. e i ∷ xs), 0, refl)
+-- ---- the moves of the decoders are fair, and as good as what they keep and what they replace
 
-    found : x ≡ 38 → (body r : List ℕ) → xs ≡ body ++ 59 ∷ r → (v : Option (List ℕ)) → meaning char body ≡ v → Fair Fifth (refer body v) (x ∷ xs)
-    found a body r w none e = kept a
-    found a body r w (some v) e = (
-      subst (λ (n : ℕ). 5 * length v ≤ 6 * n) (long body) (meaning-short char short body v e),
-      r,
-      (λ i. a i ∷ (w ∙ sym (append-assoc body (59 ∷ []) r)) i),
-      length (body ++ ascii ";"),
-      refl,
-    )
+module _ (good : Move → Type 0) (kept : (x : ℕ) → good (keep (x ∷ []))) where
+  pub reference-fair : (char : ℕ → Option (List ℕ)) → ((body v : List ℕ) → meaning char body ≡ some v → good (swap (ascii "&" ++ body ++ ascii ";") v))
+      → (p : ℕ) (s : List ℕ) → Fair good (referenceBy char p s) s
+  reference-fair char read p [] = tt
+  reference-fair char read p (x ∷ xs) = go (eqb x 38) refl (bodyOf xs) refl
+    where
+      amp : x ≡ 38 → Fair good (keep (ascii "&")) (x ∷ xs)
+      amp e = (kept 38, xs, (λ i. e i ∷ xs), 0, refl)
 
-    go : (b : Bool) → eqb x 38 ≡ b → (o : Option (List ℕ)) → bodyOf xs ≡ o → Fair Fifth (cond b (atAmp char o) (keep (x ∷ []))) (x ∷ xs)
-    go false h o f = (kept-fifth x, xs, refl, 0, refl)
-    go true h none f = kept (eqb→eq x 38 (subst T (sym h) tt))
-    go true h (some body) f = let (r, w) = body-split xs body f in found (eqb→eq x 38 (subst T (sym h) tt)) body r w (meaning char body) refl
+      found : x ≡ 38 → (body r : List ℕ) → xs ≡ body ++ 59 ∷ r → (v : Option (List ℕ)) → meaning char body ≡ v → Fair good (refer body v) (x ∷ xs)
+      found a body r w none e = amp a
+      found a body r w (some v) e = (read body v e, r, (λ i. a i ∷ (w ∙ sym (append-assoc body (59 ∷ []) r)) i), length (body ++ ascii ";"), refl)
+
+      go : (b : Bool) → eqb x 38 ≡ b → (o : Option (List ℕ)) → bodyOf xs ≡ o → Fair good (cond b (atAmp char o) (keep (x ∷ []))) (x ∷ xs)
+      go false h o f = (kept x, xs, refl, 0, refl)
+      go true h none f = amp (eqb→eq x 38 (subst T (sym h) tt))
+      go true h (some body) f = let (r, w) = body-split xs body f in found (eqb→eq x 38 (subst T (sym h) tt)) body r w (meaning char body) refl
+
+  byte-fair : (s : List ℕ) → Fair good (keepByte s) s
+  byte-fair [] = tt
+  byte-fair (x ∷ s) = (kept x, s, refl, 0, refl)
+
+  module _ (bang : good (swap (ascii "\\!") (ascii "!"))) (slash : good (swap (ascii "\\/") (ascii "/"))) where
+    less-fair : (name : List ℕ) (p : ℕ) (s : List ℕ) → Fair good (afterLess name p s) s
+    less-fair name p s = go (eqb p 60 && stands (ascii "\\!--") s) refl (eqb p 60 && closes (ascii "\\/" ++ name) s) refl
+      where
+        go : (a : Bool) → eqb p 60 && stands (ascii "\\!--") s ≡ a → (b : Bool) → eqb p 60 && closes (ascii "\\/" ++ name) s ≡ b
+            → Fair good (cond a (swap (ascii "\\!") (ascii "!")) (cond b (swap (ascii "\\/") (ascii "/")) (keepByte s))) s
+        go true f b g =
+            let (r, w) = stands-split (ascii "\\!--") s (and-right (eqb p 60) (stands (ascii "\\!--") s) (subst T (sym f) tt)) in
+            (bang, ascii "--" ++ r, w, 1, refl)
+        go false f true g =
+            let (r, w) = closes-split name s (and-right (eqb p 60) (closes (ascii "\\/" ++ name) s) (subst T (sym g) tt)) in
+            (slash, r, w, 1, refl)
+        go false f false g = byte-fair s
+
+    pub escape-fair : (c : Context) → ((row : Row) → In row (rows c) → good (swap (value row) (key row))) → (name : List ℕ) (p : ℕ) (s : List ℕ)
+        → Fair good (escapeBy name (rows c) p s) s
+    escape-fair c undone name p s = go (rowAt value (rows c) s) refl
+      where
+        go : (o : Option Row) → rowAt value (rows c) s ≡ o → Fair good (undo o (afterLess name p s)) s
+        go none f = less-fair name p s
+        go (some row) f =
+            let (i, t) = first-sound (λ (row : Row). stands (value row)) (rows c) s row f in
+            let (r, w) = stands-split (value row) s t in
+            (undone row i, r, w, pred (length (value row)), row-length value (rows c) (replacedChars c) (values-code c) row i)
+
+-- ---- they go on to the end of the text
 
 reference-goes : (char : ℕ → Option (List ℕ)) (p x : ℕ) (xs : List ℕ) → Goes (referenceBy char p (x ∷ xs))
 reference-goes char p x xs = go (eqb x 38) (bodyOf xs)
@@ -154,31 +188,6 @@ reference-goes char p x xs = go (eqb x 38) (bodyOf xs)
     go true none = tt
     go true (some body) = found body (meaning char body)
 
-closes-split : (name s : List ℕ) → T (closes (ascii "\\/" ++ name) s) → (r : List ℕ) × (s ≡ ascii "\\/" ++ r)
-closes-split name [] t = absurd t
-closes-split name (x ∷ []) t = absurd (and-right (oneOf (92 ∷ []) x) false t)
-closes-split name (x ∷ y ∷ s) t =
-    let rest = fits oneOf (map anyCase name ++ terminators ∷ []) s in
-    let u = and-right (oneOf (92 ∷ []) x) (oneOf (47 ∷ []) y && rest) t in
-    (s, λ i. eqb→eq x 92 (or-false (eqb x 92) (and-left (oneOf (92 ∷ []) x) (oneOf (47 ∷ []) y && rest) t)) i ∷ eqb→eq y 47 (or-false (eqb y 47) (and-left (oneOf (47 ∷ []) y) rest u)) i ∷ s)
-
-byte-fair : (s : List ℕ) → Fair Fifth (keepByte s) s
-byte-fair [] = tt
-byte-fair (x ∷ s) = (kept-fifth x, s, refl, 0, refl)
-
-less-fair : (name : List ℕ) (p : ℕ) (s : List ℕ) → Fair Fifth (afterLess name p s) s
-less-fair name p s = go (eqb p 60 && stands (ascii "\\!--") s) refl (eqb p 60 && closes (ascii "\\/" ++ name) s) refl
-  where
-    go : (a : Bool) → eqb p 60 && stands (ascii "\\!--") s ≡ a → (b : Bool) → eqb p 60 && closes (ascii "\\/" ++ name) s ≡ b
-        → Fair Fifth (cond a (swap (ascii "\\!") (ascii "!")) (cond b (swap (ascii "\\/") (ascii "/")) (keepByte s))) s
-    go true f b g =
-        let (r, w) = stands-split (ascii "\\!--") s (and-right (eqb p 60) (stands (ascii "\\!--") s) (subst T (sym f) tt)) in
-        (leb→le 5 12 tt, ascii "--" ++ r, w, 1, refl)
-    go false f true g =
-        let (r, w) = closes-split name s (and-right (eqb p 60) (closes (ascii "\\/" ++ name) s) (subst T (sym g) tt)) in
-        (leb→le 5 12 tt, r, w, 1, refl)
-    go false f false g = byte-fair s
-
 less-goes : (name : List ℕ) (p x : ℕ) (xs : List ℕ) → Goes (afterLess name p (x ∷ xs))
 less-goes name p x xs = go (eqb p 60 && stands (ascii "\\!--") (x ∷ xs)) (eqb p 60 && closes (ascii "\\/" ++ name) (x ∷ xs))
   where
@@ -187,25 +196,6 @@ less-goes name p x xs = go (eqb p 60 && stands (ascii "\\!--") (x ∷ xs)) (eqb 
     go false true = tt
     go false false = tt
 
--- An escape's character is at most a fifth longer than it; it is shorter, in fact.
-abbrev shortRow : Row → Bool
-shortRow e = leb (5 * length (key e)) (6 * length (value e))
-
-escape-fair : (c : Context) (name : List ℕ) (p : ℕ) (s : List ℕ) → Fair Fifth (escapeBy name (rows c) p s) s
-escape-fair c name p s = go (rowAt value (rows c) s) refl
-  where
-    go : (o : Option Row) → rowAt value (rows c) s ≡ o → Fair Fifth (undo o (afterLess name p s)) s
-    go none f = less-fair name p s
-    go (some row) f =
-        let (i, t) = first-sound (λ (row : Row). stands (value row)) (rows c) s row f in
-        let (r, w) = stands-split (value row) s t in (
-          leb→le (5 * length (key row)) (6 * length (value row)) (all-in shortRow (rows c) (every (λ (c : Context). all shortRow (rows c)) tt c) row i),
-          r,
-          w,
-          pred (length (value row)),
-          row-length value (rows c) (replacedChars c) (values-code c) row i,
-        )
-
 escape-goes : (rs : List Row) (name : List ℕ) (p x : ℕ) (xs : List ℕ) → Goes (escapeBy name rs p (x ∷ xs))
 escape-goes rs name p x xs = go (rowAt value rs (x ∷ xs))
   where
@@ -213,11 +203,26 @@ escape-goes rs name p x xs = go (rowAt value rs (x ∷ xs))
     go none = less-goes name p x xs
     go (some row) = tt
 
+-- ---- what they replace grows by a fifth at most
+
+reference-fifth : (char : ℕ → Option (List ℕ)) → Short char → (body v : List ℕ) → meaning char body ≡ some v → Fifth (swap (ascii "&" ++ body ++ ascii ";") v)
+reference-fifth char short body v e = subst (λ (n : ℕ). 5 * length v ≤ 6 * n) long (meaning-short char short body v e)
+  where
+    long : length body + 2 ≡ length (ascii "&" ++ body ++ ascii ";")
+    long = rw (length-append body (ascii ";")) (omega arith)
+
+-- An escape's character is at most a fifth longer than it; it is shorter, in fact.
+abbrev shortRow : Row → Bool
+shortRow e = leb (5 * length (key e)) (6 * length (value e))
+
+row-fifth : (c : Context) (row : Row) → In row (rows c) → Fifth (swap (value row) (key row))
+row-fifth c row i = leb→le (5 * length (key row)) (6 * length (value row)) (all-in shortRow (rows c) (every (λ (c : Context). all shortRow (rows c)) tt c) row i)
+
 decode-fair : (c : Context) (p : ℕ) (s : List ℕ) → Fair Fifth (decodeStep c p s) s
 unfolding decodeStep referenceStep
-decode-fair (InHtml h) = reference-fair decodeChar decode-short
-decode-fair (InScript q) = escape-fair (InScript q) (ascii "script")
-decode-fair (InStyle q) = escape-fair (InStyle q) (ascii "style")
+decode-fair (InHtml h) = reference-fair Fifth kept-fifth decodeChar (reference-fifth decodeChar decode-short)
+decode-fair (InScript q) = escape-fair Fifth kept-fifth (leb→le 5 12 tt) (leb→le 5 12 tt) (InScript q) (row-fifth (InScript q)) (ascii "script")
+decode-fair (InStyle q) = escape-fair Fifth kept-fifth (leb→le 5 12 tt) (leb→le 5 12 tt) (InStyle q) (row-fifth (InStyle q)) (ascii "style")
 
 decode-goes : (c : Context) (p x : ℕ) (xs : List ℕ) → Goes (decodeStep c p (x ∷ xs))
 unfolding decodeStep referenceStep
@@ -230,7 +235,7 @@ decode-whole c = whole Fifth (decodeStep c) (decode-fair c) (decode-goes c)
 
 browse-fair : (p : ℕ) (s : List ℕ) → Fair Fifth (browseStep p s) s
 unfolding browseStep
-browse-fair = reference-fair browseChar browse-short
+browse-fair = reference-fair Fifth kept-fifth browseChar (reference-fifth browseChar browse-short)
 
 pub browse-whole : (s : List ℕ) → taken (through browseStep s) ≡ s
 unfolding browseStep
