@@ -17,7 +17,8 @@ use Rattle.rules.specs.declared.Context.{Context}
 use Rattle.rules.specs.declared.Operation.{Operation}
 use Rattle.rules.specs.declared.Operation.the-variants.{Encode, Decode, Read}
 use Rattle.rules.specs.declared.AnyContext.the-variants.{Units}
-use Rattle.rules.proofs.Calls.{passes, passed-view, TakesBack, read-back, decode-back, read-refuses, read-gives}
+use Rattle.rules.proofs.Calls.{passed-view}
+use Rattle.rules.proofs.Back.{passes, TakesBack, read-back, decode-back, read-refuses, read-gives}
 
 -- What view gives of a text, an answer and an output.
 abbrev pub Seen : List ℕ → Answer → List ℕ → List ℕ

@@ -1,36 +1,32 @@
--- The public calls: what the answer and the output have to do with each other, what read and decode give back of what encode wrote, and what read
--- refuses. A refusal's row says all of it; a call that passes leaves the result, or lends the text where nothing is replaced.
+-- The public calls: what the answer and the output have to do with each other. A refusal's row says all of it; a call that passes leaves the result,
+-- or lends the text where nothing is replaced.
 -- Assumes nothing.
-use mathlib.Core.Bool.{Bool, true, false, not, _&&_, cond}
+use mathlib.Core.Bool.{Bool, true, false, not, cond}
 use mathlib.Core.Logic.{_↔_}
-use mathlib.Core.Option.{none, some, Option·some-ne-none}
 use mathlib.Core.Path.{_≡_, refl, sym, ap, _∙_, subst}
 use mathlib.Core.List.{List, [], _∷_}
 use Prim.Native.Nat.{ℕ, _+_, _-_, _≤_, _<_}
-use native.Mathlib.Nat.{suc-ne-zero, not-suc-le-zero, le-trans}
+use native.Mathlib.Nat.{suc-ne-zero, not-suc-le-zero}
 use native.Mathlib.Omega.{arith}
 use borrow.Author.Tests.{eqb-true, eqb-false, eq-eqb, le-leb}
-use lib.Dec.{T, eqb, ltb, T-not}
+use lib.Dec.{T, eqb, T-not}
 use lib.ListN.{length as size, take, drop, length-append, length-drop}
 use lib.Seq.{take-append-seam, drop-append-seam}
 use Rattle.rules.specs.Bytes.{over}
-use Rattle.rules.specs.Moves.{Move, Rule, through, result, replaced, growth, shrinkage, taken, place}
-use Rattle.rules.specs.Utf8.{IsText, IsFree, validTo}
-use Rattle.rules.specs.Units.{IsForm, unread, undecoded}
-use Rattle.rules.specs.Reading.{readStep}
-use Rattle.rules.specs.Operations.{decodeStep, ruleOf, encodeOf, readOf}
-use Rattle.rules.specs.Refusals.{Call, Case, bad-context, too-long, not-utf8, not-a-form, lent, no-room, written, NoForm, Given, movesOf, movesIn, caseOf, sameOf, answer, answerAt, outAt, textLimit, judge, caseBy, call, answerOf, outOf, Allowed, viewOf}
+use Rattle.rules.specs.Moves.{Move, through, result, replaced, growth, shrinkage, taken, place}
+use Rattle.rules.specs.Utf8.{IsText, validTo}
+use Rattle.rules.specs.Operations.{ruleOf, encodeOf}
+use Rattle.rules.specs.Refusals.{Call, Case, bad-context, too-long, not-utf8, not-a-form, lent, no-room, written, Given, movesOf, movesIn, caseOf, sameOf, answer, answerAt, outAt, textLimit, call, answerOf, outOf, Allowed, viewOf}
 use Rattle.rules.specs.declared.Answer.{Answer}
-use Rattle.rules.specs.declared.Context.{Context}
 use Rattle.rules.specs.declared.Context.the-variants.{InHtml, InScript, InStyle}
 use Rattle.rules.specs.declared.Operation.{Operation}
 use Rattle.rules.specs.declared.Operation.the-variants.{Encode, Decode, Read, Browse}
 use Rattle.rules.specs.declared.AnyContext.{AnyContext}
 use Rattle.rules.specs.declared.AnyContext.the-variants.{Units, ScriptRaw, Unknown}
-use Rattle.rules.proofs.Machine.{same-result, taken-cut, result-cut, replaced-cut}
+use Rattle.rules.proofs.Machine.{same-result}
 use Rattle.rules.proofs.Growth.{encode-whole, raw-whole, balance}
 use Rattle.rules.proofs.Whole.{decode-whole, browse-whole}
-use Rattle.rules.proofs.Laws.{form-iff, form-within, form-free, form-encoded, read-whole, read-length, encode-form, encode-any, encode-read, form-text, read-encode, decode-encode, decode-moves}
+use Rattle.rules.proofs.Laws.{form-iff, form-free, read-whole, encode-any, form-text}
 use Rattle.rules.proofs.Valid.{valid-iff}
 use Rattle.rules.proofs.Texts.{decode-text, browse-text, raw-text}
 use Rattle.rules.proofs.Refused.{case-given, case-iff, case-taken}
@@ -38,11 +34,11 @@ use Rattle.rules.proofs.Refused.{case-given, case-iff, case-taken}
 add-back : (a b : ℕ) → (b < a → ⊥) → a + (b - a) ≡ b
 add-back a b h = omega arith
 
-not-below : (a b : ℕ) → (b < a → ⊥) → a ≤ b
+pub not-below : (a b : ℕ) → (b < a → ⊥) → a ≤ b
 not-below a b h = omega arith
 
 -- Two numbers that a test tells apart are not equal.
-numbers : (a b : ℕ) → a ≡ b → T (not (eqb a b)) → ⊥
+pub numbers : (a b : ℕ) → a ≡ b → T (not (eqb a b)) → ⊥
 numbers a b e t = T-not (eqb a b) t (eq-true (eq-eqb a b e))
   where
     eq-true : {x : Bool} → x ≡ true → T x
@@ -205,60 +201,10 @@ room-needed o n borrows t out other e = (
     over-long : (a b : ℕ) → a ≤ b → b < a → ⊥
     over-long a b h q = omega arith
 
--- ---- what read and decode give back
-
--- A call passes where the table has nothing against it.
-pub passes : (o : Operation) (n : AnyContext) (borrows : Bool) (t out : List ℕ) → (ruleOf o n ≡ none → ⊥) → size t ≤ textLimit → IsText t → (NoForm o n t → ⊥)
-    → size (result (movesIn (call o n borrows t out))) ≤ size out → answerOf o n borrows t out .status ≡ 0
-passes o n borrows t out known short text form room = go (caseOf (call o n borrows t out)) (case-given (call o n borrows t out))
-  where
-    over-long : (a b : ℕ) → a ≤ b → b < a → ⊥
-    over-long a b h q = omega arith
-
-    go : (row : Case) → Given (call o n borrows t out) row → answerAt row t (movesIn (call o n borrows t out)) .status ≡ 0
-    go bad-context h = absurd (known (h .0))
-    go too-long h = absurd (over-long (size t) textLimit short (h .0))
-    go not-utf8 h = absurd (h .0 text)
-    go not-a-form h = absurd (form (h .0))
-    go lent h = refl
-    go no-room h = absurd (over-long (size (result (movesIn (call o n borrows t out)))) (size out) room (h .0))
-    go written h = refl
-
--- An operation takes a text from what was written: the call passes, and view gives that text.
-pub record TakesBack (o : Operation) (c : Context) (borrows : Bool) (form t out : List ℕ) : Type 0 where
-  pub status : answerOf o (Units c) borrows form out .status ≡ 0
-  pub view : viewOf form (outOf o (Units c) borrows form out) (answerOf o (Units c) borrows form out .same) (answerOf o (Units c) borrows form out .length) ≡ t
-
-module _ (c : Context) (borrows : Bool) (t out : List ℕ) where
-  some-rule : {r : Rule} → some r ≡ none → ⊥
-  some-rule {r} e = Option·some-ne-none r e
-
-  takes-back : (o : Operation) → (ruleOf o (Units c) ≡ none → ⊥) → IsText (encodeOf c t) → (NoForm o (Units c) (encodeOf c t) → ⊥)
-      → result (movesIn (call o (Units c) borrows (encodeOf c t) out)) ≡ t
-      → size (encodeOf c t) ≤ textLimit → size t ≤ size out → TakesBack o c borrows (encodeOf c t) t out
-  takes-back o known text form back short room =
-      let st = passes o (Units c) borrows (encodeOf c t) out known short text form (subst (λ (l : List ℕ). size l ≤ size out) (sym back) room) in
-      record { status = st; view = passed o (Units c) borrows (encodeOf c t) out st .view ∙ back }
-
-  -- What encode wrote is what read takes back, where it is within the limit of a text and the output has room.
-  pub read-back : IsFree (unread c) t → size (encodeOf c t) ≤ textLimit → size t ≤ size out → TakesBack Read c borrows (encodeOf c t) t out
-  read-back f = takes-back Read some-rule (form-text c (encodeOf c t) (encode-form c t f)) (λ no. no (encode-form c t f)) (read-encode c t f)
-
-  -- And it is what decode takes back, but for the stated exceptions.
-  pub decode-back : IsFree (undecoded c) t → size (encodeOf c t) ≤ textLimit → size t ≤ size out → TakesBack Decode c borrows (encodeOf c t) t out
-  decode-back f = let (cs, h, b, e) = f in
-      takes-back Decode some-rule (form-text c (encodeOf c t) (encode-any c t (cs, h, e))) (λ no. no) (decode-encode c t f)
-
-  -- Where the limit bites: what encode wrote is too long to be read or decoded, and is refused as such, not as no form.
-  pub back-long : (o : Operation) → (ruleOf o (Units c) ≡ none → ⊥) → textLimit < size (encodeOf c t) → answerOf o (Units c) borrows (encodeOf c t) out ≡ answer 1 0 0 0
-  back-long o known long =
-      ap (λ (row : Case). answerAt row (encodeOf c t) (movesIn (call o (Units c) borrows (encodeOf c t) out)))
-      (case-iff (call o (Units c) borrows (encodeOf c t) out) too-long .1 (long, (known, tt)))
-
 -- ---- a call that passes
 
 -- Its text is valid, and within the limit.
-passed-given : (o : Operation) (n : AnyContext) (borrows : Bool) (t out : List ℕ) → answerOf o n borrows t out .status ≡ 0 → IsText t × (size t ≤ textLimit)
+pub passed-given : (o : Operation) (n : AnyContext) (borrows : Bool) (t out : List ℕ) → answerOf o n borrows t out .status ≡ 0 → IsText t × (size t ≤ textLimit)
 passed-given o n borrows t out = go (caseOf (call o n borrows t out)) (case-given (call o n borrows t out))
   where
     valid : ((IsText t → ⊥) → ⊥) → IsText t
@@ -308,97 +254,6 @@ module _ (o : Operation) (n : AnyContext) (borrows : Bool) (t out : List ℕ) (a
   passed-text e =
       subst IsText (sym (passed-view e))
       (result-text o n t (passed-given o n borrows t out (status-allowed e) .0) (passed o n borrows t out (status-allowed e) .whole))
-
--- ---- what read refuses, and what it gives
-
-module _ (c : Context) (borrows : Bool) (s out : List ℕ) where
-  abbrev asked : Call
-  asked = call Read (Units c) borrows s out
-
-  -- Only the row of forms has status 4.
-  row-form : (row : Case) → answerAt row s (movesIn asked) .status ≡ 4 → row ≡ not-a-form
-  row-form bad-context e = absurd (numbers 5 4 e tt)
-  row-form too-long e = absurd (numbers 1 4 e tt)
-  row-form not-utf8 e = absurd (numbers 2 4 e tt)
-  row-form not-a-form e = refl
-  row-form lent e = absurd (numbers 0 4 e tt)
-  row-form no-room e = absurd (numbers 3 4 e tt)
-  row-form written e = absurd (numbers 0 4 e tt)
-
-  -- What read makes of a form is a text within the limit that encodes to the form.
-  encodes : IsForm c s → size s ≤ textLimit → IsFree (unread c) (readOf c s) × (size (readOf c s) ≤ textLimit) × (encodeOf c (readOf c s) ≡ s)
-  encodes f short = (form-free c s f, le-trans (read-length c s) (le-trans (form-within c s) short), encode-read c s f)
-
-  -- read refuses for form exactly if no text of at most 65,536 bytes encodes to the string, which is itself a text of at most 65,536 bytes.
-  pub read-refuses : (a : Answer) (o : List ℕ) → Allowed Read (Units c) borrows s out a o → size s ≤ textLimit → IsText s
-      → (a .status ≡ 4) ↔ ((x : List ℕ) → IsText x → size x ≤ textLimit → s ≡ encodeOf c x → ⊥)
-  read-refuses a o allowed short text = (
-    λ e x t l w. case-iff asked not-a-form .0 (row-form (caseOf asked) (status-allowed Read (Units c) borrows s out a o allowed e)) .0 (form-encoded c s .1 (x, t, w)),
-    λ no-text. ap (λ (x : Answer). x .status) (allowed .0) ∙ ap (λ (row : Case). answerAt row s (movesIn asked) .status)
-        (case-iff asked not-a-form .1 (no-form no-text, ((λ e. Option·some-ne-none _ e), ((λ h. over-long _ _ short h), ((λ h. h text), tt))))),
-  )
-    where
-      over-long : (a b : ℕ) → a ≤ b → b < a → ⊥
-      over-long a b h q = omega arith
-
-      no-form : ((x : List ℕ) → IsText x → size x ≤ textLimit → s ≡ encodeOf c x → ⊥) → IsForm c s → ⊥
-      no-form no-text f = let ((cs, h, b, e), l, w) = encodes f short in no-text (readOf c s) (cs, h, e) l (sym w)
-
-  -- Where read passes, view gives a text of at most 65,536 bytes, free of the characters that no form stands for, that encodes to the string.
-  pub read-gives : (a : Answer) (o : List ℕ) → Allowed Read (Units c) borrows s out a o → a .status ≡ 0
-      → IsFree (unread c) (viewOf s o (a .same) (a .length)) × (size (viewOf s o (a .same) (a .length)) ≤ textLimit) × (encodeOf c (viewOf s o (a .same) (a .length)) ≡ s)
-  read-gives a o allowed fine =
-      let st = status-allowed Read (Units c) borrows s out a o allowed fine in
-      let form = form-iff c s .1 (ap size (passed Read (Units c) borrows s out st .whole)) in
-      subst (λ (l : List ℕ). IsFree (unread c) l × (size l ≤ textLimit) × (encodeOf c l ≡ s)) (sym (passed-view Read (Units c) borrows s out a o allowed fine))
-      (encodes form (passed-given Read (Units c) borrows s out st .1))
-
--- ---- decode and read agree
-
--- Moves that end at the same place, replace as many places and give the same have the same answer and leave the same output.
-module _ (borrows : Bool) (t out : List ℕ) (ms ns : List Move) (p : place ms ≡ place ns) (q : replaced ms ≡ replaced ns) (e : result ms ≡ result ns) where
-  abbrev judged : List Move → Case
-  judged ms = judge borrows textLimit t ms (size out)
-
-  same-case : judged ms ≡ judged ns
-  same-case =
-      λ i. cond (ltb textLimit (size t)) too-long
-      (cond (ltb (validTo t) (size t)) not-utf8
-      (cond (ltb (p i) (size t)) not-a-form (cond (borrows && eqb (q i) 0) lent (cond (ltb (size out) (size (e i))) no-room written))))
-
-  same-answer : (row : Case) → answerAt row t ms ≡ answerAt row t ns
-  same-answer bad-context = refl
-  same-answer too-long = refl
-  same-answer not-utf8 = refl
-  same-answer not-a-form = λ i. answer 4 0 0 (p i)
-  same-answer lent = λ i. answer 0 (size (e i)) 1 0
-  same-answer no-room = λ i. answer 3 (size (e i)) 0 0
-  same-answer written = λ i. answer 0 (size (e i)) (cond (eqb (q i) 0) 1 0) 0
-
-  same-out : (row : Case) → outAt row ms out ≡ outAt row ns out
-  same-out bad-context = refl
-  same-out too-long = refl
-  same-out not-utf8 = refl
-  same-out not-a-form = refl
-  same-out lent = refl
-  same-out no-room = refl
-  same-out written = λ i. over (e i) out
-
-  alike : (answerAt (judged ms) t ms ≡ answerAt (judged ns) t ns) × (outAt (judged ms) ms out ≡ outAt (judged ns) ns out)
-  alike = (
-    ap (λ (row : Case). answerAt row t ms) same-case ∙ same-answer (judged ns),
-    ap (λ (row : Case). outAt row ms out) same-case ∙ same-out (judged ns),
-  )
-
--- On a form of a text that decode gives back, decode and read agree in the whole answer and the whole output.
-pub decode-as-read : (c : Context) (borrows : Bool) (s out : List ℕ) → IsForm c s → IsFree (undecoded c) (readOf c s)
-    → (answerOf Decode (Units c) borrows s out ≡ answerOf Read (Units c) borrows s out) × (outOf Decode (Units c) borrows s out ≡ outOf Read (Units c) borrows s out)
-unfolding caseBy
-decode-as-read c borrows s out form free =
-    let m = decode-moves c s form free in
-    let ms = through (readStep c) s in
-    alike borrows s out (through (decodeStep c) s) ms
-    (ap place m ∙ ap size (taken-cut ms)) (ap replaced m ∙ replaced-cut ms) (ap result m ∙ result-cut ms)
 
 -- ---- a contract allows one result
 

@@ -17,6 +17,7 @@ pub mod Texts
 pub mod Laws
 pub mod Refused
 pub mod Calls
+pub mod Back
 pub mod Entity
 pub mod Examples
 pub mod Loops

@@ -95,7 +95,7 @@ ends-append [] y t = t
 ends-append (x ∷ []) y t = t
 ends-append (x ∷ z ∷ b) y t = ends-append (z ∷ b) y t
 
--- After bytes that end with ASCII, where they do not start in the middle of more than the character whose rest is ys, a text goes on.
+-- Where a and r are the rest ys of a character and then whole characters, and a ends with ASCII, r is a text.
 after : (a r ys : List ℕ) (cs : List (List ℕ)) → T (endsAscii a) → T (all isTail ys) → All IsChar cs → a ++ r ≡ ys ++ join cs → IsText r
 after [] r ys cs t y h e = absurd t
 after (x ∷ []) r (z ∷ zs) cs t y h e =

@@ -26,11 +26,11 @@ bodyOf (b ∷ s) = cond (is ";" b) (some []) (cond (is "&" b) none (onto b (body
 
 -- ---- numbers
 
--- A digit.
+-- The value of a digit.
 abbrev pub digit : ℕ → Option ℕ
 digit b = cond (between "0" "9" b) (some (b - 48)) none
 
--- A hex digit of either letter case.
+-- The value of a hex digit of either letter case.
 abbrev pub hexDigitAt : ℕ → Option ℕ
 hexDigitAt b = cond (between "A" "F" b) (some (b - 55)) (cond (between "a" "f" b) (some (b - 87)) (digit b))
 
@@ -89,7 +89,7 @@ abbrev pub atAmp : (ℕ → Option (List ℕ)) → Option (List ℕ) → Move
 atAmp char none = keep (ascii "&")
 atAmp char (some body) = refer body (meaning char body)
 
--- Any other byte is kept.
+-- The rule: an `&` begins a reference; any other byte is kept.
 abbrev pub referenceBy : (ℕ → Option (List ℕ)) → Rule
 referenceBy char prev [] = stop
 referenceBy char prev (b ∷ s) = cond (is "&" b) (atAmp char (bodyOf s)) (keep (b ∷ []))
