@@ -1,17 +1,19 @@
 -- Bodies: where one ends by the places of the text, and what follows its `#`.
 -- Assumes nothing.
-use mathlib.Core.Bool.{false}
 use mathlib.Core.Logic.{_⊎_, inl, inr}
 use mathlib.Core.Option.{Option, none, some}
-use mathlib.Core.Path.{_≡_, refl, ap, _∙_}
+use mathlib.Core.Path.{_≡_, refl, sym, ap, _∙_}
 use mathlib.Core.List.{List, [], _∷_, _++_, append-nil}
 use Prim.Native.Nat.{ℕ, zero, suc, _+_, _-_, _≤_, _<_}
 use native.Mathlib.Omega.{arith}
 use borrow.Author.Tests.{ne-eqb}
 use lib.ListN.{length, take, drop, getD, drop-of-length-le}
-use Rattle.rules.specs.References.{bodyOf, bodyWith, digit, hexDigitAt, number, numberOf}
+use Rattle.rules.specs.Names.{names}
+use Rattle.rules.specs.References.{onto, bodyOf, digit, hexDigitAt, number, numberOf, meaning, lookup}
 use Rattle.rules.proofs.Loops.{drop-next}
+use Rattle.rules.proofs.Names.{hash-unnamed}
 use Rattle.base.specs.Places.{Absent}
+use Rattle.decode_html.specs.Taking.{charOf}
 use Rattle.decode_html.specs.Bodies.{Ends}
 
 -- ---- where a body ends
@@ -21,7 +23,7 @@ abbrev ahead : List ℕ → Option (List ℕ) → Option (List ℕ)
 ahead w none = none
 ahead w (some body) = some (w ++ body)
 
-ahead-byte : (b : ℕ) (w : List ℕ) (o : Option (List ℕ)) → bodyWith false false b (ahead w o) ≡ ahead (b ∷ w) o
+ahead-byte : (b : ℕ) (w : List ℕ) (o : Option (List ℕ)) → onto b (ahead w o) ≡ ahead (b ∷ w) o
 ahead-byte b w none = refl
 ahead-byte b w (some body) = refl
 
@@ -67,15 +69,21 @@ module _ (t : List ℕ) where
 
 -- ---- what follows `#`
 
-pub number-empty : (s : List ℕ) → length s ≡ 0 → numberOf s ≡ none
-number-empty [] e = refl
-number-empty (b ∷ s) e = absurd (omega arith)
+module _ (char : ℕ → Option (List ℕ)) where
+  -- No name begins with `#`, so such a body stands for the character of its number, or for nothing.
+  hashed : (s : List ℕ) (o : Option ℕ) → numberOf (35 ∷ s) ≡ o → meaning char (35 ∷ s) ≡ charOf char o
+  hashed s none e = ap (λ (o : Option ℕ). elim o [ some n ↦ char n | none ↦ lookup names (35 ∷ s) ]) e ∙ hash-unnamed s
+  hashed s (some n) e = ap (λ (o : Option ℕ). elim o [ some n ↦ char n | none ↦ lookup names (35 ∷ s) ]) e
 
-pub number-hex : (s : List ℕ) → (length s ≡ 0 → ⊥) → (getD s 0 0 ≡ 120) ⊎ (getD s 0 0 ≡ 88) → numberOf s ≡ number hexDigitAt 16 (drop 1 s)
-number-hex [] h e = absurd (h refl)
-number-hex (b ∷ s) h (inl e) = rw e
-number-hex (b ∷ s) h (inr e) = rw e
+  pub number-empty : (s : List ℕ) → length s ≡ 0 → meaning char (35 ∷ s) ≡ none
+  number-empty [] e = hashed [] none refl
+  number-empty (b ∷ s) e = absurd (omega arith)
 
-pub number-decimal : (s : List ℕ) → (length s ≡ 0 → ⊥) → (getD s 0 0 ≡ 120 → ⊥) → (getD s 0 0 ≡ 88 → ⊥) → numberOf s ≡ number digit 10 s
-number-decimal [] h e f = absurd (h refl)
-number-decimal (b ∷ s) h e f = rw (ne-eqb b 120 e, ne-eqb b 88 f)
+  pub number-hex : (s : List ℕ) → (length s ≡ 0 → ⊥) → (getD s 0 0 ≡ 120) ⊎ (getD s 0 0 ≡ 88) → meaning char (35 ∷ s) ≡ charOf char (number hexDigitAt 16 (drop 1 s))
+  number-hex [] h e = absurd (h refl)
+  number-hex (b ∷ s) h (inl e) = hashed (b ∷ s) (number hexDigitAt 16 s) (rw e)
+  number-hex (b ∷ s) h (inr e) = hashed (b ∷ s) (number hexDigitAt 16 s) (rw e)
+
+  pub number-decimal : (s : List ℕ) → (length s ≡ 0 → ⊥) → (getD s 0 0 ≡ 120 → ⊥) → (getD s 0 0 ≡ 88 → ⊥) → meaning char (35 ∷ s) ≡ charOf char (number digit 10 s)
+  number-decimal [] h e f = absurd (h refl)
+  number-decimal (b ∷ s) h e f = hashed (b ∷ s) (number digit 10 (b ∷ s)) (rw (ne-eqb 120 b (λ q. e (sym q)), ne-eqb 88 b (λ q. f (sym q))))

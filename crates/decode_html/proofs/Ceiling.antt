@@ -13,12 +13,12 @@ use borrow.Author.Tests.{leb-true, leb-false, lt-ltb, le-ltb, lt-leb}
 use lib.Dec.{leb}
 use lib.ListN.{length, drop, getD, drop-of-length-le}
 use Rattle.rules.specs.Bytes.{inside}
-use Rattle.rules.specs.References.{digit, hexDigitAt, digits, number, scalar, charOf}
+use Rattle.rules.specs.References.{digit, hexDigitAt, digits, number, scalar}
 use Rattle.rules.proofs.Loops.{drop-next}
 use Rattle.decode_html.specs.declared.Numbers.{Numbers}
 use Rattle.decode_html.specs.declared.Numbers.the-variants.{Decoded, Browsed}
 use Rattle.decode_html.specs.declared.digits.Number.{Number}
-use Rattle.decode_html.specs.Taking.{charBy}
+use Rattle.decode_html.specs.Taking.{charBy, charOf}
 use Rattle.base.specs.Digits.{below}
 use Rattle.decode_html.specs.Digits.{digitBy, ceilingOf, capped, found}
 

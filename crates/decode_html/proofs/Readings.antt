@@ -1,7 +1,7 @@
 -- What the reference reader finds is the move there: at an `&`, by where the body ends and what it stands for.
 -- Assumes nothing.
 use mathlib.Core.Bool.{Bool, true, false}
-use mathlib.Core.Option.{Option, none}
+use mathlib.Core.Option.{Option, none, some}
 use mathlib.Core.Path.{_≡_, refl, sym, ap, _∙_}
 use mathlib.Core.List.{List, [], _∷_, _++_}
 use Prim.Native.Nat.{ℕ, zero, suc, _+_, _-_, _/_, _≤_, _<_}
@@ -14,7 +14,7 @@ use lib.Seq.{take-suc, getD-drop}
 use Rattle.rules.specs.Bytes.{all}
 use Rattle.rules.specs.Moves.{keep}
 use Rattle.rules.specs.Names.{names}
-use Rattle.rules.specs.References.{bodyOf, decodeChar, browseChar, numberOf, charOf, lookup, meaning, onMeaning, onBody, referenceStep, browseStep}
+use Rattle.rules.specs.References.{bodyOf, decodeChar, browseChar, numberOf, lookup, meaning, refer, atAmp, referenceStep, browseStep}
 use Rattle.rules.specs.Utf8.{utf8}
 use Rattle.rules.specs.Tables.{Row, value}
 use Rattle.rules.specs.Answers.{meaningBytes}
@@ -26,7 +26,7 @@ use Rattle.rules.specs.declared.Reference.the-variants.{Found, Nothing}
 use Rattle.rules.proofs.Loops.{drop-next}
 use Rattle.rules.proofs.Decoder.{reference-quiet}
 use Rattle.rules.proofs.Tests.{all-in}
-use Rattle.rules.proofs.Names.{looked-up}
+use Rattle.rules.proofs.Names.{looked-up, empty-unnamed}
 use Rattle.base.proofs.Part.{part-at}
 use Rattle.decode_html.specs.declared.Numbers.{Numbers}
 use Rattle.decode_html.specs.declared.Numbers.the-variants.{Decoded, Browsed}
@@ -35,7 +35,7 @@ use Rattle.decode_html.specs.Bodies.{Ends}
 
 -- ---- the rule at a byte
 
-step-at : (numbers : Numbers) (p : ℕ) (s : List ℕ) → stepBy numbers p (38 ∷ s) ≡ onBody (charBy numbers) true (bodyOf s) 38
+step-at : (numbers : Numbers) (p : ℕ) (s : List ℕ) → stepBy numbers p (38 ∷ s) ≡ atAmp (charBy numbers) (bodyOf s)
 unfolding referenceStep browseStep
 step-at Decoded p s = refl
 step-at Browsed p s = refl
@@ -60,7 +60,7 @@ module _ (numbers : Numbers) (t : List ℕ) (i : ℕ) (inside : i < length t) (a
   -- There is no body.
   pub reads-nobody : bodyOf (drop (i + 1) t) ≡ none → Reads numbers t i Nothing
   reads-nobody e = record {
-    move = λ p. rw starts (sym (step-at numbers p (drop (i + 1) t) ∙ ap (λ (o : Option (List ℕ)). onBody (charBy numbers) true o 38) e));
+    move = λ p. rw starts (sym (step-at numbers p (drop (i + 1) t) ∙ ap (atAmp (charBy numbers)) e));
     lies = tt;
   }
 
@@ -69,11 +69,11 @@ module _ (numbers : Numbers) (t : List ℕ) (i : ℕ) (inside : i < length t) (a
   reads-amp l e = reads-nobody (rw (drop-next t (i + 1) l, e))
 
   pub reads-empty : i + 1 < length t → getD t (i + 1) 0 ≡ 59 → Reads numbers t i Nothing
-  reads-empty l e = record { move = λ p. rw starts (sym (step-at numbers p (drop (i + 1) t) ∙ rw (drop-next t (i + 1) l, e))); lies = tt }
+  reads-empty l e = record { move = λ p. rw starts (sym (step-at numbers p (drop (i + 1) t) ∙ rw (drop-next t (i + 1) l, e) (ap (refer []) empty-unnamed))); lies = tt }
 
   module _ (r : ℕ) (end : Ends t (i + 1) r) (before : r < length t) where
-    at-meaning : (p : ℕ) → stepBy numbers p (38 ∷ drop (i + 1) t) ≡ onMeaning (meaning (charBy numbers) (take (r - (i + 1)) (drop (i + 1) t))) 38 (take (r - (i + 1)) (drop (i + 1) t))
-    at-meaning p = step-at numbers p (drop (i + 1) t) ∙ ap (λ (o : Option (List ℕ)). onBody (charBy numbers) true o 38) (end .body before .1)
+    at-meaning : (p : ℕ) → stepBy numbers p (38 ∷ drop (i + 1) t) ≡ refer (take (r - (i + 1)) (drop (i + 1) t)) (meaning (charBy numbers) (take (r - (i + 1)) (drop (i + 1) t)))
+    at-meaning p = step-at numbers p (drop (i + 1) t) ∙ ap (atAmp (charBy numbers)) (end .body before .1)
 
     -- The bytes from the `&` to the `;`.
     taken : take (r + 1 - i) (drop i t) ≡ 38 ∷ (take (r - (i + 1)) (drop (i + 1) t) ++ (59 ∷ []))
@@ -87,9 +87,9 @@ module _ (numbers : Numbers) (t : List ℕ) (i : ℕ) (inside : i < length t) (a
 
     -- The reference that the body's meaning makes is the move.
     reads-meaning : (m : Meaning) → meaningBytes m ≡ meaning (charBy numbers) (take (r - (i + 1)) (drop (i + 1) t)) → RealMeaning m → Reads numbers t i (answer i r m)
-    reads-meaning m e real = go m (λ p. at-meaning p ∙ ap (λ (o : Option (List ℕ)). onMeaning o 38 (take (r - (i + 1)) (drop (i + 1) t))) (sym e)) real
+    reads-meaning m e real = go m (λ p. at-meaning p ∙ ap (refer (take (r - (i + 1)) (drop (i + 1) t))) (sym e)) real
       where
-        go : (m : Meaning) → ((p : ℕ) → stepBy numbers p (38 ∷ drop (i + 1) t) ≡ onMeaning (meaningBytes m) 38 (take (r - (i + 1)) (drop (i + 1) t))) → RealMeaning m → Reads numbers t i (answer i r m)
+        go : (m : Meaning) → ((p : ℕ) → stepBy numbers p (38 ∷ drop (i + 1) t) ≡ refer (take (r - (i + 1)) (drop (i + 1) t)) (meaningBytes m)) → RealMeaning m → Reads numbers t i (answer i r m)
         go NoMeaning f real = record { move = λ p. rw starts (sym (f p)); lies = tt }
         go (Value v) f real = record {
           move = λ p. rw taken (rw starts (sym (f p)));
@@ -112,7 +112,7 @@ number-ends t a r l e end =
     }
 
 number-meaning : (char : ℕ → Option (List ℕ)) (t : List ℕ) (a r : ℕ) → a < r → a < length t → getD t a 0 ≡ 35
-    → meaning char (take (r - a) (drop a t)) ≡ charOf char (numberOf (take (r - (a + 1)) (drop (a + 1) t)))
+    → meaning char (take (r - a) (drop a t)) ≡ meaning char (35 ∷ take (r - (a + 1)) (drop (a + 1) t))
 number-meaning char t a r h l e =
     let n : r - a ≡ suc (r - (a + 1)) = omega arith in
     let d : drop a t ≡ 35 ∷ drop (a + 1) t = drop-next t a l ∙ rw e in
@@ -128,7 +128,7 @@ module _ (numbers : Numbers) (t : List ℕ) (i r : ℕ) (inside : i + 1 < length
   pub number-nobody : r ≡ length t → Reads numbers t i Nothing
   number-nobody e = reads-nobody numbers t i (omega arith) amp (number-end .nobody e)
 
-  pub number-reads : r < length t → (m : Meaning) → meaningBytes m ≡ charOf (charBy numbers) (numberOf (take (r - (i + 2)) (drop (i + 2) t))) → RealMeaning m
+  pub number-reads : r < length t → (m : Meaning) → meaningBytes m ≡ meaning (charBy numbers) (35 ∷ take (r - (i + 2)) (drop (i + 2) t)) → RealMeaning m
       → Reads numbers t i (answer i r m)
   number-reads l m e real =
       let h : i + 2 ≤ r = end .after in
@@ -145,10 +145,12 @@ name-first t a r h = go (r - a) refl
         let z : a + 0 ≡ a = omega arith in
         h (sym (rw (e, z) at (part-at t a r 0 (omega arith))) ∙ q)
 
+no-number : (s : List ℕ) → (getD s 0 0 ≡ 35 → ⊥) → numberOf s ≡ none
+no-number [] h = refl
+no-number (b ∷ s) h = rw (ne-eqb 35 b (λ e. h (sym e)), numberOf)
+
 not-number : (char : ℕ → Option (List ℕ)) (s : List ℕ) → (getD s 0 0 ≡ 35 → ⊥) → meaning char s ≡ lookup names s
-unfolding names
-not-number char [] h = refl
-not-number char (b ∷ s) h = rw (ne-eqb b 35 h)
+not-number char s h = ap (λ (o : Option ℕ). elim o [ some n ↦ char n | none ↦ lookup names s ]) (no-number s h)
 
 name-meaning : (char : ℕ → Option (List ℕ)) (t : List ℕ) (a r : ℕ) → (getD t a 0 ≡ 35 → ⊥)
     → meaning char (take (r - a) (drop a t)) ≡ lookup names (take (r - a) (drop a t))

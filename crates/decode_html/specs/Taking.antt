@@ -1,6 +1,6 @@
 -- The two ways to take a number, and what the readers find.
 -- Assumes nothing.
-use mathlib.Core.Option.{Option}
+use mathlib.Core.Option.{Option, none, some}
 use mathlib.Core.Path.{_≡_}
 use mathlib.Core.List.{List}
 use Prim.Native.Nat.{ℕ, _≤_, _<_}
@@ -21,6 +21,11 @@ use Rattle.decode_html.specs.declared.Numbers.the-variants.{Decoded, Bro
 abbrev pub charBy : Numbers → ℕ → Option (List ℕ)
 charBy Decoded = decodeChar
 charBy Browsed = browseChar
+
+-- The character of a number, if there is a number and it has one.
+abbrev pub charOf : (ℕ → Option (List ℕ)) → Option ℕ → Option (List ℕ)
+charOf char none = none
+charOf char (some n) = char n
 
 -- The rule.
 abbrev pub stepBy : Numbers → Rule

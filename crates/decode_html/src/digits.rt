@@ -5,9 +5,9 @@ ghost use mathlib.Core.Path.{_≡_};
 ghost use mathlib.Core.List.{[], _∷_};
 ghost use lib.Dec.{leb};
 ghost use Rattle.rules.specs.Bytes.{oneOf};
-ghost use Rattle.rules.specs.References.{digit, hexDigitAt, number, numberOf, scalar, decodeChar, browseChar, charOf};
+ghost use Rattle.rules.specs.References.{digit, hexDigitAt, number, scalar, decodeChar, browseChar, meaning};
 ghost use Rattle.rules.specs.Answers.{meaningBytes};
-ghost use Rattle.decode_html.specs.Taking.{charBy, RealMeaning};
+ghost use Rattle.decode_html.specs.Taking.{charBy, charOf, RealMeaning};
 ghost use Rattle.decode_html.specs.Digits.{digitBy, ceilingOf, found, capped};
 use crate::Numbers;
 use rules::DecodedEntityValue;
@@ -138,7 +138,7 @@ fn decode_hex_entity(numbers: Numbers, digits: &[u8]) -> Meaning
 
 // What a body stands for from after its `#` on.
 pub fn decode_number(numbers: Numbers, body: &[u8]) -> Meaning
-    ensures { λ r. ⌜ (meaningBytes r ≡ charOf (charBy numbers) (numberOf (now (body .entry)))) × RealMeaning r ⌝ }
+    ensures { λ r. ⌜ (meaningBytes r ≡ meaning (charBy numbers) (35 ∷ now (body .entry))) × RealMeaning r ⌝ }
 {
     if body.len() == 0 {
         return Meaning::Nothing;

@@ -2,7 +2,7 @@
 -- Assumes nothing.
 use mathlib.Core.Bool.{Bool, true, false, not, _&&_, _||_, cond}
 use mathlib.Core.Logic.{_⊎_, inl, inr}
-use mathlib.Core.Option.{Option, none, some, Option·none-ne-some, Option·some-injective}
+use mathlib.Core.Option.{Option, none, some, Option·none-ne-some}
 use mathlib.Core.Path.{_≡_, refl, sym, ap, _∙_, subst}
 use mathlib.Core.List.{List, [], _∷_, _++_, map, append-assoc}
 use Prim.Native.Nat.{ℕ, pred}
@@ -18,7 +18,7 @@ use Rattle.rules.specs.Units.{IsUnit}
 use Rattle.rules.specs.Encoding.{closes, anyCase, terminators}
 use Rattle.rules.specs.Reading.{undo}
 use Rattle.rules.specs.Names.{names}
-use Rattle.rules.specs.References.{bodyWith, bodyOf, meaning, onMeaning, onBody, referenceBy, decodeChar, referenceStep}
+use Rattle.rules.specs.References.{onto, bodyOf, meaning, refer, atAmp, referenceBy, decodeChar, referenceStep}
 use Rattle.rules.specs.Escapes.{afterLess, escapeBy}
 use Rattle.rules.specs.Operations.{decodeStep, decodeOf}
 use Rattle.rules.proofs.Tests.{and-left, and-right, and-both, or-cases, or-false, is-false, all-in, first-none, same-bytes, same-in, in-append}
@@ -44,7 +44,7 @@ begins-first b [] x s t h = absurd t
 begins-first b (y ∷ v) x s t h = subst (λ (z : ℕ). T (eqb z b)) (eqb→eq y x (and-left (eqb y x) (stands v s) h)) t
 
 pub reference-quiet : (char : ℕ → Option (List ℕ)) (p x : ℕ) (s : List ℕ) → (T (eqb x 38) → ⊥) → referenceBy char p (x ∷ s) ≡ keep (x ∷ [])
-reference-quiet char p x s h = ap (λ (b : Bool). onBody char b (bodyOf s) x) (is-false (eqb x 38) h)
+reference-quiet char p x s h = ap (λ (b : Bool). cond b (atAmp char (bodyOf s)) (keep (x ∷ []))) (is-false (eqb x 38) h)
 
 escape-quiet : (name : List ℕ) (rs : List Row) → T (all (λ (e : Row). begins 92 (value e)) rs) → (p x : ℕ) (s : List ℕ) → (T (eqb x 92) → ⊥)
     → escapeBy name rs p (x ∷ s) ≡ keep (x ∷ [])
@@ -82,11 +82,11 @@ body-append [] r b e = absurd (Option·none-ne-some b e)
 body-append (x ∷ xs) r b e = go (eqb x 59) (eqb x 38) (bodyOf xs) refl (λ b. body-append xs r b) e
   where
     go : (p q : Bool) (o : Option (List ℕ)) → bodyOf xs ≡ o → ((b : List ℕ) → bodyOf xs ≡ some b → bodyOf (xs ++ r) ≡ some b)
-        → bodyWith p q x o ≡ some b → bodyWith p q x (bodyOf (xs ++ r)) ≡ some b
+        → cond p (some []) (cond q none (onto x o)) ≡ some b → cond p (some []) (cond q none (onto x (bodyOf (xs ++ r)))) ≡ some b
     go true q o f ih e = e
     go false true o f ih e = e
     go false false none f ih e = absurd (Option·none-ne-some b e)
-    go false false (some b′) f ih e = ap (bodyWith false false x) (ih b′ f) ∙ e
+    go false false (some b′) f ih e = ap (onto x) (ih b′ f) ∙ e
 
 -- The move undoes the row.
 abbrev undoes : Move → Row → Bool
@@ -105,10 +105,11 @@ unfolding referenceStep
 reference-append p [] r e t = absurd t
 reference-append p (x ∷ xs) r e t = go (eqb x 38) (bodyOf xs) refl t ∙ undoes-row (referenceStep 0 (x ∷ xs)) e t
   where
-    go : (b : Bool) (o : Option (List ℕ)) → bodyOf xs ≡ o → T (undoes (onBody decodeChar b o x) e) → onBody decodeChar b (bodyOf (xs ++ r)) x ≡ onBody decodeChar b o x
+    go : (b : Bool) (o : Option (List ℕ)) → bodyOf xs ≡ o → T (undoes (cond b (atAmp decodeChar o) (keep (x ∷ []))) e)
+        → cond b (atAmp decodeChar (bodyOf (xs ++ r))) (keep (x ∷ [])) ≡ cond b (atAmp decodeChar o) (keep (x ∷ []))
     go false o f t = refl
     go true none f t = absurd t
-    go true (some body) f t = ap (λ (o : Option (List ℕ)). onBody decodeChar true o x) (body-append xs r body f)
+    go true (some body) f t = ap (atAmp decodeChar) (body-append xs r body f)
 
 -- Each value of an HTML context is a reference to its key, but for the characters that decode does not give back.
 abbrev refers : List (List ℕ) → Row → Bool
@@ -163,46 +164,3 @@ module _ (c : Context) where
   -- Through such a run the decoder gives what the run gives.
   pub decode-run : (us : List Move) → All (IsDecoded c) us → decodeOf c (taken us) ≡ result us
   decode-run us g = ap result (cut-moves (decodeStep c) (IsDecoded c) decode-keeps decode-swaps 0 us g) ∙ result-cut us
-
--- ---- a reference that stays
-
-no-amp : (s body : List ℕ) → bodyOf s ≡ some body → (x : ℕ) → In x body → T (eqb x 38) → ⊥
-no-amp [] body e = absurd (Option·none-ne-some body e)
-no-amp (y ∷ s) body e = go (eqb y 59) (eqb y 38) refl (bodyOf s) refl (no-amp s) e
-  where
-    go : (p q : Bool) → eqb y 38 ≡ q → (o : Option (List ℕ)) → bodyOf s ≡ o → ((b : List ℕ) → bodyOf s ≡ some b → (x : ℕ) → In x b → T (eqb x 38) → ⊥)
-        → bodyWith p q y o ≡ some body → (x : ℕ) → In x body → T (eqb x 38) → ⊥
-    go true q h o f ih e x i t = subst (In x) (sym (Option·some-injective [] body e)) i
-    go false true h o f ih e x i t = absurd (Option·none-ne-some body e)
-    go false false h none f ih e x i t = absurd (Option·none-ne-some body e)
-    go false false h (some b) f ih e x i t = found (subst (In x) (sym (Option·some-injective (y ∷ b) body e)) i)
-      where
-        found : (x ≡ y) ⊎ In x b → ⊥
-        found (inl q) = subst T h (subst (λ (z : ℕ). T (eqb z 38)) q t)
-        found (inr j) = ih b f x j t
-
-quiet-singly : (char : ℕ → Option (List ℕ)) (a r : List ℕ) → ((x : ℕ) → In x a → T (eqb x 38) → ⊥) → Follows (referenceBy char) (singly a) r
-quiet-singly char [] r h = tt
-quiet-singly char (x ∷ a) r h = ((0, refl, λ p. reference-quiet char p x (taken (singly a) ++ r) (h x (inl refl))), quiet-singly char a r (λ y i. h y (inr i)))
-
--- "Otherwise the reference stays, and the search goes on after the `;`": its bytes are kept one by one, and then come the moves of what follows.
-pub search-goes-on : (char : ℕ → Option (List ℕ)) (p : ℕ) (s body r : List ℕ) → bodyOf s ≡ some body → meaning char body ≡ none → s ≡ body ++ 59 ∷ r
-    → (q : ℕ) × (moves (referenceBy char) p 0 (38 ∷ s) ≡ singly (38 ∷ body ++ ascii ";") ++ moves (referenceBy char) q 0 r)
-search-goes-on char p s body r e m w =
-    let amp : Makes (referenceBy char) (keep (38 ∷ [])) (taken (singly (body ++ ascii ";")) ++ r) = (0, refl, λ p. stays) in
-    let (q, f) = retrace (referenceBy char) p (singly (38 ∷ body ++ ascii ";")) r (amp, quiet-singly char (body ++ ascii ";") r quiet) in
-    (q, ap (λ (t : List ℕ). moves (referenceBy char) p 0 (38 ∷ t)) all ∙ f)
-  where
-    all : s ≡ taken (singly (body ++ ascii ";")) ++ r
-    all = w ∙ sym (append-assoc body (59 ∷ []) r) ∙ ap (λ (t : List ℕ). t ++ r) (sym (taken-singles (body ++ ascii ";")))
-
-    stays : onBody char true (bodyOf (taken (singly (body ++ ascii ";")) ++ r)) 38 ≡ keep (38 ∷ [])
-    stays = ap (λ (t : List ℕ). onBody char true (bodyOf t) 38) (sym all) ∙ ap (λ (o : Option (List ℕ)). onBody char true o 38) e ∙ ap (λ (v : Option (List ℕ)). onMeaning v 38 body) m
-
-    quiet : (x : ℕ) → In x (body ++ ascii ";") → T (eqb x 38) → ⊥
-    quiet x i t = go (in-append x body (ascii ";") i)
-      where
-        go : In x body ⊎ In x (ascii ";") → ⊥
-        go (inl j) = no-amp s body e x j t
-        go (inr (inl q)) = subst (λ (z : ℕ). T (eqb z 38)) q t
-        go (inr (inr j)) = j

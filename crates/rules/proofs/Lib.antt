@@ -8,6 +8,7 @@ pub mod Every
 pub mod EveryByte
 pub mod Encoder
 pub mod Decoder
+pub mod Search
 pub mod Growth
 pub mod Whole
 pub mod Laws

@@ -71,6 +71,15 @@ looked-up table body v e = go (first (λ (row : Row). sameBytes (key row)) table
         let (i, t) = first-sound (λ (row : Row). sameBytes (key row)) table body row p in
         subst (λ (row : Row). In row table) (λ j. (same-bytes (key row) body t j, Option·some-injective (value row) v q j)) i
 
+-- No name is empty or begins with `#`: the only bodies of these kinds that stand for anything are numbers.
+pub empty-unnamed : lookup names [] ≡ none
+unfolding names
+empty-unnamed = refl
+
+pub hash-unnamed : (s : List ℕ) → lookup names (35 ∷ s) ≡ none
+unfolding names
+hash-unnamed s = refl
+
 -- It is valid UTF-8.
 pub value-valid : (body v : List ℕ) → lookup names body ≡ some v → validTo v ≡ length v
 value-valid body v e = eqb→eq (validTo v) (length v) (all-in valid names names-valid (body, v) (looked-up names body v e))

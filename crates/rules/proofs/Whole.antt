@@ -17,7 +17,7 @@ use Rattle.rules.specs.declared.Context.{Context}
 use Rattle.rules.specs.declared.Context.the-variants.{InHtml, InScript, InStyle}
 use Rattle.rules.specs.Encoding.{keepByte, closes, anyCase, terminators}
 use Rattle.rules.specs.Reading.{undo}
-use Rattle.rules.specs.References.{bodyWith, bodyOf, numberOf, scalar, decodeChar, browseChar, charOf, valueOf, lookup, meaning, onMeaning, onBody, referenceBy, referenceStep, browseStep}
+use Rattle.rules.specs.References.{digit, hexDigitAt, number, onto, bodyOf, numberOf, scalar, decodeChar, browseChar, valueOf, lookup, meaning, refer, atAmp, referenceBy, referenceStep, browseStep}
 use Rattle.rules.specs.Escapes.{afterLess, escapeBy}
 use Rattle.rules.specs.Operations.{decodeStep}
 use Rattle.rules.proofs.Tests.{and-left, and-right, or-false, all-in, first-sound, stands-split, same-bytes}
@@ -75,39 +75,40 @@ names-short : T (all shortName names)
 unfolding names
 names-short = tt
 
-number-some : (s : List ℕ) (n : ℕ) → numberOf s ≡ some n → 1 ≤ length s
+-- A number has a `#` and a digit at least.
+number-some : (s : List ℕ) (n : ℕ) → numberOf s ≡ some n → 2 ≤ length s
 number-some [] n e = absurd (Option·none-ne-some n e)
-number-some (x ∷ s) n e = omega arith
+number-some (x ∷ []) n e = go (eqb 35 x) e
+  where
+    go : (b : Bool) → cond (b && false || b && false) (number hexDigitAt 16 []) (cond (b && true) (number digit 10 []) none) ≡ some n → 2 ≤ length (x ∷ [])
+    go true e = absurd (Option·none-ne-some n e)
+    go false e = absurd (Option·none-ne-some n e)
+number-some (x ∷ y ∷ s) n e = omega arith
 
 meaning-short : (char : ℕ → Option (List ℕ)) → Short char → (body v : List ℕ) → meaning char body ≡ some v → 5 * length v ≤ 6 * (length body + 2)
-meaning-short char short [] v e = absurd (Option·none-ne-some v e)
-meaning-short char short (x ∷ s) v e = go (eqb x 35) e
+meaning-short char short body v e = go (numberOf body) refl e
   where
-    four : (a b : ℕ) → a ≤ 4 → 1 ≤ b → 5 * a ≤ 6 * (suc b + 2)
+    four : (a b : ℕ) → a ≤ 4 → 2 ≤ b → 5 * a ≤ 6 * (b + 2)
     four a b h k = omega arith
 
-    numbered : (o : Option ℕ) → numberOf s ≡ o → charOf char o ≡ some v → 5 * length v ≤ 6 * (length (x ∷ s) + 2)
-    numbered none f e = absurd (Option·none-ne-some v e)
-    numbered (some n) f e = four (length v) (length s) (short n v e) (number-some s n f)
-
-    named : (o : Option Row) → first (λ (row : Row). sameBytes (key row)) names (x ∷ s) ≡ o → valueOf o ≡ some v → 5 * length v ≤ 6 * (length (x ∷ s) + 2)
+    named : (o : Option Row) → first (λ (row : Row). sameBytes (key row)) names body ≡ o → valueOf o ≡ some v → 5 * length v ≤ 6 * (length body + 2)
     named none f e = absurd (Option·none-ne-some v e)
     named (some row) f e =
-        let (i, t) = first-sound (λ (row : Row). sameBytes (key row)) names (x ∷ s) row f in
+        let (i, t) = first-sound (λ (row : Row). sameBytes (key row)) names body row f in
         let h = leb→le (5 * length (value row)) (6 * (length (key row) + 2)) (all-in shortName names names-short row i) in
-        subst (λ (l : List ℕ). 5 * length l ≤ 6 * (length (x ∷ s) + 2)) (Option·some-injective (value row) v e)
-        (subst (λ (l : List ℕ). 5 * length (value row) ≤ 6 * (length l + 2)) (same-bytes (key row) (x ∷ s) t) h)
+        subst (λ (l : List ℕ). 5 * length l ≤ 6 * (length body + 2)) (Option·some-injective (value row) v e)
+        (subst (λ (l : List ℕ). 5 * length (value row) ≤ 6 * (length l + 2)) (same-bytes (key row) body t) h)
 
-    go : (b : Bool) → cond b (charOf char (numberOf s)) (lookup names (x ∷ s)) ≡ some v → 5 * length v ≤ 6 * (length (x ∷ s) + 2)
-    go true e = numbered (numberOf s) refl e
-    go false e = named (first (λ (row : Row). sameBytes (key row)) names (x ∷ s)) refl e
+    go : (o : Option ℕ) → numberOf body ≡ o → elim o [ some n ↦ char n | none ↦ lookup names body ] ≡ some v → 5 * length v ≤ 6 * (length body + 2)
+    go (some n) f e = four (length v) (length body) (short n v e) (number-some body n f)
+    go none f e = named (first (λ (row : Row). sameBytes (key row)) names body) refl e
 
 body-split : (s body : List ℕ) → bodyOf s ≡ some body → (r : List ℕ) × (s ≡ body ++ 59 ∷ r)
 body-split [] body e = absurd (Option·none-ne-some body e)
 body-split (x ∷ xs) body e = go (eqb x 59) refl (eqb x 38) (bodyOf xs) refl (body-split xs) e
   where
     go : (p : Bool) → eqb x 59 ≡ p → (q : Bool) (o : Option (List ℕ)) → bodyOf xs ≡ o → ((b : List ℕ) → bodyOf xs ≡ some b → (r : List ℕ) × (xs ≡ b ++ 59 ∷ r))
-        → bodyWith p q x o ≡ some body → (r : List ℕ) × (x ∷ xs ≡ body ++ 59 ∷ r)
+        → cond p (some []) (cond q none (onto x o)) ≡ some body → (r : List ℕ) × (x ∷ xs ≡ body ++ 59 ∷ r)
     go true h q o f ih e =
         (xs, (λ i. eqb→eq x 59 (subst T (sym h) tt) i ∷ xs) ∙ ap (λ (b : List ℕ). b ++ 59 ∷ xs) (Option·some-injective [] body e))
     go false h true o f ih e = absurd (Option·none-ne-some body e)
@@ -118,34 +119,37 @@ body-split (x ∷ xs) body e = go (eqb x 59) refl (eqb x 38) (bodyOf xs) refl (b
 
 reference-fair : (char : ℕ → Option (List ℕ)) → Short char → (p : ℕ) (s : List ℕ) → Fair Fifth (referenceBy char p s) s
 reference-fair char short p [] = tt
-reference-fair char short p (x ∷ xs) = go (eqb x 38) (bodyOf xs) refl
+reference-fair char short p (x ∷ xs) = go (eqb x 38) refl (bodyOf xs) refl
   where
-    long : (body : List ℕ) → length body + 2 ≡ length (x ∷ body ++ ascii ";")
+    long : (body : List ℕ) → length body + 2 ≡ length (ascii "&" ++ body ++ ascii ";")
     long body = rw (length-append body (ascii ";")) (omega arith)
 
-    found : (body r : List ℕ) → xs ≡ body ++ 59 ∷ r → (v : Option (List ℕ)) → meaning char body ≡ v → Fair Fifth (onMeaning v x body) (x ∷ xs)
-    found body r w none e = (kept-fifth x, xs, refl, 0, refl)
-    found body r w (some v) e = (
+    kept : x ≡ 38 → Fair Fifth (keep (ascii "&")) (x ∷ xs)
+    kept e = (kept-fifth 38, xs, (λ i. e i ∷ xs), 0, refl)
+
+    found : x ≡ 38 → (body r : List ℕ) → xs ≡ body ++ 59 ∷ r → (v : Option (List ℕ)) → meaning char body ≡ v → Fair Fifth (refer body v) (x ∷ xs)
+    found a body r w none e = kept a
+    found a body r w (some v) e = (
       subst (λ (n : ℕ). 5 * length v ≤ 6 * n) (long body) (meaning-short char short body v e),
       r,
-      ap (λ (l : List ℕ). x ∷ l) (w ∙ sym (append-assoc body (59 ∷ []) r)),
+      (λ i. a i ∷ (w ∙ sym (append-assoc body (59 ∷ []) r)) i),
       length (body ++ ascii ";"),
       refl,
     )
 
-    go : (b : Bool) (o : Option (List ℕ)) → bodyOf xs ≡ o → Fair Fifth (onBody char b o x) (x ∷ xs)
-    go false o f = (kept-fifth x, xs, refl, 0, refl)
-    go true none f = (kept-fifth x, xs, refl, 0, refl)
-    go true (some body) f = let (r, w) = body-split xs body f in found body r w (meaning char body) refl
+    go : (b : Bool) → eqb x 38 ≡ b → (o : Option (List ℕ)) → bodyOf xs ≡ o → Fair Fifth (cond b (atAmp char o) (keep (x ∷ []))) (x ∷ xs)
+    go false h o f = (kept-fifth x, xs, refl, 0, refl)
+    go true h none f = kept (eqb→eq x 38 (subst T (sym h) tt))
+    go true h (some body) f = let (r, w) = body-split xs body f in found (eqb→eq x 38 (subst T (sym h) tt)) body r w (meaning char body) refl
 
 reference-goes : (char : ℕ → Option (List ℕ)) (p x : ℕ) (xs : List ℕ) → Goes (referenceBy char p (x ∷ xs))
 reference-goes char p x xs = go (eqb x 38) (bodyOf xs)
   where
-    found : (body : List ℕ) (v : Option (List ℕ)) → Goes (onMeaning v x body)
+    found : (body : List ℕ) (v : Option (List ℕ)) → Goes (refer body v)
     found body none = tt
     found body (some v) = tt
 
-    go : (b : Bool) (o : Option (List ℕ)) → Goes (onBody char b o x)
+    go : (b : Bool) (o : Option (List ℕ)) → Goes (cond b (atAmp char o) (keep (x ∷ [])))
     go false o = tt
     go true none = tt
     go true (some body) = found body (meaning char body)

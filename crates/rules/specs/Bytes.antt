@@ -5,7 +5,7 @@ use mathlib.Core.Logic.{_⊎_}
 use mathlib.Core.Option.{Option, none, some}
 use mathlib.Core.Path.{_≡_}
 use mathlib.Core.List.{List, [], _∷_, _++_}
-use Prim.Native.Char.{code}
+use Prim.Native.Char.{Char, code}
 use Prim.Native.Nat.{ℕ, zero, suc}
 use Prim.Native.String.{String, [] as []ˢ, _∷_ as _∷ˢ_}
 use lib.Dec.{eqb, leb}
@@ -15,6 +15,10 @@ use lib.ListN.{length, drop}
 abbrev pub ascii : String → List ℕ
 ascii []ˢ = []
 ascii (c ∷ˢ s) = code c ∷ ascii s
+
+-- The byte is this character: is "&" b.
+abbrev pub is : Char → ℕ → Bool
+is c b = eqb b (code c)
 
 -- The lists one after the other, as one list.
 abbrev pub join : {A : Type 0} → List (List A) → List A

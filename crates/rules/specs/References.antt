@@ -1,11 +1,12 @@
 -- 10. "Reading references": the rules of decode and browse in the HTML seven.
 -- Assumes nothing.
-use mathlib.Core.Bool.{Bool, true, false, not, _&&_, _||_, cond}
+use mathlib.Core.Bool.{Bool, not, _&&_, _||_, cond}
 use mathlib.Core.Option.{Option, none, some}
 use mathlib.Core.List.{List, [], _∷_, _++_}
 use Prim.Native.Nat.{ℕ, _+_, _-_, _*_}
 use lib.Dec.{leb, eqb}
-use Rattle.rules.specs.Bytes.{ascii, first, inside, oneOf, sameBytes}
+use lib.ListN.{drop}
+use Rattle.rules.specs.Bytes.{ascii, is, first, stands, inside, oneOf, sameBytes}
 use Rattle.rules.specs.Moves.{Move, keep, swap, stop, Rule}
 use Rattle.rules.specs.Utf8.{utf8}
 use Rattle.rules.specs.Tables.{Row, key, value}
@@ -13,17 +14,15 @@ use Rattle.rules.specs.Names.{names}
 
 -- ---- the body
 
--- One byte more of a body: `;` ends it, `&` leaves none.
-abbrev pub bodyWith : Bool → Bool → ℕ → Option (List ℕ) → Option (List ℕ)
-bodyWith true amp b rest = some []
-bodyWith false true b rest = none
-bodyWith false false b none = none
-bodyWith false false b (some body) = some (b ∷ body)
+-- One byte more before a body, if there is one.
+abbrev pub onto : ℕ → Option (List ℕ) → Option (List ℕ)
+onto b none = none
+onto b (some body) = some (b ∷ body)
 
 -- The body: the bytes from after the `&` up to the next `;`, if no `&` comes first.
 abbrev pub bodyOf : List ℕ → Option (List ℕ)
 bodyOf [] = none
-bodyOf (b ∷ s) = bodyWith (eqb b 59) (eqb b 38) b (bodyOf s)
+bodyOf (b ∷ s) = cond (is ";" b) (some []) (cond (is "&" b) none (onto b (bodyOf s)))
 
 -- ---- numbers
 
@@ -45,10 +44,11 @@ abbrev pub number : (ℕ → Option ℕ) → ℕ → List ℕ → Option ℕ
 number d base [] = none
 number d base (b ∷ s) = digits d base 0 (b ∷ s)
 
--- The body after `#`: digits, or `x` or `X` and hex digits.
+-- The number of a body: `#` and digits, or `#x` or `#X` and hex digits.
 abbrev pub numberOf : List ℕ → Option ℕ
-numberOf [] = none
-numberOf (b ∷ s) = cond (oneOf (ascii "xX") b) (number hexDigitAt 16 s) (number digit 10 (b ∷ s))
+numberOf s =
+    cond (stands (ascii "#x") s || stands (ascii "#X") s) (number hexDigitAt 16 (drop 2 s))
+    (cond (stands (ascii "#") s) (number digit 10 (drop 1 s)) none)
 
 -- No surrogate and at most 10FFFF, so that it fits 32 bits.
 abbrev pub scalar : ℕ → Bool
@@ -64,11 +64,6 @@ browseChar n = some (cond (scalar n && not (eqb n 0)) (utf8 n) (utf8 0xFFFD))
 
 -- ---- what a body stands for
 
--- The character of a number, if there is a number and it has one.
-abbrev pub charOf : (ℕ → Option (List ℕ)) → Option ℕ → Option (List ℕ)
-charOf char none = none
-charOf char (some n) = char n
-
 -- The value of a row, if there is one.
 abbrev pub valueOf : Option Row → Option (List ℕ)
 valueOf none = none
@@ -78,28 +73,26 @@ valueOf (some row) = some (value row)
 abbrev pub lookup : List Row → List ℕ → Option (List ℕ)
 lookup table body = valueOf (first (λ (row : Row). sameBytes (key row)) table body)
 
--- What a body stands for: after `#` a number, otherwise a name.
+-- A body that is a number stands for its character; any other body is looked up whole.
 abbrev pub meaning : (ℕ → Option (List ℕ)) → List ℕ → Option (List ℕ)
-meaning char [] = none
-meaning char (b ∷ s) = cond (eqb b 35) (charOf char (numberOf s)) (lookup names (b ∷ s))
+meaning char body = elim (numberOf body) [ some n ↦ char n | none ↦ lookup names body ]
 
 -- ---- the rules
 
--- The reference gives way to what its body stands for; otherwise its `&` is kept.
-abbrev pub onMeaning : Option (List ℕ) → ℕ → List ℕ → Move
-onMeaning none b body = keep (b ∷ [])
-onMeaning (some v) b body = swap (b ∷ body ++ ascii ";") v
+-- The reference gives way to what its body stands for; where that is nothing, its `&` is kept.
+abbrev pub refer : List ℕ → Option (List ℕ) → Move
+refer body none = keep (ascii "&")
+refer body (some v) = swap (ascii "&" ++ body ++ ascii ";") v
 
--- The same where there is an `&` and a body; otherwise the byte is kept.
-abbrev pub onBody : (ℕ → Option (List ℕ)) → Bool → Option (List ℕ) → ℕ → Move
-onBody char false body b = keep (b ∷ [])
-onBody char true none b = keep (b ∷ [])
-onBody char true (some body) b = onMeaning (meaning char body) b body
+-- At an `&`: the reference is read where there is a body; otherwise the `&` is kept.
+abbrev pub atAmp : (ℕ → Option (List ℕ)) → Option (List ℕ) → Move
+atAmp char none = keep (ascii "&")
+atAmp char (some body) = refer body (meaning char body)
 
--- At an `&` with a body, the reference is read; any other byte is kept.
+-- Any other byte is kept.
 abbrev pub referenceBy : (ℕ → Option (List ℕ)) → Rule
 referenceBy char prev [] = stop
-referenceBy char prev (b ∷ s) = onBody char (eqb b 38) (bodyOf s) b
+referenceBy char prev (b ∷ s) = cond (is "&" b) (atAmp char (bodyOf s)) (keep (b ∷ []))
 
 -- decode in the HTML seven.
 unfoldable pub referenceStep : Rule

@@ -2,8 +2,7 @@
 -- Assumes nothing.
 use borrow.Author.Needs.{needs}
 use mathlib.Core.Logic.{inl, inr}
-use mathlib.Core.Path.{sym, ap, _∙_}
-use Rattle.rules.specs.References.{charOf}
+use mathlib.Core.Path.{sym, _∙_}
 use Rattle.base.proofs.Filled.{lent-rest}
 use Rattle.decode_html.specs.Taking.{charBy}
 use Rattle.decode_html.proofs.Bodies.{number-empty, number-hex, number-decimal}
@@ -11,7 +10,7 @@ use Rattle.decode_html.proofs.digits.decode_number.Statement.{statement
 use Rattle.decode_html.proofs.digits.decode_number.Tie as tie
 
 returns : tie.Need-returns
-returns c = (rw (number-empty (c .before .before .args .body .now) (c .if1 .taken)), tt)
+returns c = (rw (number-empty (charBy (c .before .before .args .numbers)) (c .before .before .args .body .now) (c .if1 .taken)), tt)
 
 shared-slice-read-if2 : tie.Need-shared-slice-read-if2
 shared-slice-read-if2 c = search needs
@@ -33,7 +32,7 @@ returns-2 c =
     let a = c .before .before .before .before .before .before .args in
     let s = a .body .now in
     let e = rw (lent-rest 1 s) at (c .decode-hex-entity .ensures .0) in
-    (e ∙ ap (charOf (charBy (a .numbers))) (sym (number-hex s (c .before .before .before .before .if1 .left) (inl (c .before .before .if2 .taken)))), c .decode-hex-entity .ensures .1)
+    (e ∙ sym (number-hex (charBy (a .numbers)) s (c .before .before .before .before .if1 .left) (inl (c .before .before .if2 .taken))), c .decode-hex-entity .ensures .1)
 
 shared-slice-read-if3 : tie.Need-shared-slice-read-if3
 shared-slice-read-if3 c = search needs
@@ -55,7 +54,7 @@ returns-3 c =
     let a = c .before .before .before .before .before .before .before .before .args in
     let s = a .body .now in
     let e = rw (lent-rest 1 s) at (c .decode-hex-entity2 .ensures .0) in
-    (e ∙ ap (charOf (charBy (a .numbers))) (sym (number-hex s (c .before .before .before .before .before .before .if1 .left) (inr (c .before .before .if3 .taken)))), c .decode-hex-entity2 .ensures .1)
+    (e ∙ sym (number-hex (charBy (a .numbers)) s (c .before .before .before .before .before .before .if1 .left) (inr (c .before .before .if3 .taken))), c .decode-hex-entity2 .ensures .1)
 
 decode-decimal-entity-requires : tie.Need-decode-decimal-entity-requires
 decode-decimal-entity-requires c κs = search needs
@@ -64,7 +63,7 @@ returns-4 : tie.Need-returns-4
 returns-4 c =
     let a = c .before .before .before .before .before .before .before .args in
     let d = c .decode-decimal-entity .ensures in
-    (d .0 ∙ ap (charOf (charBy (a .numbers))) (sym (number-decimal (a .body .now) (c .before .before .before .before .before .if1 .left) (c .before .before .before .if2 .left) (c .before .if3 .left))), d .1)
+    (d .0 ∙ sym (number-decimal (charBy (a .numbers)) (a .body .now) (c .before .before .before .before .before .if1 .left) (c .before .before .before .if2 .left) (c .before .if3 .left)), d .1)
 
 pub decode-number-spec : {M : Type 1} → statement M
 decode-number-spec =
