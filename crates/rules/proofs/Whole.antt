@@ -53,14 +53,14 @@ utf8-four n =
 abbrev pub Short : (ℕ → Option (List ℕ)) → Type 0
 Short char = (n : ℕ) (v : List ℕ) → char n ≡ some v → length v ≤ 4
 
-decode-short : Short decodeChar
+pub decode-short : Short decodeChar
 decode-short n v e = go (scalar n && (leb 32 n || oneOf (9 ∷ 10 ∷ 12 ∷ 13 ∷ []) n)) e
   where
     go : (b : Bool) → cond b (some (utf8 n)) none ≡ some v → length v ≤ 4
     go true e = subst (λ (l : List ℕ). length l ≤ 4) (Option·some-injective (utf8 n) v e) (utf8-four n)
     go false e = absurd (Option·none-ne-some v e)
 
-browse-short : Short browseChar
+pub browse-short : Short browseChar
 browse-short n v e = subst (λ (l : List ℕ). length l ≤ 4) (Option·some-injective (cond (scalar n && not (eqb n 0)) (utf8 n) (utf8 0xFFFD)) v e) (go (scalar n && not (eqb n 0)))
   where
     go : (b : Bool) → length (cond b (utf8 n) (utf8 0xFFFD)) ≤ 4
@@ -117,7 +117,8 @@ body-split (x ∷ xs) body e = go (eqb x 59) refl (eqb x 38) (bodyOf xs) refl (b
         let (r, w) = ih b f in
         (r, ap (λ (l : List ℕ). x ∷ l) w ∙ ap (λ (l : List ℕ). l ++ 59 ∷ r) (Option·some-injective (x ∷ b) body e))
 
-reference-fair : (char : ℕ → Option (List ℕ)) → Short char → (p : ℕ) (s : List ℕ) → Fair Fifth (referenceBy char p s) s
+-- Each move at a reference is one that gives at most a fifth more than it takes.
+pub reference-fair : (char : ℕ → Option (List ℕ)) → Short char → (p : ℕ) (s : List ℕ) → Fair Fifth (referenceBy char p s) s
 reference-fair char short p [] = tt
 reference-fair char short p (x ∷ xs) = go (eqb x 38) refl (bodyOf xs) refl
   where
