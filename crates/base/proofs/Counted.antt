@@ -3,13 +3,15 @@
 -- Assumes nothing.
 use mathlib.Core.Path.{_≡_, refl, sym, ap, _∙_, subst}
 use mathlib.Core.List.{List, [], _∷_, _++_}
-use Prim.Native.Nat.{ℕ, zero, suc, _+_, _-_, _≤_, _<_}
+use Prim.Native.Nat.{ℕ, zero, suc, _+_, _-_, _*_, _≤_, _<_}
 use native.Mathlib.Omega.{arith}
+use lib.Dec.{eqb}
 use lib.ListN.{length, take, drop, getD, length-append, length-drop}
 use lib.Seq.{length-take-le}
 use Rattle.rules.specs.Bytes.{over}
 use Rattle.rules.specs.Moves.{Move, keep, swap, Rule, taken, result, replaced, place, through, before, from}
 use Rattle.rules.specs.Encoding.{keepByte}
+use Rattle.rules.specs.Answers.{Measures}
 use Rattle.rules.proofs.Loops.{from-next, drop-next}
 use Rattle.rules.proofs.Quiet.{Keeps, quiet-result, quiet-place, quiet-replaced}
 use Rattle.base.proofs.Filled.{Filled, Next, filled-end}
@@ -17,7 +19,7 @@ use Rattle.base.proofs.Part.{part-length}
 
 pub record Counted (rule : Rule) (t : List ℕ) (i n k : ℕ) : Type 0 where
   pub inside : i ≤ length t
-  pub most : n ≤ i
+  pub most : 5 * n ≤ 6 * i
   pub few : k ≤ i
   pub long : n + length (result (from rule t i)) ≡ length (result (through rule t))
   pub many : k + replaced (from rule t i) ≡ replaced (through rule t)
@@ -66,10 +68,10 @@ module _ {rule : Rule} {t : List ℕ} {i n k : ℕ} (c : Counted rule t i n k) w
         far = omega (arith, c .far, ap place s);
       }
 
-  -- Some bytes that give way to others, no more than they are.
-  pub counted-swap : (m : ℕ) (w : List ℕ) → 1 ≤ m → i + m ≤ length t → length w ≤ m → rule (before t i) (drop i t) ≡ swap (take m (drop i t)) w
+  -- Some bytes that give way to others, at most a fifth more than they are.
+  pub counted-grow : (m : ℕ) (w : List ℕ) → 1 ≤ m → i + m ≤ length t → 5 * length w ≤ 6 * m → rule (before t i) (drop i t) ≡ swap (take m (drop i t)) w
       → Counted rule t (i + m) (n + length w) (k + 1)
-  counted-swap m w h l f e =
+  counted-grow m w h l f e =
       let s = step-swap rule t i m w h l e in
       let r = from rule t (i + m) in
       let z : length (take m (drop i t)) ≡ m = length-take-le m (drop i t) (rw length-drop (omega arith)) in
@@ -82,6 +84,11 @@ module _ {rule : Rule} {t : List ℕ} {i n k : ℕ} (c : Counted rule t i n k) w
         far = omega (arith, c .far, ap place s, length-append (take m (drop i t)) (taken r), z);
       }
 
+  -- The same where they are no more.
+  pub counted-swap : (m : ℕ) (w : List ℕ) → 1 ≤ m → i + m ≤ length t → length w ≤ m → rule (before t i) (drop i t) ≡ swap (take m (drop i t)) w
+      → Counted rule t (i + m) (n + length w) (k + 1)
+  counted-swap m w h l f e = counted-grow m w h l (omega arith) e
+
   -- Where no move is left, all is counted.
   pub counted-end : from rule t i ≡ [] → (n ≡ length (result (through rule t))) × (k ≡ replaced (through rule t)) × (i ≡ place (through rule t))
   counted-end e = (
@@ -89,6 +96,12 @@ module _ {rule : Rule} {t : List ℕ} {i n k : ℕ} (c : Counted rule t i n k) w
     omega (arith, c .many, ap replaced e),
     omega (arith, c .far, ap place e),
   )
+
+  -- So they are what a pass over the text finds.
+  pub counted-measures : from rule t i ≡ [] → Measures (record { length = n; place = i; same = eqb k 0 }) (through rule t)
+  counted-measures e =
+      let (long, many, far) = counted-end e in
+      record { long = long; reach = far; kept = ap (λ (k : ℕ). eqb k 0) many }
 
 -- ---- the same for a writing loop: what stands next in the result
 

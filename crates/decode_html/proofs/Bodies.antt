@@ -1,15 +1,17 @@
 -- Bodies: where one ends by the places of the text, and what follows its `#`.
 -- Assumes nothing.
-use mathlib.Core.Logic.{_⊎_, inl, inr}
+use mathlib.Core.Bool.{true, false, _||_, and-true}
 use mathlib.Core.Option.{Option, none, some}
 use mathlib.Core.Path.{_≡_, refl, sym, ap, _∙_}
 use mathlib.Core.List.{List, [], _∷_, _++_, append-nil}
 use Prim.Native.Nat.{ℕ, zero, suc, _+_, _-_, _≤_, _<_}
 use native.Mathlib.Omega.{arith}
 use borrow.Author.Tests.{ne-eqb}
+use lib.Dec.{eqb}
 use lib.ListN.{length, take, drop, getD, drop-of-length-le}
 use Rattle.rules.specs.Names.{names}
 use Rattle.rules.specs.References.{onto, bodyOf, digit, hexDigitAt, number, numberOf, meaning, lookup}
+use Rattle.rules.proofs.Below.{eqb-comm}
 use Rattle.rules.proofs.Loops.{drop-next}
 use Rattle.rules.proofs.Names.{hash-unnamed}
 use Rattle.base.specs.Places.{Absent}
@@ -79,11 +81,17 @@ module _ (char : ℕ → Option (List ℕ)) where
   number-empty [] e = hashed [] none refl
   number-empty (b ∷ s) e = absurd (omega arith)
 
-  pub number-hex : (s : List ℕ) → (length s ≡ 0 → ⊥) → (getD s 0 0 ≡ 120) ⊎ (getD s 0 0 ≡ 88) → meaning char (35 ∷ s) ≡ charOf char (number hexDigitAt 16 (drop 1 s))
+  -- Hex digits follow the mark `x` or `X`.
+  pub number-hex : (s : List ℕ) → (length s ≡ 0 → ⊥) → (eqb (getD s 0 0) 120 || eqb (getD s 0 0) 88) ≡ true → meaning char (35 ∷ s) ≡ charOf char (number hexDigitAt 16 (drop 1 s))
   number-hex [] h e = absurd (h refl)
-  number-hex (b ∷ s) h (inl e) = hashed (b ∷ s) (number hexDigitAt 16 s) (rw e)
-  number-hex (b ∷ s) h (inr e) = hashed (b ∷ s) (number hexDigitAt 16 s) (rw e)
+  number-hex (b ∷ s) h e = hashed (b ∷ s) (number hexDigitAt 16 s) (rw (eqb-comm 120 b, eqb-comm 88 b, and-true (eqb b 120), and-true (eqb b 88), e))
 
-  pub number-decimal : (s : List ℕ) → (length s ≡ 0 → ⊥) → (getD s 0 0 ≡ 120 → ⊥) → (getD s 0 0 ≡ 88 → ⊥) → meaning char (35 ∷ s) ≡ charOf char (number digit 10 s)
-  number-decimal [] h e f = absurd (h refl)
-  number-decimal (b ∷ s) h e f = hashed (b ∷ s) (number digit 10 (b ∷ s)) (rw (ne-eqb 120 b (λ q. e (sym q)), ne-eqb 88 b (λ q. f (sym q))))
+  -- Else the digits are decimal.
+  pub number-decimal : (s : List ℕ) → (length s ≡ 0 → ⊥) → (eqb (getD s 0 0) 120 || eqb (getD s 0 0) 88) ≡ false → meaning char (35 ∷ s) ≡ charOf char (number digit 10 s)
+  number-decimal [] h e = absurd (h refl)
+  number-decimal (b ∷ s) h e = hashed (b ∷ s) (number digit 10 (b ∷ s)) (rw (eqb-comm 120 b, eqb-comm 88 b, and-true (eqb b 120), and-true (eqb b 88), e))
+
+-- A body that begins with `#` is that byte and what follows it.
+pub hash-first : (s : List ℕ) → 0 < length s → getD s 0 0 ≡ 35 → s ≡ 35 ∷ drop 1 s
+hash-first [] h e = absurd (omega arith)
+hash-first (b ∷ s) h e = rw e

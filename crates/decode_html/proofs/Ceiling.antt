@@ -24,14 +24,6 @@ use Rattle.decode_html.specs.Digits.{digitBy, ceilingOf, capped, found}
 
 -- ---- tests
 
-pub and-true : (b : Bool) → b && true ≡ b
-and-true true = refl
-and-true false = refl
-
-pub or-none : (b : Bool) → b || false ≡ b
-or-none true = refl
-or-none false = refl
-
 pub both-left : (a b : Bool) → a && b ≡ true → a ≡ true
 both-left true b e = refl
 both-left false b e = e
@@ -83,6 +75,10 @@ digit-by base byte value (inr e) h l = rw e l
 pub base-some : (base : ℕ) → (base ≡ 10) ⊎ (base ≡ 16) → 1 ≤ base
 base-some base (inl e) = omega arith
 base-some base (inr e) = omega arith
+
+pub base-small : (base : ℕ) → (base ≡ 10) ⊎ (base ≡ 16) → base ≤ 16
+base-small base (inl e) = omega arith
+base-small base (inr e) = omega arith
 
 pub base-most : (base n : ℕ) → (base ≡ 10) ⊎ (base ≡ 16) → n ≤ 0x110000 → n * base ≤ 0x1100000
 base-most base n (inl e) h = rw e (omega arith)

@@ -4,7 +4,7 @@ use mathlib.Core.Bool.{Bool, true, false}
 use mathlib.Core.Option.{Option, none, some}
 use mathlib.Core.Path.{_≡_, refl, sym, ap, _∙_}
 use mathlib.Core.List.{List, [], _∷_, _++_}
-use Prim.Native.Nat.{ℕ, zero, suc, _+_, _-_, _/_, _≤_, _<_}
+use Prim.Native.Nat.{ℕ, suc, _+_, _-_, _/_, _≤_, _<_}
 use native.Mathlib.Nat.{div-add-mod'}
 use native.Mathlib.Omega.{arith}
 use borrow.Author.Tests.{leb-true, leb-false, le-ltb, ne-eqb}
@@ -14,7 +14,7 @@ use lib.Seq.{take-suc, getD-drop}
 use Rattle.rules.specs.Bytes.{all}
 use Rattle.rules.specs.Moves.{keep}
 use Rattle.rules.specs.Names.{names}
-use Rattle.rules.specs.References.{bodyOf, decodeChar, browseChar, numberOf, lookup, meaning, refer, atAmp, referenceStep, browseStep}
+use Rattle.rules.specs.References.{onto, bodyOf, decodeChar, browseChar, numberOf, lookup, meaning, refer, atAmp, referenceStep, browseStep}
 use Rattle.rules.specs.Utf8.{utf8}
 use Rattle.rules.specs.Tables.{Row, value}
 use Rattle.rules.specs.Answers.{meaningBytes}
@@ -27,7 +27,6 @@ use Rattle.rules.proofs.Loops.{drop-next}
 use Rattle.rules.proofs.Decoder.{reference-quiet}
 use Rattle.rules.proofs.Tests.{all-in}
 use Rattle.rules.proofs.Names.{looked-up, empty-unnamed}
-use Rattle.base.proofs.Part.{part-at}
 use Rattle.decode_html.specs.declared.Numbers.{Numbers}
 use Rattle.decode_html.specs.declared.Numbers.the-variants.{Decoded, Browsed}
 use Rattle.decode_html.specs.Taking.{charBy, stepBy, RealMeaning, Reads}
@@ -86,7 +85,7 @@ module _ (numbers : Numbers) (t : List ℕ) (i : ℕ) (inside : i < length t) (a
         (take-suc (drop (i + 1) t) (r - (i + 1)) 0 (rw length-drop (omega arith)) ∙ rw (getD-drop (i + 1) t (r - (i + 1)) 0, m, end .body before .0)))
 
     -- The reference that the body's meaning makes is the move.
-    reads-meaning : (m : Meaning) → meaningBytes m ≡ meaning (charBy numbers) (take (r - (i + 1)) (drop (i + 1) t)) → RealMeaning m → Reads numbers t i (answer i r m)
+    pub reads-meaning : (m : Meaning) → meaningBytes m ≡ meaning (charBy numbers) (take (r - (i + 1)) (drop (i + 1) t)) → RealMeaning m → Reads numbers t i (answer i r m)
     reads-meaning m e real = go m (λ p. at-meaning p ∙ ap (refer (take (r - (i + 1)) (drop (i + 1) t))) (sym e)) real
       where
         go : (m : Meaning) → ((p : ℕ) → stepBy numbers p (38 ∷ drop (i + 1) t) ≡ refer (take (r - (i + 1)) (drop (i + 1) t)) (meaningBytes m)) → RealMeaning m → Reads numbers t i (answer i r m)
@@ -96,65 +95,28 @@ module _ (numbers : Numbers) (t : List ℕ) (i : ℕ) (inside : i < length t) (a
           lies = (refl, (let h : i + 1 ≤ r = end .after in omega arith), omega arith, real);
         }
 
--- ---- a number
-
--- The body from the `#` at place a on.
-number-ends : (t : List ℕ) (a r : ℕ) → a < length t → getD t a 0 ≡ 35 → Ends t (a + 1) r → Ends t a r
-number-ends t a r l e end =
+-- A byte more before a body, if it is neither `;` nor `&`.
+pub ends-more : (t : List ℕ) (a r : ℕ) → a < length t → (getD t a 0 ≡ 59 → ⊥) → (getD t a 0 ≡ 38 → ⊥) → Ends t (a + 1) r → Ends t a r
+ends-more t a r l f g end =
     let h : a + 1 ≤ r = end .after in
     let n : r - a ≡ suc (r - (a + 1)) = omega arith in
-    let d : drop a t ≡ 35 ∷ drop (a + 1) t = drop-next t a l ∙ rw e in
+    let step : bodyOf (drop a t) ≡ onto (getD t a 0) (bodyOf (drop (a + 1) t)) = rw (drop-next t a l, ne-eqb (getD t a 0) 59 f, ne-eqb (getD t a 0) 38 g) in
     record {
       after = omega arith;
       within = end .within;
-      body = λ m. (end .body m .0, rw (n, d, end .body m .1));
-      nobody = λ m. rw (d, end .nobody m);
+      body = λ m. (end .body m .0, step ∙ rw (end .body m .1, n, drop-next t a l));
+      nobody = λ m. step ∙ rw (end .nobody m);
     }
 
-number-meaning : (char : ℕ → Option (List ℕ)) (t : List ℕ) (a r : ℕ) → a < r → a < length t → getD t a 0 ≡ 35
-    → meaning char (take (r - a) (drop a t)) ≡ meaning char (35 ∷ take (r - (a + 1)) (drop (a + 1) t))
-number-meaning char t a r h l e =
-    let n : r - a ≡ suc (r - (a + 1)) = omega arith in
-    let d : drop a t ≡ 35 ∷ drop (a + 1) t = drop-next t a l ∙ rw e in
-    rw (n, d)
-
-module _ (numbers : Numbers) (t : List ℕ) (i r : ℕ) (inside : i + 1 < length t) (amp : getD t i 0 ≡ 38) (hash : getD t (i + 1) 0 ≡ 35) (end : Ends t (i + 2) r) where
-  same : i + 1 + 1 ≡ i + 2
-  same = omega arith
-
-  number-end : Ends t (i + 1) r
-  number-end = number-ends t (i + 1) r inside hash (rw same end)
-
-  pub number-nobody : r ≡ length t → Reads numbers t i Nothing
-  number-nobody e = reads-nobody numbers t i (omega arith) amp (number-end .nobody e)
-
-  pub number-reads : r < length t → (m : Meaning) → meaningBytes m ≡ meaning (charBy numbers) (35 ∷ take (r - (i + 2)) (drop (i + 2) t)) → RealMeaning m
-      → Reads numbers t i (answer i r m)
-  number-reads l m e real =
-      let h : i + 2 ≤ r = end .after in
-      reads-meaning numbers t i (omega arith) amp r number-end l m (e ∙ sym (rw same at (number-meaning (charBy numbers) t (i + 1) r (omega arith) inside hash))) real
-
--- ---- a name
-
-name-first : (t : List ℕ) (a r : ℕ) → (getD t a 0 ≡ 35 → ⊥) → getD (take (r - a) (drop a t)) 0 0 ≡ 35 → ⊥
-name-first t a r h = go (r - a) refl
-  where
-    go : (n : ℕ) → r - a ≡ n → getD (take n (drop a t)) 0 0 ≡ 35 → ⊥
-    go zero e q = absurd (omega arith)
-    go (suc n) e q =
-        let z : a + 0 ≡ a = omega arith in
-        h (sym (rw (e, z) at (part-at t a r 0 (omega arith))) ∙ q)
+-- ---- what a body stands for
 
 no-number : (s : List ℕ) → (getD s 0 0 ≡ 35 → ⊥) → numberOf s ≡ none
 no-number [] h = refl
 no-number (b ∷ s) h = rw (ne-eqb 35 b (λ e. h (sym e)), numberOf)
 
-not-number : (char : ℕ → Option (List ℕ)) (s : List ℕ) → (getD s 0 0 ≡ 35 → ⊥) → meaning char s ≡ lookup names s
+-- A body that does not begin with `#` is looked up whole.
+pub not-number : (char : ℕ → Option (List ℕ)) (s : List ℕ) → (getD s 0 0 ≡ 35 → ⊥) → meaning char s ≡ lookup names s
 not-number char s h = ap (λ (o : Option ℕ). elim o [ some n ↦ char n | none ↦ lookup names s ]) (no-number s h)
-
-name-meaning : (char : ℕ → Option (List ℕ)) (t : List ℕ) (a r : ℕ) → (getD t a 0 ≡ 35 → ⊥)
-    → meaning char (take (r - a) (drop a t)) ≡ lookup names (take (r - a) (drop a t))
-name-meaning char t a r h = not-number char (take (r - a) (drop a t)) (name-first t a r h)
 
 -- No value of the table begins with a byte above F0.
 abbrev low : Row → Bool
@@ -165,7 +127,7 @@ unfolding names
 names-low = tt
 
 -- So a looked-up value is no character above 3FFFF.
-name-real : (body : List ℕ) (m : Meaning) → meaningBytes m ≡ lookup names body → RealMeaning m
+pub name-real : (body : List ℕ) (m : Meaning) → meaningBytes m ≡ lookup names body → RealMeaning m
 name-real body NoMeaning e = tt
 name-real body (Value (Named n)) e = tt
 name-real body (Value (Character n)) e = go (leb n 0x10FFFF) refl
@@ -176,11 +138,3 @@ name-real body (Value (Character n)) e = go (leb n 0x10FFFF) refl
         let big : 0x10FFFF < n = leb-false n 0x10FFFF q in
         let first : 0xF0 + n / 262144 ≤ 0xF0 = rw (le-ltb n 0x80 (omega arith), le-ltb n 0x800 (omega arith), le-ltb n 0x10000 (omega arith)) at (leb→le (getD (utf8 n) 0 0) 0xF0 (all-in low names names-low (body, utf8 n) (looked-up names body (utf8 n) (sym e)))) in
         absurd (omega (arith, div-add-mod' n 262144))
-
-module _ (numbers : Numbers) (t : List ℕ) (i r : ℕ) (inside : i < length t) (amp : getD t i 0 ≡ 38) (end : Ends t (i + 1) r) where
-  pub name-nobody : r ≡ length t → Reads numbers t i Nothing
-  name-nobody e = reads-nobody numbers t i inside amp (end .nobody e)
-
-  pub name-reads : (getD t (i + 1) 0 ≡ 35 → ⊥) → r < length t → (m : Meaning) → meaningBytes m ≡ lookup names (take (r - (i + 1)) (drop (i + 1) t)) → Reads numbers t i (answer i r m)
-  name-reads h l m e =
-      reads-meaning numbers t i inside amp r end l m (e ∙ sym (name-meaning (charBy numbers) t (i + 1) r h)) (name-real (take (r - (i + 1)) (drop (i + 1) t)) m e)

@@ -1,4 +1,4 @@
--- Bodies of references, by places of the text.
+-- Bodies of references, by offsets of the text.
 -- Assumes nothing.
 use mathlib.Core.Bool.{cond}
 use mathlib.Core.Logic.{_⊎_}
@@ -10,7 +10,13 @@ use lib.Dec.{eqb}
 use lib.ListN.{length, take, drop, getD}
 use Rattle.rules.specs.References.{bodyOf}
 
--- The body from place a on ends at the `;` at place r; at the length of the text, there is none.
+-- A body begins after the `&` at place i, with a byte that is neither `&` nor `;`.
+pub record Begun (t : List ℕ) (i : ℕ) : Type 0 where
+  pub within : i + 1 < length t
+  pub amp : getD t (i + 1) 0 ≡ 38 → ⊥
+  pub end : getD t (i + 1) 0 ≡ 59 → ⊥
+
+-- The body from place a on ends at the `;` at place r; if r is the length of the text, there is none.
 pub record Ends (t : List ℕ) (a r : ℕ) : Type 0 where
   pub after : a ≤ r
   pub within : r ≤ length t
@@ -29,6 +35,6 @@ pub record Known (t : List ℕ) (i n : ℕ) : Type 0 where
   pub within : i + n ≤ length t
   pub bytes : KnownBytes (getD t (i + 1) 0) (getD t (i + 2) 0) (getD t (i + 3) 0) (getD t (i + 4) 0) n
 
--- What it stands for, packed, by the first letter of its name.
+-- Its value, packed, by the first letter of its name.
 abbrev pub knownValue : ℕ → ℕ
 knownValue letter = cond (eqb letter 108) 0x3C (cond (eqb letter 103) 0x3E 0x26)

@@ -1,4 +1,4 @@
-// The writers of what a reference stands for, into the unfilled rest of an output, and their lengths.
+// The bytes of the value of a reference: how many they are, and writing them.
 ghost use mathlib.Core.Path.{_≡_};
 ghost use Prim.Native.Nat.{_≤_};
 ghost use lib.ListN.{length};
@@ -7,7 +7,7 @@ ghost use Rattle.rules.specs.Answers.{valueBytes};
 ghost use Rattle.decode_html.specs.Taking.{Real};
 use rules::DecodedEntityValue;
 
-// How many bytes a value has.
+// Returns how many bytes a value has.
 pub fn value_length(value: DecodedEntityValue) -> usize
     ensures { λ r. ⌜ (r ≡ length (valueBytes value)) × (r ≤ 6) ⌝ }
 {
@@ -17,7 +17,7 @@ pub fn value_length(value: DecodedEntityValue) -> usize
     }
 }
 
-// Writes a value to the start of `output` and returns how many bytes it has; what lies past them keeps its values.
+// Writes a value to the start of `output` and returns its length; what lies past it keeps its values.
 pub fn put_value(value: DecodedEntityValue, output: &mut [u8]) -> usize
     requires { ⌜ Real value × (length (valueBytes value) ≤ length (now output)) ⌝ }
     ensures { λ r. ⌜ (r ≡ length (valueBytes value)) × (now (output .exit) ≡ over (valueBytes value) (now (output .entry))) ⌝ }

@@ -1,32 +1,33 @@
-// The digit readers: the number of a reference, kept under a ceiling, and the character that it stands for.
+// Numeric references: the number of the digits, kept under a ceiling so that it cannot overflow, and the character that it stands for.
 ghost use mathlib.Core.Bool.{_&&_, _||_};
 ghost use mathlib.Core.Logic.{_⊎_};
 ghost use mathlib.Core.Path.{_≡_};
 ghost use mathlib.Core.List.{[], _∷_};
-ghost use lib.Dec.{leb};
+ghost use lib.Dec.{leb, eqb};
 ghost use Rattle.rules.specs.Bytes.{oneOf};
 ghost use Rattle.rules.specs.References.{digit, hexDigitAt, number, scalar, decodeChar, browseChar, meaning};
 ghost use Rattle.rules.specs.Answers.{meaningBytes};
+ghost use Rattle.base.specs.Digits.{below};
 ghost use Rattle.decode_html.specs.Taking.{charBy, charOf, RealMeaning};
 ghost use Rattle.decode_html.specs.Digits.{digitBy, ceilingOf, found, capped};
 use crate::Numbers;
 use rules::DecodedEntityValue;
 use rules::Meaning;
 
-// What digits make: a number, which stays at the ceiling once it is above every character's; or none.
+// The number of digits, which stays at the ceiling once it is above the last character, or none.
 enum Number {
     Is(u32),
     Nothing,
 }
 
-// A byte as a number of 32 bits.
-fn wide(byte: u8) -> u32
-    ensures { λ r. ⌜ r ≡ byte ⌝ }
+// Returns the value of a digit, 255 for any other byte.
+fn value_of(byte: u8) -> u32
+    ensures { λ r. ⌜ (below 10 r ≡ digit byte) × (below 16 r ≡ hexDigitAt byte) ⌝ }
 {
-    byte as u32
+    base::digit_value(byte) as u32
 }
 
-// A number, or the ceiling where it is above every character's.
+// Returns a number, or the ceiling if it is above the last character, 10FFFF.
 fn ceiling(number: u32) -> u32
     ensures { λ r. ⌜ r ≡ ceilingOf number ⌝ }
 {
@@ -36,7 +37,8 @@ fn ceiling(number: u32) -> u32
     0x110000
 }
 
-// The number of the digits in a base: nothing where there is no digit, or another byte among them, however large the number is already.
+// Reads digits in a base: nothing if there is none, or if another byte is among them. Leading zeros are free, and a number of any length is read to
+// its end.
 fn read_digits(base: u32, digits: &[u8]) -> Number
     requires { ⌜ (base ≡ 10) ⊎ (base ≡ 16) ⌝ }
     ensures { λ r. ⌜ found r ≡ capped (number (digitBy base) base (now (digits .entry))) ⌝ }
@@ -47,7 +49,7 @@ fn read_digits(base: u32, digits: &[u8]) -> Number
     let mut number: u32 = 0;
     let mut i: usize = 0;
     while i < digits.len() {
-        let value = wide(base::digit_value(digits[i]));
+        let value = value_of(digits[i]);
         if base <= value {
             return Number::Nothing;
         }
@@ -57,7 +59,7 @@ fn read_digits(base: u32, digits: &[u8]) -> Number
     Number::Is(number)
 }
 
-// Whether a number is a character's: no surrogate, and at most 10FFFF.
+// Reports whether a number is that of a character: no surrogate, and at most 10FFFF.
 fn is_scalar(number: u32) -> bool
     ensures { λ r. ⌜ r ≡ scalar number ⌝ }
 {
@@ -73,7 +75,7 @@ fn is_scalar(number: u32) -> bool
     true
 }
 
-// Whether decode takes a number: of those below 32 only tab, line feed, form feed and carriage return.
+// Reports whether decode allows a number: of those below 32 only tab, line feed, form feed and carriage return.
 fn is_decoded(number: u32) -> bool
     ensures { λ r. ⌜ r ≡ (scalar number && (leb 32 number || oneOf (9 ∷ 10 ∷ 12 ∷ 13 ∷ []) number)) ⌝ }
 {
@@ -83,7 +85,7 @@ fn is_decoded(number: u32) -> bool
     (number == 9) | ((number == 10) | ((number == 12) | (number == 13)))
 }
 
-// What decode makes of a number.
+// Returns the character of a number that decode allows.
 fn decoded(number: u32) -> Meaning
     ensures { λ r. ⌜ (meaningBytes r ≡ decodeChar number) × RealMeaning r ⌝ }
 {
@@ -93,7 +95,7 @@ fn decoded(number: u32) -> Meaning
     Meaning::Nothing
 }
 
-// What a browser makes of a number: U+FFFD where it is 0 or no character's.
+// Returns the character of a number as a browser takes it: U+FFFD if it is 0 or no character.
 fn browsed(number: u32) -> Meaning
     ensures { λ r. ⌜ (meaningBytes r ≡ browseChar number) × RealMeaning r ⌝ }
 {
@@ -106,7 +108,7 @@ fn browsed(number: u32) -> Meaning
     Meaning::Value(DecodedEntityValue::Character(0xFFFD))
 }
 
-// What a number stands for.
+// Returns the character of a number.
 fn decode_character(numbers: Numbers, number: u32) -> Meaning
     ensures { λ r. ⌜ (meaningBytes r ≡ charBy numbers number) × RealMeaning r ⌝ }
 {
@@ -116,38 +118,33 @@ fn decode_character(numbers: Numbers, number: u32) -> Meaning
     }
 }
 
-// What decimal digits stand for.
-fn decode_decimal_entity(numbers: Numbers, digits: &[u8]) -> Meaning
-    ensures { λ r. ⌜ (meaningBytes r ≡ charOf (charBy numbers) (number digit 10 (now (digits .entry)))) × RealMeaning r ⌝ }
+// Returns the character of digits in a base.
+fn decode_digits(base: u32, numbers: Numbers, digits: &[u8]) -> Meaning
+    requires { ⌜ (base ≡ 10) ⊎ (base ≡ 16) ⌝ }
+    ensures { λ r. ⌜ (meaningBytes r ≡ charOf (charBy numbers) (number (digitBy base) base (now (digits .entry)))) × RealMeaning r ⌝ }
 {
-    let Number::Is(n) = read_digits(10, digits) else {
+    let Number::Is(n) = read_digits(base, digits) else {
         return Meaning::Nothing;
     };
     decode_character(numbers, n)
 }
 
-// What hex digits stand for.
-fn decode_hex_entity(numbers: Numbers, digits: &[u8]) -> Meaning
-    ensures { λ r. ⌜ (meaningBytes r ≡ charOf (charBy numbers) (number hexDigitAt 16 (now (digits .entry)))) × RealMeaning r ⌝ }
+// Reports whether hex digits follow: the byte after `#` is `x` or `X`.
+fn is_hex_mark(b: u8) -> bool
+    ensures { λ r. ⌜ r ≡ (eqb b 120 || eqb b 88) ⌝ }
 {
-    let Number::Is(n) = read_digits(16, digits) else {
-        return Meaning::Nothing;
-    };
-    decode_character(numbers, n)
+    (b == b'x') | (b == b'X')
 }
 
-// What a body stands for from after its `#` on.
+// Returns what a body stands for that begins with `#`; `body` is what follows.
 pub fn decode_number(numbers: Numbers, body: &[u8]) -> Meaning
     ensures { λ r. ⌜ (meaningBytes r ≡ meaning (charBy numbers) (35 ∷ now (body .entry))) × RealMeaning r ⌝ }
 {
     if body.len() == 0 {
         return Meaning::Nothing;
     }
-    if body[0] == b'x' {
-        return decode_hex_entity(numbers, &body[1..]);
+    if is_hex_mark(body[0]) {
+        return decode_digits(16, numbers, &body[1..]);
     }
-    if body[0] == b'X' {
-        return decode_hex_entity(numbers, &body[1..]);
-    }
-    decode_decimal_entity(numbers, body)
+    decode_digits(10, numbers, body)
 }

@@ -1,84 +1,71 @@
-// Decode and browse in the HTML seven: references are read, and give way to what they stand for.
+// The decoder of character references, html-escape's decode/html_entity: decode and browse in the HTML seven.
 ghost use mathlib.Core.Path.{_≡_};
 ghost use Prim.Native.Nat.{_≤_};
-ghost use lib.Dec.{eqb};
 ghost use lib.ListN.{length};
 ghost use Rattle.rules.specs.Bytes.{over};
-ghost use Rattle.rules.specs.Moves.{through, result, replaced};
+ghost use Rattle.rules.specs.Moves.{through, result};
+ghost use Rattle.rules.specs.Answers.{Measures};
 ghost use Rattle.decode_html.specs.Taking.{stepBy};
 
 mod characters;
 mod digits;
 mod entity;
 
+use rules::Measured;
 use rules::Reference;
 
-// How a number is taken: as decode takes it, or as a browser does.
+// Which characters a numeric reference may stand for: those that decode allows, or those that a browser does.
 pub enum Numbers {
     Decoded,
     Browsed,
 }
 
-// What a pass finds: the length of the result, and whether nothing is replaced in it.
-pub struct Measured {
-    pub length: usize,
-    pub same: bool,
-}
-
-// Measures the result: what has no `&` counts as it stands, and each reference as what it stands for.
+// Measures the decoding of a text. Bytes before the next `&` are skipped together; a reference counts as the bytes of its value.
 pub fn measure(numbers: Numbers, text: &[u8]) -> Measured
     requires { ⌜ length (now text) ≤ 65536 ⌝ }
-    ensures { λ r. ⌜ (r .length ≡ length (result (through (stepBy numbers) (now (text .entry))))) × (r .same ≡ eqb (replaced (through (stepBy numbers) (now (text .entry)))) 0) ⌝ }
+    ensures { λ r. ⌜ Measures r (through (stepBy numbers) (now (text .entry))) ⌝ }
 {
-    let mut total: usize = 0;
-    let mut same = true;
+    let mut length: usize = 0;
+    let mut references: usize = 0;
     let mut i: usize = 0;
     while i < text.len() {
         if text[i] != b'&' {
-            let e = base::find::find_byte(text, i, b'&');
-            total += e - i;
-            i = e;
-            continue;
-        }
-        if entity::is_bare(text, i) {
-            total += 1;
-            i += 1;
+            let next = base::find::find_byte(text, i, b'&');
+            length += next - i;
+            i = next;
             continue;
         }
         let Reference::Found(found) = entity::find_decoded_entity(numbers, text, i) else {
-            total += 1;
+            length += 1;
             i += 1;
             continue;
         };
         let value = found.value;
-        total += characters::value_length(value);
-        same = false;
+        length += characters::value_length(value);
+        references += 1;
         i = found.end;
     }
     Measured {
-        length: total,
-        same: same,
+        length,
+        place: i,
+        same: references == 0,
     }
 }
 
-// Writes the result to the start of `output`, and finds what `measure` does; what lies past it keeps its values.
+// Writes the decoding of a text to the start of `output` and returns what `measure` does; what lies past it keeps its values.
 pub fn write(numbers: Numbers, text: &[u8], output: &mut [u8]) -> Measured
     requires { ⌜ length (result (through (stepBy numbers) (now text))) ≤ length (now output) ⌝ }
-    ensures { λ r. ⌜ (r .length ≡ length (result (through (stepBy numbers) (now (text .entry))))) × (r .same ≡ eqb (replaced (through (stepBy numbers) (now (text .entry)))) 0) × (now (output .exit) ≡ over (result (through (stepBy numbers) (now (text .entry)))) (now (output .entry))) ⌝ }
+    ensures { λ r. ⌜ Measures r (through (stepBy numbers) (now (text .entry))) ⌝ }
+    ensures { λ _. ⌜ now (output .exit) ≡ over (result (through (stepBy numbers) (now (text .entry)))) (now (output .entry)) ⌝ }
 {
     let mut at: usize = 0;
-    let mut same = true;
+    let mut references: usize = 0;
     let mut i: usize = 0;
     while i < text.len() {
         if text[i] != b'&' {
-            let e = base::find::put_until(text, i, b'&', &mut output[at..]);
-            at += e - i;
-            i = e;
-            continue;
-        }
-        if entity::is_bare(text, i) {
-            at += base::put(b"&", &mut output[at..]);
-            i += 1;
+            let next = base::find::put_until(text, i, b'&', &mut output[at..]);
+            at += next - i;
+            i = next;
             continue;
         }
         let Reference::Found(found) = entity::find_decoded_entity(numbers, text, i) else {
@@ -88,11 +75,12 @@ pub fn write(numbers: Numbers, text: &[u8], output: &mut [u8]) -> Measured
         };
         let value = found.value;
         at += characters::put_value(value, &mut output[at..]);
-        same = false;
+        references += 1;
         i = found.end;
     }
     Measured {
         length: at,
-        same: same,
+        place: i,
+        same: references == 0,
     }
 }

@@ -14,7 +14,7 @@ use Rattle.rules.specs.declared.Html.{Html}
 use Rattle.rules.specs.declared.Html.the-variants.{Unquoted}
 use Rattle.rules.proofs.Tests.{same-bytes}
 use Rattle.plain.specs.Plain.{unquoted}
-use Rattle.encode_html.specs.Written.{written, few}
+use Rattle.encode_html.specs.Written.{written, onlyText}
 use Rattle.encode_html.specs.Words.{wordOf, eight}
 use Rattle.encode_html.proofs.Seven.{seven-bytes, agree}
 
@@ -36,9 +36,9 @@ choiceOfAll b =
     (wordOf (value (reference b)))))))
 
 -- In each kind of context the choice is the word of what is written.
-pub word3 : (h : Html) (b : ℕ) → b < 256 → few h ≡ true → choice3 h b ≡ wordOf (written h b)
+pub word3 : (h : Html) (b : ℕ) → b < 256 → onlyText h ≡ true → choice3 h b ≡ wordOf (written h b)
 unfolding choice3 wordOf written encodeStep
-word3 = agree few choice3 (λ h b. wordOf (written h b)) tt
+word3 = agree onlyText choice3 (λ h b. wordOf (written h b)) tt
 
 pub word6 : (h : Html) (b : ℕ) → b < 256 → unquoted h ≡ false → choice6 h b ≡ wordOf (written h b)
 unfolding choice3 choice6 wordOf written encodeStep

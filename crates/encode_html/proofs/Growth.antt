@@ -15,7 +15,7 @@ use Rattle.rules.specs.declared.Html.{Html}
 use Rattle.rules.specs.declared.Html.the-variants.{Unquoted}
 use Rattle.rules.specs.declared.Context.the-variants.{InHtml}
 use Rattle.plain.specs.Plain.{unquoted}
-use Rattle.encode_html.specs.Written.{written, few}
+use Rattle.encode_html.specs.Written.{written, onlyText}
 use Rattle.encode_html.specs.Gains.{gainOf, gainsOf, Grows}
 use Rattle.encode_html.specs.declared.gains.Gains.{Gains}
 use Rattle.encode_html.proofs.Seven.{agree}
@@ -36,9 +36,9 @@ unfoldable pub sumOfAll : ℕ → ℕ
 sumOfAll b = cond (ltb 127 b || letterOrDigit b) 0 (5 - cond (eqb b 38) 1 0 - cond (eqb b 60) 2 0 - cond (eqb b 62) 2 0)
 
 -- In each kind of context the sum is the growth.
-pub gain3 : (h : Html) (b : ℕ) → b < 256 → few h ≡ true → sum3 h b + 1 ≡ length (written h b)
+pub gain3 : (h : Html) (b : ℕ) → b < 256 → onlyText h ≡ true → sum3 h b + 1 ≡ length (written h b)
 unfolding sum3 written encodeStep
-gain3 = agree few (λ h b. sum3 h b + 1) (λ h b. length (written h b)) tt
+gain3 = agree onlyText (λ h b. sum3 h b + 1) (λ h b. length (written h b)) tt
 
 pub gain6 : (h : Html) (b : ℕ) → b < 256 → unquoted h ≡ false → sum6 h b + 1 ≡ length (written h b)
 unfolding sum3 sum6 written encodeStep

@@ -3,4 +3,4 @@ pub mod Text
 pub mod Growth
 pub mod Choices
 pub mod Spilt
-pub mod Calm
+pub mod Unchanged

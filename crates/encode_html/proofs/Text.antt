@@ -20,7 +20,7 @@ use Rattle.rules.proofs.Growth.{encode-six, encode-sum, encode-as-long}
 use Rattle.base.proofs.Filled.{Next, lent-rest}
 use Rattle.base.proofs.Part.{part-length, part-at, parted}
 use Rattle.encode_html.specs.Written.{written}
-use Rattle.encode_html.specs.Gains.{Each, Calm}
+use Rattle.encode_html.specs.Gains.{Each, Unchanged}
 use Rattle.encode_html.proofs.Seven.{seven}
 
 -- Every key is one byte.
@@ -91,8 +91,8 @@ module _ (h : Html) where
       let sum = ap length (halves t e) ∙ length-append (encodeOf (InHtml h) (take e t)) (encodeOf (InHtml h) rest) in
       (sym sum, n, omega (arith, encode-sum (InHtml h) rest))
 
-  -- A calm text does not grow.
-  pub calm-length : (t : List ℕ) → Each (Calm h) t → length (encodeOf (InHtml h) t) ≡ length t
-  calm-length [] f = refl
-  calm-length (b ∷ t) f =
-      rw (cons-written b t, length-append, f 0 (omega arith) .0) (omega (arith, calm-length t (λ k l. f (suc k) (omega arith))))
+  -- An unchanged text does not grow.
+  pub unchanged-length : (t : List ℕ) → Each (Unchanged h) t → length (encodeOf (InHtml h) t) ≡ length t
+  unchanged-length [] f = refl
+  unchanged-length (b ∷ t) f =
+      rw (cons-written b t, length-append, f 0 (omega arith) .0) (omega (arith, unchanged-length t (λ k l. f (suc k) (omega arith))))

@@ -1,4 +1,4 @@
--- By how much a byte grows.
+-- By how many bytes a byte grows in its encoding.
 -- Assumes nothing.
 use mathlib.Core.Path.{_≡_}
 use mathlib.Core.List.{List}
@@ -8,16 +8,16 @@ use Rattle.rules.specs.Operations.{encodeOf}
 use Rattle.rules.specs.declared.Html.{Html}
 use Rattle.rules.specs.declared.Context.the-variants.{InHtml}
 use Rattle.plain.specs.Plain.{unquoted}
-use Rattle.encode_html.specs.Written.{written, few}
+use Rattle.encode_html.specs.Written.{written, onlyText}
 use Rattle.encode_html.specs.declared.gains.Gains.{Gains}
 
--- By how many bytes what is written for a byte is longer.
+-- By how many bytes the encoding of a byte is longer than the byte.
 abbrev pub gainOf : Html → ℕ → ℕ
 gainOf h b = length (written h b) - 1
 
--- What is to be known of a context, so that the growth of a byte is a sum: which kind it is, and by how much `>`, `"`, `'` and `/` grow.
+-- The growths of a context: which kind it is, and by how many bytes `>`, `"`, `'` and `/` grow.
 abbrev pub gainsOf : Html → Gains
-gainsOf h = record { few = few h; unquoted = unquoted h; gt = gainOf h 62; double = gainOf h 34; single = gainOf h 39; slash = gainOf h 47 }
+gainsOf h = record { text = onlyText h; unquoted = unquoted h; gt = gainOf h 62; double = gainOf h 34; single = gainOf h 39; slash = gainOf h 47 }
 
 -- A text grows by n bytes, which is at most five times its length.
 abbrev pub Grows : Html → List ℕ → ℕ → Type 0
@@ -31,6 +31,6 @@ Each p t = (k : ℕ) → k < length t → p (getD t k 0)
 abbrev pub Ascii : ℕ → Type 0
 Ascii b = b < 128
 
--- An ASCII byte that is written as itself.
-abbrev pub Calm : Html → ℕ → Type 0
-Calm h b = (length (written h b) ≡ 1) × (b < 128)
+-- An ASCII byte that is not replaced.
+abbrev pub Unchanged : Html → ℕ → Type 0
+Unchanged h b = (length (written h b) ≡ 1) × (b < 128)

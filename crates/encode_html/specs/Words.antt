@@ -6,7 +6,7 @@ use Prim.Native.Nat.{ℕ, _+_, _*_, _/_, _%_}
 use lib.ListN.{length, take, drop}
 use Rattle.rules.specs.declared.Html.{Html}
 use Rattle.plain.specs.Plain.{unquoted}
-use Rattle.encode_html.specs.Written.{written, few}
+use Rattle.encode_html.specs.Written.{written, onlyText}
 use Rattle.encode_html.specs.declared.words.Words.{Words}
 
 -- Bytes as a number, the first the lowest.
@@ -31,10 +31,10 @@ eight x =
     ∷ x / 0x100000000000000 % 0x100
     ∷ []
 
--- What is to be known of a context, so that a word is a choice: which kind it is, and the words of `>`, `"`, `'` and `/`.
+-- The words of a context: which kind it is, and the words of `>`, `"`, `'` and `/`.
 abbrev pub wordsOf : Html → Words
 wordsOf h = record {
-  few = few h;
+  text = onlyText h;
   unquoted = unquoted h;
   gt = wordOf (written h 62);
   double = wordOf (written h 34);

@@ -13,11 +13,11 @@ unfoldable pub written : Html → ℕ → List ℕ
 written h b = encodeOf (InHtml h) (b ∷ [])
 
 -- The context replaces nothing but `&`, `<` and `>`.
-abbrev pub few : Html → Bool
-few TextMinimal = true
-few Text = true
-few DoubleQuoted = false
-few SingleQuoted = false
-few Quoted = false
-few Safe = false
-few Unquoted = false
+abbrev pub onlyText : Html → Bool
+onlyText TextMinimal = true
+onlyText Text = true
+onlyText DoubleQuoted = false
+onlyText SingleQuoted = false
+onlyText Quoted = false
+onlyText Safe = false
+onlyText Unquoted = false

@@ -1,13 +1,13 @@
-// Writes the encoding of a text by words. Each word is stored whole, so that up to seven bytes past what counts of it are written over, and by
-// the next word again; only the last bytes of a text are written exactly.
+// Writes the encoding of a text by words. Each word is stored whole, so that up to seven bytes past what counts of it are overwritten, and then
+// overwritten again by the next word; only the last bytes of a text are written exactly.
 use super::gains::Gains;
+use super::gains::gains_of;
 use super::gains::growth;
-use super::gains::weigh;
 use super::words::Words;
 use super::words::word;
 use rules::Html;
 ghost use mathlib.Core.Path.{_≡_};
-ghost use Prim.Native.Nat.{_+_, _/_, _≤_, _<_};
+ghost use Prim.Native.Nat.{_+_, _*_, _/_, _≤_, _<_};
 ghost use lib.ListN.{length};
 ghost use Rattle.rules.specs.Bytes.{over};
 ghost use Rattle.rules.specs.Operations.{encodeOf};
@@ -16,8 +16,11 @@ ghost use Rattle.encode_html.specs.Written.{written};
 ghost use Rattle.encode_html.specs.Gains.{gainsOf};
 ghost use Rattle.encode_html.specs.Words.{eight, wordsOf, Spills};
 
-// Stores the eight bytes of a word, and returns how many of them count.
-fn stamp(x: u64, output: &mut [u8]) -> usize
+// Bytes that are copied together if none is replaced: one vector, and few enough for most parts of a text to have nothing to replace.
+const PART: usize = 16;
+
+// Stores the eight bytes of a word and returns how many of them count.
+fn store(x: u64, output: &mut [u8]) -> usize
     requires { ⌜ 8 ≤ length (now output) ⌝ }
     ensures { λ r. ⌜ (r ≡ x / 0x100000000000000) × (now (output .exit) ≡ over (eight x) (now (output .entry))) ⌝ }
 {
@@ -32,13 +35,13 @@ fn stamp(x: u64, output: &mut [u8]) -> usize
     (x / 0x100_0000_0000_0000) as usize
 }
 
-// Writes what stands for a byte.
+// Writes the encoding of a byte.
 fn write_byte(h: Html, w: Words, b: u8, output: &mut [u8]) -> usize
     requires { ⌜ w ≡ wordsOf h ⌝ }
     requires { ⌜ length (written h b) + 7 ≤ length (now output) ⌝ }
     ensures { λ r. ⌜ (r ≡ length (written h b)) × Spills (written h b) (now (output .entry)) (now (output .exit)) ⌝ }
 {
-    stamp(word(h, w, b), output)
+    store(word(h, w, b), output)
 }
 
 // Writes the encoding of a text byte by byte, at the same speed whatever is replaced.
@@ -57,9 +60,9 @@ fn write_bytes(h: Html, w: Words, text: &[u8], output: &mut [u8]) -> usize
     at
 }
 
-// Writes the encoding of a part: a copy, if it does not grow.
+// Writes the encoding of a part, which is copied if it does not grow.
 fn write_part(h: Html, g: Gains, w: Words, part: &[u8], output: &mut [u8]) -> usize
-    requires { ⌜ (g ≡ gainsOf h) × (w ≡ wordsOf h) × (length (now part) ≤ 48) ⌝ }
+    requires { ⌜ (g ≡ gainsOf h) × (w ≡ wordsOf h) × (5 * length (now part) ≤ 255) ⌝ }
     requires { ⌜ length (encodeOf (InHtml h) (now part)) + 7 ≤ length (now output) ⌝ }
     ensures { λ r. ⌜ r ≡ length (encodeOf (InHtml h) (now (part .entry))) ⌝ }
     ensures { λ _. ⌜ Spills (encodeOf (InHtml h) (now (part .entry))) (now (output .entry)) (now (output .exit)) ⌝ }
@@ -77,18 +80,18 @@ fn write_parts(h: Html, w: Words, text: &[u8], output: &mut [u8]) -> usize
     ensures { λ r. ⌜ r ≡ length (encodeOf (InHtml h) (now (text .entry))) ⌝ }
     ensures { λ _. ⌜ Spills (encodeOf (InHtml h) (now (text .entry))) (now (output .entry)) (now (output .exit)) ⌝ }
 {
-    let g = weigh(h);
+    let g = gains_of(h, w);
     let mut at: usize = 0;
     let mut i: usize = 0;
     while i < text.len() {
-        let end = base::clip(i, text.len(), 16);
+        let end = base::clip(i, text.len(), PART);
         at += write_part(h, g, w, &text[i..end], &mut output[at..]);
         i = end;
     }
     at
 }
 
-// Writes the encoding of a text that grows by about `grow` bytes: byte by byte, if an eighth of it or more.
+// Writes the encoding of a text that grows by about `grow` bytes: byte by byte if that is an eighth of it or more, else part by part.
 pub fn write_most(h: Html, w: Words, text: &[u8], grow: usize, output: &mut [u8]) -> usize
     requires { ⌜ w ≡ wordsOf h ⌝ }
     requires { ⌜ length (encodeOf (InHtml h) (now text)) + 7 ≤ length (now output) ⌝ }
@@ -101,7 +104,7 @@ pub fn write_most(h: Html, w: Words, text: &[u8], grow: usize, output: &mut [u8]
     write_parts(h, w, text, output)
 }
 
-// Writes the encoding of a short text by way of a buffer that takes what spills over; what lies past it keeps its values.
+// Writes the encoding of a short text through a buffer that takes what the words overwrite; what lies past it in `output` keeps its values.
 pub fn write_exactly(h: Html, w: Words, text: &[u8], output: &mut [u8]) -> usize
     requires { ⌜ (w ≡ wordsOf h) × (length (now text) < 8) ⌝ }
     requires { ⌜ length (encodeOf (InHtml h) (now text)) ≤ length (now output) ⌝ }

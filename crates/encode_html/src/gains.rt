@@ -1,16 +1,17 @@
-// By how much a byte grows, as a sum of comparisons.
+// By how many bytes the encoding of a byte is longer than the byte, as a sum of comparisons: a loop over it has no branch and becomes vector code.
+use super::words::Words;
 use rules::Html;
 ghost use mathlib.Core.Path.{_≡_};
-ghost use Prim.Native.Nat.{_+_, _≤_};
+ghost use Prim.Native.Nat.{_+_, _-_, _*_, _/_, _≤_};
 ghost use lib.ListN.{length};
 ghost use Rattle.rules.specs.declared.Html.the-variants.{Unquoted};
 ghost use Rattle.encode_html.specs.Written.{written};
 ghost use Rattle.encode_html.specs.Gains.{gainOf, gainsOf, Grows};
+ghost use Rattle.encode_html.specs.Words.{wordsOf};
 
-// A context that replaces nothing but `&`, `<` and `>`, or every ASCII byte that is no letter or digit, or something between; and by how much
-// `>`, `"`, `'` and `/` grow in it.
+// Per context: whether it replaces nothing but `&`, `<` and `>`, whether it replaces all punctuation, and by how many bytes `>`, `"`, `'` and `/` grow.
 pub struct Gains {
-    pub few: bool,
+    pub text: bool,
     pub unquoted: bool,
     pub gt: u8,
     pub double: u8,
@@ -18,38 +19,30 @@ pub struct Gains {
     pub slash: u8,
 }
 
-impl Gains {
-    // The growths of a context, one by one.
-    fn new(few: bool, unquoted: bool, gt: u8, double: u8, single: u8, slash: u8) -> Self
-        ensures { λ r. ⌜ r ≡ record { few = few; unquoted = unquoted; gt = gt; double = double; single = single; slash = slash } ⌝ }
-    {
-        Self {
-            few,
-            unquoted,
-            gt,
-            double,
-            single,
-            slash,
-        }
-    }
+// By how many bytes the text of a word is longer than one byte. The word's highest byte is the text's length.
+fn gain_of(word: u64) -> u8
+    requires { ⌜ 0x100000000000000 ≤ word ⌝ }
+    ensures { λ r. ⌜ r ≡ word / 0x100000000000000 - 1 ⌝ }
+{
+    (word / 0x100_0000_0000_0000 - 1) as u8
 }
 
-// What is to be known of a context: the growth of the four bytes that not every context replaces.
-pub fn weigh(h: Html) -> Gains
+// Returns the growths of a context, read off its words.
+pub fn gains_of(h: Html, w: Words) -> Gains
+    requires { ⌜ w ≡ wordsOf h ⌝ }
     ensures { λ r. ⌜ r ≡ gainsOf h ⌝ }
 {
-    match h {
-        Html::TextMinimal => Gains::new(true, false, 0, 0, 0, 0),
-        Html::Text => Gains::new(true, false, 3, 0, 0, 0),
-        Html::DoubleQuoted => Gains::new(false, false, 3, 5, 0, 0),
-        Html::SingleQuoted => Gains::new(false, false, 3, 0, 5, 0),
-        Html::Quoted => Gains::new(false, false, 3, 5, 5, 0),
-        Html::Safe => Gains::new(false, false, 3, 5, 5, 5),
-        Html::Unquoted => Gains::new(false, true, 3, 5, 5, 5),
+    Gains {
+        text: w.text,
+        unquoted: w.unquoted,
+        gt: gain_of(w.gt),
+        double: gain_of(w.double),
+        single: gain_of(w.single),
+        slash: gain_of(w.slash),
     }
 }
 
-// By how much a byte grows in an unquoted attribute.
+// Returns by how many bytes a byte grows in an unquoted attribute.
 fn gain_unquoted(b: u8) -> u8
     ensures { λ r. ⌜ r ≡ gainOf Unquoted b ⌝ }
 {
@@ -62,7 +55,7 @@ fn gain_unquoted(b: u8) -> u8
     5 - base::when(b, b'&', 1) - base::when(b, b'<', 2) - base::when(b, b'>', 2)
 }
 
-// By how much a byte grows.
+// Returns by how many bytes a byte grows.
 pub fn gain(h: Html, g: Gains, b: u8) -> u8
     requires { ⌜ g ≡ gainsOf h ⌝ }
     ensures { λ r. ⌜ (r + 1 ≡ length (written h b)) × (r ≤ 5) ⌝ }
@@ -71,7 +64,7 @@ pub fn gain(h: Html, g: Gains, b: u8) -> u8
         return gain_unquoted(b);
     }
     let n = base::when(b, b'&', 4) + base::when(b, b'<', 3) + base::when(b, b'>', g.gt);
-    if g.few {
+    if g.text {
         return n;
     }
     n
@@ -80,9 +73,9 @@ pub fn gain(h: Html, g: Gains, b: u8) -> u8
         + base::when(b, b'/', g.slash)
 }
 
-// By how much a part grows. Its bytes are so few that the count fits a byte.
+// Returns by how many bytes a part grows. The part is short enough for the sum to fit a byte.
 pub fn growth(h: Html, g: Gains, part: &[u8]) -> u8
-    requires { ⌜ (g ≡ gainsOf h) × (length (now part) ≤ 48) ⌝ }
+    requires { ⌜ (g ≡ gainsOf h) × (5 * length (now part) ≤ 255) ⌝ }
     ensures { λ r. ⌜ Grows h (now (part .entry)) r ⌝ }
 {
     let mut n: u8 = 0;

@@ -1,32 +1,32 @@
-// Looks over a text: whether it is ASCII, and by how much it grows.
+// Passes over a text before it is written: whether it is ASCII, and by how many bytes it grows.
 use super::Scan;
 use super::gains::Gains;
 use super::gains::gain;
 use rules::Html;
 ghost use mathlib.Core.Path.{_≡_};
 ghost use mathlib.Core.Bool.{true, false};
-ghost use Prim.Native.Nat.{_≤_, _<_};
+ghost use Prim.Native.Nat.{_*_, _≤_, _<_};
 ghost use lib.ListN.{length};
 ghost use Rattle.base.specs.First.{Free};
-ghost use Rattle.encode_html.specs.Gains.{gainsOf, Grows, Each, Ascii, Calm};
+ghost use Rattle.encode_html.specs.Gains.{gainsOf, Grows, Each, Ascii, Unchanged};
 ghost use Rattle.encode_html.specs.Keys.{keyOf, keysOf, special, specialAt};
 
-// What is counted of a part of a text: its bytes that are not ASCII, and their growth.
-pub struct Pair {
-    pub high: u8,
-    pub grow: u8,
-}
+// Bytes that are counted together: two vectors, and few enough for their growth to fit a byte.
+const PART: usize = 32;
 
-// 0 for an ASCII byte, else 1.
+// Bytes that are tested together before the outcome is looked at: many, since most texts have nothing to replace or have it early.
+const BLOCK: usize = 1024;
+
+// Returns 0 for an ASCII byte, else 1.
 fn high(b: u8) -> u8
     ensures { λ r. ⌜ (r ≤ 1) × (r ≡ 0 → Ascii b) ⌝ }
 {
     if b < 128 { 0 } else { 1 }
 }
 
-// How many bytes of a part are not ASCII, and by how much it grows.
-fn tally(h: Html, g: Gains, part: &[u8]) -> Pair
-    requires { ⌜ (g ≡ gainsOf h) × (length (now part) ≤ 48) ⌝ }
+// Counts the bytes of a part that are not ASCII, and by how many bytes it grows. The part is short enough for both to fit a byte.
+fn tally(h: Html, g: Gains, part: &[u8]) -> Scan
+    requires { ⌜ (g ≡ gainsOf h) × (5 * length (now part) ≤ 255) ⌝ }
     ensures { λ r. ⌜ Grows h (now (part .entry)) (r .grow) × (r .high ≤ length (now (part .entry))) × (r .high ≡ 0 → Each Ascii (now (part .entry))) ⌝ }
 {
     let mut high_bytes: u8 = 0;
@@ -38,13 +38,13 @@ fn tally(h: Html, g: Gains, part: &[u8]) -> Pair
         n += gain(h, g, b);
         i += 1;
     }
-    Pair {
-        high: high_bytes,
-        grow: n,
+    Scan {
+        high: high_bytes as usize,
+        grow: n as usize,
     }
 }
 
-// The same of a text, part by part.
+// Counts the same of a text, part by part.
 pub fn count(h: Html, g: Gains, text: &[u8]) -> Scan
     requires { ⌜ (g ≡ gainsOf h) × (length (now text) ≤ 65536) ⌝ }
     ensures { λ r. ⌜ Grows h (now (text .entry)) (r .grow) × (r .high ≡ 0 → Each Ascii (now (text .entry))) ⌝ }
@@ -53,10 +53,10 @@ pub fn count(h: Html, g: Gains, text: &[u8]) -> Scan
     let mut n: usize = 0;
     let mut i: usize = 0;
     while i < text.len() {
-        let end = base::clip(i, text.len(), 32);
+        let end = base::clip(i, text.len(), PART);
         let found = tally(h, g, &text[i..end]);
-        high_bytes += found.high as usize;
-        n += found.grow as usize;
+        high_bytes += found.high;
+        n += found.grow;
         i = end;
     }
     Scan {
@@ -65,29 +65,29 @@ pub fn count(h: Html, g: Gains, text: &[u8]) -> Scan
     }
 }
 
-// What a calm text has none of, besides `&`, `<` and bytes that are not ASCII: `>`, `"`, `'` and `/`, each where the context replaces it, else `&`. With
-// `few` the last three are not looked for.
+// The bytes besides `&`, `<` and non-ASCII that the context replaces; `&` stands in for one that it does not. With `text` the last three are
+// not looked at.
 pub struct Keys {
-    pub few: bool,
+    pub text: bool,
     pub gt: u8,
     pub double: u8,
     pub single: u8,
     pub slash: u8,
 }
 
-// The byte where it grows, else `&`.
+// Returns the byte if it grows, else `&`.
 fn key(gain: u8, b: u8) -> u8
     ensures { λ r. ⌜ r ≡ keyOf gain b ⌝ }
 {
     if gain == 0 { b'&' } else { b }
 }
 
-// The keys of a context, from what is known of it.
+// Returns the keys of a context, read off its growths.
 fn keys_of(g: Gains) -> Keys
     ensures { λ r. ⌜ r ≡ keysOf g ⌝ }
 {
     Keys {
-        few: g.few,
+        text: g.text,
         gt: key(g.gt, b'>'),
         double: key(g.double, b'"'),
         single: key(g.single, b'\''),
@@ -95,18 +95,18 @@ fn keys_of(g: Gains) -> Keys
     }
 }
 
-// Whether a byte is one that a calm text has none of. It has no branch but one that is the same for every byte.
+// Reports whether a byte is not ASCII or replaced. Its one branch is the same for every byte.
 fn is_special(k: Keys, b: u8) -> bool
     ensures { λ r. ⌜ r ≡ special k b ⌝ }
 {
     let most = (127 < b) | (b == b'&') | (b == b'<') | (b == k.gt);
-    if k.few {
+    if k.text {
         return most;
     }
     most | (b == k.double) | (b == k.single) | (b == k.slash)
 }
 
-// Whether a part has such a byte: false only where it has none. The loop has no way out but its end, so that it is made vector code.
+// Reports whether a part has such a byte. The loop has no early exit, so that it becomes vector code.
 fn has_special(k: Keys, part: &[u8]) -> bool
     ensures { λ r. ⌜ (r ≡ false → Free (specialAt k (now (part .entry))) 0 (length (now (part .entry)))) ⌝ }
 {
@@ -119,11 +119,11 @@ fn has_special(k: Keys, part: &[u8]) -> bool
     hit
 }
 
-// Whether every byte of a text is ASCII and written as itself: true only where it is so. In an unquoted attribute it does not look: there such a
-// text is plain, which the frame has found before.
-pub fn is_calm(h: Html, g: Gains, text: &[u8]) -> bool
+// Reports whether a text is ASCII with nothing to replace; true only if so. In an unquoted attribute it does not look: there such a text is plain,
+// and the caller has tested for that.
+pub fn is_unchanged(h: Html, g: Gains, text: &[u8]) -> bool
     requires { ⌜ g ≡ gainsOf h ⌝ }
-    ensures { λ r. ⌜ (r ≡ true → Each (Calm h) (now (text .entry))) ⌝ }
+    ensures { λ r. ⌜ (r ≡ true → Each (Unchanged h) (now (text .entry))) ⌝ }
 {
     if g.unquoted {
         return false;
@@ -131,7 +131,7 @@ pub fn is_calm(h: Html, g: Gains, text: &[u8]) -> bool
     let k = keys_of(g);
     let mut i: usize = 0;
     while i < text.len() {
-        let end = base::clip(i, text.len(), 1024);
+        let end = base::clip(i, text.len(), BLOCK);
         if has_special(k, &text[i..end]) {
             return false;
         }

@@ -1,4 +1,4 @@
-// What is written for a byte, as one word: up to six bytes, the first the lowest, and in the highest byte how many they are.
+// The encoding of a byte as one word: up to six bytes, the first the lowest, and their number in the highest byte.
 // html-escape's `write_html_entity` and `write_hex`.
 use rules::Html;
 ghost use mathlib.Core.Path.{_≡_};
@@ -33,10 +33,9 @@ const PLAIN_APOSTROPHE: u64 = 0x0100_0000_0000_0027;
 // `/`
 const PLAIN_SOLIDUS: u64 = 0x0100_0000_0000_002F;
 
-// A context that replaces nothing but `&`, `<` and `>`, or every ASCII byte that is no letter or digit, or something between; and the words of
-// `>`, `"`, `'` and `/` in it.
+// Per context: whether it replaces nothing but `&`, `<` and `>`, whether it replaces all punctuation, and the words of `>`, `"`, `'` and `/`.
 pub struct Words {
-    pub few: bool,
+    pub text: bool,
     pub unquoted: bool,
     pub gt: u64,
     pub double: u64,
@@ -45,12 +44,12 @@ pub struct Words {
 }
 
 impl Words {
-    // The words of a context, one by one.
-    fn new(few: bool, unquoted: bool, gt: u64, double: u64, single: u64, slash: u64) -> Self
-        ensures { λ r. ⌜ r ≡ record { few = few; unquoted = unquoted; gt = gt; double = double; single = single; slash = slash } ⌝ }
+    // Makes the words of a context from its fields.
+    fn new(text: bool, unquoted: bool, gt: u64, double: u64, single: u64, slash: u64) -> Self
+        ensures { λ r. ⌜ r ≡ record { text = text; unquoted = unquoted; gt = gt; double = double; single = single; slash = slash } ⌝ }
     {
         Self {
-            few,
+            text,
             unquoted,
             gt,
             double,
@@ -60,15 +59,15 @@ impl Words {
     }
 }
 
-// The word of a byte that is written as itself.
+// Returns the word of a byte that is copied.
 fn plain(b: u8) -> u64
     ensures { λ r. ⌜ r ≡ wordOf (b ∷ []) ⌝ }
 {
     0x0100_0000_0000_0000 + b as u64
 }
 
-// What is to be known of a context: the words of the four bytes that not every context replaces.
-pub fn choose(h: Html) -> Words
+// Returns the words of a context: of the four bytes that not every context replaces.
+pub fn words_of(h: Html) -> Words
     ensures { λ r. ⌜ r ≡ wordsOf h ⌝ }
 {
     match h {
@@ -89,7 +88,7 @@ pub fn choose(h: Html) -> Words
     }
 }
 
-// The word of a byte that is written as `&#xHH;`.
+// Returns the word of a byte that is written as `&#xHH;`.
 fn hex(b: u8) -> u64
     ensures { λ r. ⌜ r ≡ wordOf (value (reference b)) ⌝ }
 {
@@ -98,14 +97,14 @@ fn hex(b: u8) -> u64
     HEX + first * 0x100_0000 + second * 0x1_0000_0000
 }
 
-// `word` where the byte is the key, else `other`.
+// Returns `word` if the byte is the key, else `other`.
 fn select(b: u8, key: u8, word: u64, other: u64) -> u64
     ensures { λ r. ⌜ r ≡ cond (eqb b key) word other ⌝ }
 {
     if b == key { word } else { other }
 }
 
-// The word of a byte in an unquoted attribute.
+// Returns the word of a byte in an unquoted attribute.
 fn word_unquoted(b: u8) -> u64
     ensures { λ r. ⌜ r ≡ wordOf (written Unquoted b) ⌝ }
 {
@@ -121,7 +120,7 @@ fn word_unquoted(b: u8) -> u64
     select(b, b'&', AMP, x)
 }
 
-// The word of a byte.
+// Returns the word of a byte.
 pub fn word(h: Html, w: Words, b: u8) -> u64
     requires { ⌜ w ≡ wordsOf h ⌝ }
     ensures { λ r. ⌜ r ≡ wordOf (written h b) ⌝ }
@@ -132,7 +131,7 @@ pub fn word(h: Html, w: Words, b: u8) -> u64
     let x = select(b, b'>', w.gt, plain(b));
     let x = select(b, b'<', LT, x);
     let x = select(b, b'&', AMP, x);
-    if w.few {
+    if w.text {
         return x;
     }
     let x = select(b, b'/', w.slash, x);

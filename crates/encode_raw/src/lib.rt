@@ -1,5 +1,5 @@
-// Raw script text, as script.rs and encode_impl.rs have it: a backslash goes in after each `<` that could open a comment or close the element.
-// Only a `<` before `!` or `/` can do so: where sixteen bytes have none, they are passed at once, and all that lies between is copied.
+// The encoder of raw script text, html-escape's script.rs and encode_impl.rs: a backslash goes in after each `<` that could open a comment or close
+// the element. Only a `<` before `!` or `/` can: blocks without one are skipped by one test, and everything between is copied.
 ghost use mathlib.Core.Bool.{false};
 ghost use mathlib.Core.Path.{_≡_};
 ghost use Prim.Native.Nat.{_+_, _≤_};
@@ -10,7 +10,10 @@ ghost use Rattle.rules.specs.Operations.{rawOf};
 ghost use Rattle.base.specs.First.{Free, First};
 ghost use Rattle.encode_raw.specs.Cuts.{suspect, cutAt};
 
-// Whether what follows a `<` is to be parted from it.
+// The bytes that are tested together: one vector.
+const BLOCK: usize = 16;
+
+// Reports whether a backslash goes in between a `<` and the bytes that follow it.
 fn is_parted(rest: &[u8]) -> bool
     ensures { λ r. ⌜ r ≡ parted (now (rest .entry)) ⌝ }
 {
@@ -20,49 +23,49 @@ fn is_parted(rest: &[u8]) -> bool
     base::prefix::closes_with(b"/script", true, rest)
 }
 
-// Whether the byte `b` after a byte `a` lets a backslash go between: false only where it does not.
+// Reports whether the bytes `a` and `b` are `<!` or `</`, without which no backslash goes in.
 fn is_suspect(a: u8, b: u8) -> bool
     ensures { λ r. ⌜ r ≡ suspect a b ⌝ }
 {
     (a == b'<') & ((b == b'!') | (b == b'/'))
 }
 
-// Whether a backslash may have to go in after one of the sixteen bytes from a place on: false only where none does. The loop has no way out
-// but its end, so that the sixteen are one vector.
-fn among(text: &[u8], at: usize) -> bool
+// Reports whether the block at `at` has a `<!` or `</`. The loop has no early exit, so that it becomes vector code.
+fn has_suspect(text: &[u8], at: usize) -> bool
     requires { ⌜ at + 17 ≤ length (now text) ⌝ }
     ensures { λ r. ⌜ (r ≡ false → Free (cutAt (now (text .entry))) at (at + 16)) ⌝ }
 {
     let mut hit = false;
     let mut j: usize = 0;
-    while j < 16 {
+    while j < BLOCK {
         hit = hit | is_suspect(text[at + j], text[at + j + 1]);
         j += 1;
     }
     hit
 }
 
-// Passes sixteen bytes at a time, up to those that `among` does not let pass, or until fewer are left.
-fn pass(text: &[u8], from: usize) -> usize
+// Skips blocks from `from` on and returns the start of the first that has a `<!` or `</`, or of what is left after the last block. The byte after a
+// block is read as well.
+fn skip_blocks(text: &[u8], from: usize) -> usize
     requires { ⌜ from ≤ length (now text) ⌝ }
     ensures { λ r. ⌜ (from ≤ r) × (r ≤ length (now (text .entry))) × Free (cutAt (now (text .entry))) from r ⌝ }
 {
     let mut i = from;
-    while 17 <= text.len() - i {
-        if among(text, i) {
+    while BLOCK < text.len() - i {
+        if has_suspect(text, i) {
             return i;
         }
-        i += 16;
+        i += BLOCK;
     }
     i
 }
 
-// The first place at or after `from` of a `<` that a backslash goes in after, or the text's length.
+// Returns the first offset at or after `from` of a `<` that a backslash goes in after, or the text's length.
 fn next_cut(text: &[u8], from: usize) -> usize
     requires { ⌜ from ≤ length (now text) ⌝ }
     ensures { λ r. ⌜ First (cutAt (now (text .entry))) (length (now (text .entry))) from r ⌝ }
 {
-    let mut i = pass(text, from);
+    let mut i = skip_blocks(text, from);
     while i < text.len() {
         if text[i] != b'<' {
             i += 1;
@@ -71,12 +74,12 @@ fn next_cut(text: &[u8], from: usize) -> usize
         if is_parted(&text[i + 1..]) {
             return i;
         }
-        i = pass(text, i + 1);
+        i = skip_blocks(text, i + 1);
     }
     i
 }
 
-// The length of the encoding of a text.
+// Returns the length of the encoding of a text.
 pub fn measure(text: &[u8]) -> usize
     requires { ⌜ length (now text) ≤ 65536 ⌝ }
     ensures { λ r. ⌜ r ≡ length (rawOf (now (text .entry))) ⌝ }

@@ -1,4 +1,4 @@
-// What a named reference stands for, and the texts of the table of names, each packed into one number.
+// The table of names: the value of a name, packed into one number, and the bytes of such a value.
 ghost use mathlib.Core.Option.{some};
 ghost use mathlib.Core.Path.{_≡_};
 ghost use Prim.Native.Nat.{_≤_, _<_};
@@ -11,32 +11,30 @@ ghost use Rattle.rules.specs.declared.DecodedEntityValue.the-variants.{Named};
 use rules::DecodedEntityValue;
 use rules::Meaning;
 
-// The value of one of the six names that are met most, packed; 0 for any other name.
+// Returns the packed value of one of the most common names, 0 for any other name: a few comparisons in place of a search. `amp` is not among them,
+// since the decoder knows `&amp;`, and `&lt;` and `&gt;` before the last four bytes of a text, without their names.
 fn common(name: &[u8]) -> u64
     ensures { λ r. ⌜ (0 < r → lookup names (now (name .entry)) ≡ some (valueBytes (Named r))) ⌝ }
 {
-    if names_search::same(b"amp", name) {
-        return 0x26;
-    }
     if names_search::same(b"lt", name) {
-        return 0x3C;
+        return 0x3C; // <
     }
     if names_search::same(b"gt", name) {
-        return 0x3E;
+        return 0x3E; // >
     }
     if names_search::same(b"quot", name) {
-        return 0x22;
+        return 0x22; // "
     }
     if names_search::same(b"apos", name) {
-        return 0x27;
+        return 0x27; // '
     }
     if names_search::same(b"nbsp", name) {
-        return 0xA0C2;
+        return 0xA0C2; // U+00A0, the first byte lowest
     }
     0
 }
 
-// The first byte of `name`; 0 if it has none.
+// Returns the first byte of a name; 0 if it has none.
 fn first_byte(name: &[u8]) -> u8
     ensures { λ r. ⌜ (r ≡ getD (now (name .entry)) 0 0) × (r ≤ 255) ⌝ }
 {
@@ -46,8 +44,8 @@ fn first_byte(name: &[u8]) -> u8
     name[0]
 }
 
-// What `name` stands for, found in the group that its first byte leads to; no name begins with a byte that is no letter.
-fn find(name: &[u8]) -> Meaning
+// Returns the value of a name, searched in the group of its first byte. Every name in the table begins with a letter.
+fn find_in_group(name: &[u8]) -> Meaning
     ensures { λ r. ⌜ meaningBytes r ≡ lookup names (now (name .entry)) ⌝ }
 {
     match first_byte(name) {
@@ -74,7 +72,7 @@ fn find(name: &[u8]) -> Meaning
     }
 }
 
-// What `name` stands for: the common names are tested first, as most names are of them.
+// Returns the value of a name: the common names are tested first.
 pub fn decode_named_entity(name: &[u8]) -> Meaning
     ensures { λ r. ⌜ meaningBytes r ≡ lookup names (now (name .entry)) ⌝ }
 {
@@ -82,10 +80,10 @@ pub fn decode_named_entity(name: &[u8]) -> Meaning
     if 0 < value {
         return Meaning::Value(DecodedEntityValue::Named(value));
     }
-    find(name)
+    find_in_group(name)
 }
 
-// How many bytes are packed into `value`: its number has a byte for each power of 256 that it reaches, and at most six are read.
+// Returns how many bytes are packed into a value, at most six: one for each power of 256 that it reaches.
 pub fn value_length(value: u64) -> usize
     ensures { λ r. ⌜ (r ≡ length (valueBytes (Named value))) × (r ≤ 6) ⌝ }
 {
@@ -98,7 +96,7 @@ pub fn value_length(value: u64) -> usize
     a + b + c + d + e + f
 }
 
-// Writes the bytes that are packed into `value` to the start of `output` and returns how many they are; what lies past them keeps its values.
+// Writes the bytes that are packed into a value to the start of `output` and returns their number; what lies past them keeps its values.
 pub fn put_value(value: u64, output: &mut [u8]) -> usize
     requires { ⌜ length (valueBytes (Named value)) ≤ length (now output) ⌝ }
     ensures { λ r. ⌜ (r ≡ length (valueBytes (Named value))) × (r ≤ 6) × (now (output .exit) ≡ over (valueBytes (Named value)) (now (output .entry))) ⌝ }

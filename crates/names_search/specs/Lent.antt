@@ -1,4 +1,4 @@
--- A lent table: what its numbers say, and what they must keep to.
+-- A lent table: the rows that its numbers hold, and when they are a table.
 -- Assumes nothing.
 use mathlib.Core.Bool.{Bool, false, _&&_}
 use mathlib.Core.Path.{_≡_}
@@ -12,13 +12,13 @@ use Rattle.rules.specs.Names.{below, rising}
 use Rattle.names_search.specs.declared.Order.{Order}
 use Rattle.names_search.specs.declared.Order.the-variants.{Before, Same, After}
 
--- What an order says of two names.
+-- The order of two names by their bytes.
 abbrev pub Ordered : Order → List ℕ → List ℕ → Type 0
 Ordered Before a b = T (below a b)
 Ordered Same a b = a ≡ b
 Ordered After a b = T (below b a)
 
--- The rows from the one that begins at place a: `bytes` are those from there on, `ends` the places where each name ends.
+-- The rows from the one that starts at offset a: `bytes` are those from there on, `ends` the offsets where each name ends.
 abbrev pub rowsFrom : List ℕ → ℕ → List ℕ → List ℕ → List Row
 rowsFrom bytes a [] values = []
 rowsFrom bytes a (e ∷ ends) [] = []
@@ -29,7 +29,7 @@ abbrev pub rowsOf : List ℕ → List ℕ → List ℕ → List Row
 rowsOf bytes [] values = []
 rowsOf bytes (a ∷ ends) values = rowsFrom (drop a bytes) a ends values
 
--- From the place a on, each name ends where it begins or later, none past the n bytes, and there are as many values.
+-- From the offset a on, each name ends where it starts or later, none past the n bytes, and there are as many values.
 abbrev pub cutsFrom : ℕ → ℕ → List ℕ → List ℕ → Bool
 cutsFrom n a [] [] = leb a n
 cutsFrom n a [] (v ∷ values) = false

@@ -1,4 +1,4 @@
--- The part of a table that a first byte leads to.
+-- The rows of a table by the first byte of their names.
 -- Assumes nothing.
 use mathlib.Core.List.{List}
 use lib.ListN.{getD}

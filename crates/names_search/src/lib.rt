@@ -1,5 +1,5 @@
-// A name looked up in a lent table, by halving. The table is three slices of numbers: the names' bytes one after the other, where each name
-// begins and the last one ends, and the values, each packed into one number.
+// Binary search for a name in a lent table. The table is three slices of numbers: the bytes of the names one after the other, the offset at which
+// each name starts and the last one ends, and the values, each packed into one number.
 ghost use mathlib.Core.Path.{_≡_};
 ghost use Prim.Native.Nat.{_≤_, _<_};
 ghost use lib.Dec.{T};
@@ -10,15 +10,15 @@ ghost use Rattle.names_search.specs.Lent.{Ordered, rowsOf, isTable};
 use rules::DecodedEntityValue;
 use rules::Meaning;
 
-// How the bytes of one name stand to those of another.
-pub enum Order {
+// The order of two names by their bytes.
+enum Order {
     Before,
     Same,
     After,
 }
 
-// How `a` stands to `b`, by bytes.
-pub fn compare(a: &[u8], b: &[u8]) -> Order
+// Compares two names byte by byte.
+fn compare(a: &[u8], b: &[u8]) -> Order
     ensures { λ r. ⌜ Ordered r (now (a .entry)) (now (b .entry)) ⌝ }
 {
     let mut i: usize = 0;
@@ -41,7 +41,7 @@ pub fn compare(a: &[u8], b: &[u8]) -> Order
     }
 }
 
-// A place from `low` to below `high`, half way.
+// Returns the index half way from `low` to `high`.
 fn middle(low: usize, high: usize) -> usize
     requires { ⌜ low < high ⌝ }
     ensures { λ r. ⌜ (low ≤ r) × (r < high) ⌝ }
@@ -49,7 +49,7 @@ fn middle(low: usize, high: usize) -> usize
     low + (high - low) / 2
 }
 
-// What `name` stands for in the table: the value of the row whose name it is, or nothing. The rows that can be it lie from `low` to `high`.
+// Returns the value of a name in the table, or nothing. Its row, if there is one, is from `low` on and before `high`.
 pub fn find(name: &[u8], bytes: &[u8], offsets: &[u16], values: &[u64]) -> Meaning
     requires { ⌜ T (isTable (now bytes) (now offsets) (now values)) ⌝ }
     ensures { λ r. ⌜ meaningBytes r ≡ lookup (rowsOf (now (bytes .entry)) (now (offsets .entry)) (now (values .entry))) (now (name .entry)) ⌝ }
@@ -76,7 +76,7 @@ pub fn find(name: &[u8], bytes: &[u8], offsets: &[u16], values: &[u64]) -> Meani
     Meaning::Nothing
 }
 
-// Whether `a` and `b` are the same bytes.
+// Reports whether two names are the same bytes.
 pub fn same(a: &[u8], b: &[u8]) -> bool
     ensures { λ r. ⌜ r ≡ sameBytes (now (a .entry)) (now (b .entry)) ⌝ }
 {

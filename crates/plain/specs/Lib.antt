@@ -1,2 +1,2 @@
--- The bytes that every operation leaves as they are.
+-- The bytes that no operation changes.
 pub mod Plain

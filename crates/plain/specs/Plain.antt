@@ -1,4 +1,4 @@
--- The bytes that no operation replaces, and that the unquoted reader takes as they are.
+-- Plain bytes: no operation replaces them.
 -- Assumes nothing.
 use mathlib.Core.Bool.{Bool, true, false, not, _&&_}
 use mathlib.Core.List.{List}
@@ -35,11 +35,11 @@ unquotedAt (Units c) = unquotedIn c
 unquotedAt ScriptRaw = false
 unquotedAt Unknown = false
 
--- A plain byte: where the context is unquoted a letter or a digit, else ASCII from the space on but for seven bytes.
+-- A plain byte: in an unquoted attribute a letter or a digit, else ASCII from the space on but for seven bytes.
 unfoldable pub plain : Bool → ℕ → Bool
 plain true b = letterOrDigit b
 plain false b = inside (32, 127) b && not (oneOf (ascii "\"&'/<>\\") b)
 
 -- The byte at place k of a text is not plain.
-abbrev pub oddAt : Bool → List ℕ → ℕ → Bool
-oddAt unquoted t k = not (plain unquoted (getD t k 0))
+abbrev pub specialAt : Bool → List ℕ → ℕ → Bool
+specialAt unquoted t k = not (plain unquoted (getD t k 0))

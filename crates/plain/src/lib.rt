@@ -1,15 +1,22 @@
-// Texts that every operation leaves as they are, such as most names: found by many bytes at a time, and copied.
+// Plain texts, which no operation changes, as most names are: they are found many bytes at a time, and copied.
 ghost use mathlib.Core.Bool.{true, false, not};
 ghost use mathlib.Core.Path.{_≡_};
 ghost use Prim.Native.Nat.{ℕ, _+_, _≤_, _<_};
 ghost use lib.ListN.{length, take};
 ghost use Rattle.rules.specs.Bytes.{over};
 ghost use Rattle.base.specs.First.{Free};
-ghost use Rattle.plain.specs.Plain.{plain, oddAt};
+ghost use Rattle.plain.specs.Plain.{plain, specialAt};
 
-// Whether a byte is not plain, by the rule of unquoted attributes where `unquoted` holds. There is no branch but one that is the same for every byte,
-// so that many are tested at once.
-fn is_odd(unquoted: bool, b: u8) -> bool
+// The sizes of the blocks in which a text is tested: the largest that fits into it, since fewer blocks are fewer branches. LARGE is four vectors.
+const SMALL: usize = 8;
+
+const MEDIUM: usize = 16;
+
+const LARGE: usize = 64;
+
+// Reports whether a byte is not plain; in unquoted attributes only letters and digits are. Its one branch is the same for every byte, so that many
+// bytes are tested at once.
+fn is_special(unquoted: bool, b: u8) -> bool
     ensures { λ r. ⌜ r ≡ not (plain unquoted b) ⌝ }
 {
     if unquoted {
@@ -25,38 +32,37 @@ fn is_odd(unquoted: bool, b: u8) -> bool
         | (b == b'\\')
 }
 
-// Whether one of the `size` bytes from a place on is not plain: false only where none is. The loop has no way out but its end, so that they are
-// one vector.
-fn has_odd(unquoted: bool, text: &[u8], at: usize, size: usize) -> bool
+// Reports whether one of the `size` bytes at `at` is not plain. The loop has no early exit, so that it becomes vector code.
+fn has_special(unquoted: bool, text: &[u8], at: usize, size: usize) -> bool
     requires { ⌜ at + size ≤ length (now text) ⌝ }
-    ensures { λ r. ⌜ (r ≡ false → Free (oddAt unquoted (now (text .entry))) at (at + size)) ⌝ }
+    ensures { λ r. ⌜ (r ≡ false → Free (specialAt unquoted (now (text .entry))) at (at + size)) ⌝ }
 {
     let mut hit = false;
     let mut j: usize = 0;
     while j < size {
-        hit = hit | is_odd(unquoted, text[at + j]);
+        hit = hit | is_special(unquoted, text[at + j]);
         j += 1;
     }
     hit
 }
 
-// Where the next bytes begin that are taken together, of a text that is done up to a place: there, or where fewer are left at the last of them.
+// Returns the start of the next block: `done`, or `last` if less than a block is left. That last block overlaps the one before.
 fn next(done: usize, last: usize) -> usize
     ensures { λ r. ⌜ (r ≤ done) × (r ≤ last) × ((n : ℕ) → 0 < n → done < last + n → done < r + n) ⌝ }
 {
     if done < last { done } else { last }
 }
 
-// Whether each byte of a text is plain: true only where it is so. It takes `size` bytes together, and at the end the last of them, some again.
+// Reports whether every byte of a text is plain, by blocks of `size` bytes.
 fn all_plain(unquoted: bool, text: &[u8], size: usize) -> bool
     requires { ⌜ (0 < size) × (size ≤ length (now text)) ⌝ }
-    ensures { λ r. ⌜ (r ≡ true → Free (oddAt unquoted (now (text .entry))) 0 (length (now (text .entry)))) ⌝ }
+    ensures { λ r. ⌜ (r ≡ true → Free (specialAt unquoted (now (text .entry))) 0 (length (now (text .entry)))) ⌝ }
 {
     let last = text.len() - size;
     let mut done: usize = 0;
     while done < text.len() {
         let at = next(done, last);
-        if has_odd(unquoted, text, at, size) {
+        if has_special(unquoted, text, at, size) {
             return false;
         }
         done = at + size;
@@ -64,34 +70,34 @@ fn all_plain(unquoted: bool, text: &[u8], size: usize) -> bool
     true
 }
 
-// The longest text that is looked at. By the rule of unquoted attributes that is any text that a call takes; by the other rule a short one, since
-// each job has a look of its own that is quicker for long ones.
+// Returns the length of the longest text that is tested. For unquoted attributes it is the limit of every call; else it is short, since every
+// other operation has a pass of its own that is quicker for long texts.
 fn longest(unquoted: bool) -> usize
     ensures { λ r. ⌜ r ≤ 65536 ⌝ }
 {
-    if unquoted { 65536 } else { 64 }
+    if unquoted { rules::TEXT_LIMIT } else { LARGE }
 }
 
-// Whether each byte of a text of eight or more is plain: true only where it is so. The longer it is, the more are tested together.
+// Reports whether a text of eight bytes or more is plain; false also for a text that is not tested. The longer it is, the larger the blocks.
 pub fn is_plain(unquoted: bool, text: &[u8]) -> bool
-    ensures { λ r. ⌜ (r ≡ true → (8 ≤ length (now (text .entry))) × (length (now (text .entry)) ≤ 65536) × Free (oddAt unquoted (now (text .entry))) 0 (length (now (text .entry)))) ⌝ }
+    ensures { λ r. ⌜ (r ≡ true → (8 ≤ length (now (text .entry))) × (length (now (text .entry)) ≤ 65536) × Free (specialAt unquoted (now (text .entry))) 0 (length (now (text .entry)))) ⌝ }
 {
     if longest(unquoted) < text.len() {
         return false;
     }
-    if 64 < text.len() {
-        return all_plain(unquoted, text, 64);
+    if LARGE < text.len() {
+        return all_plain(unquoted, text, LARGE);
     }
-    if 16 <= text.len() {
-        return all_plain(unquoted, text, 16);
+    if MEDIUM <= text.len() {
+        return all_plain(unquoted, text, MEDIUM);
     }
-    if 8 <= text.len() {
-        return all_plain(unquoted, text, 8);
+    if SMALL <= text.len() {
+        return all_plain(unquoted, text, SMALL);
     }
     false
 }
 
-// Writes the first eight bytes of a text to the start of `output`: all are read first, so that it is one load and one store.
+// Writes the first eight bytes of a text to the start of `output`. All are read before the first is written, so that it is one load and one store.
 fn put_eight(text: &[u8], output: &mut [u8])
     requires { ⌜ (8 ≤ length (now text)) × (8 ≤ length (now output)) ⌝ }
     ensures { λ _. ⌜ now (output .exit) ≡ over (take 8 (now (text .entry))) (now (output .entry)) ⌝ }
@@ -114,7 +120,7 @@ fn put_eight(text: &[u8], output: &mut [u8])
     output[7] = h;
 }
 
-// Writes a text of eight bytes or more by eights.
+// Writes a text of eight bytes or more in blocks of eight; the last block may overlap the one before.
 fn put_eights(text: &[u8], output: &mut [u8]) -> usize
     requires { ⌜ (8 ≤ length (now text)) × (length (now text) ≤ length (now output)) ⌝ }
     ensures { λ r. ⌜ (r ≡ length (now (text .entry))) × (now (output .exit) ≡ over (now (text .entry)) (now (output .entry))) ⌝ }
@@ -129,13 +135,13 @@ fn put_eights(text: &[u8], output: &mut [u8]) -> usize
     done
 }
 
-// Writes a text of eight bytes or more to the start of `output` and returns its length, as `base::put` does, but quicker where it is short; what
-// lies past it keeps its values.
+// Writes a text of eight bytes or more to the start of `output` and returns its length; what lies past it keeps its values. Quicker than
+// `base::put` for short texts.
 pub fn put(text: &[u8], output: &mut [u8]) -> usize
     requires { ⌜ (8 ≤ length (now text)) × (length (now text) ≤ length (now output)) ⌝ }
     ensures { λ r. ⌜ (r ≡ length (now (text .entry))) × (now (output .exit) ≡ over (now (text .entry)) (now (output .entry))) ⌝ }
 {
-    if 64 < text.len() {
+    if LARGE < text.len() {
         return base::put(text, output);
     }
     put_eights(text, output)

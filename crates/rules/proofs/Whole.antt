@@ -218,7 +218,8 @@ shortRow e = leb (5 * length (key e)) (6 * length (value e))
 row-fifth : (c : Context) (row : Row) → In row (rows c) → Fifth (swap (value row) (key row))
 row-fifth c row i = leb→le (5 * length (key row)) (6 * length (value row)) (all-in shortRow (rows c) (every (λ (c : Context). all shortRow (rows c)) tt c) row i)
 
-decode-fair : (c : Context) (p : ℕ) (s : List ℕ) → Fair Fifth (decodeStep c p s) s
+-- What decode takes at a place is there, and what it gives is at most a fifth longer.
+pub decode-fair : (c : Context) (p : ℕ) (s : List ℕ) → Fair Fifth (decodeStep c p s) s
 unfolding decodeStep referenceStep
 decode-fair (InHtml h) = reference-fair Fifth kept-fifth decodeChar (reference-fifth decodeChar decode-short)
 decode-fair (InScript q) = escape-fair Fifth kept-fifth (leb→le 5 12 tt) (leb→le 5 12 tt) (InScript q) (row-fifth (InScript q)) (ascii "script")
@@ -233,7 +234,8 @@ decode-goes (InStyle q) = escape-goes (rows (InStyle q)) (ascii "style")
 pub decode-whole : (c : Context) (s : List ℕ) → taken (through (decodeStep c) s) ≡ s
 decode-whole c = whole Fifth (decodeStep c) (decode-fair c) (decode-goes c)
 
-browse-fair : (p : ℕ) (s : List ℕ) → Fair Fifth (browseStep p s) s
+-- The same of browse.
+pub browse-fair : (p : ℕ) (s : List ℕ) → Fair Fifth (browseStep p s) s
 unfolding browseStep
 browse-fair = reference-fair Fifth kept-fifth browseChar (reference-fifth browseChar browse-short)
 

@@ -1,7 +1,7 @@
 -- The character at the head of a text, by its first byte. What may follow a first byte in the sequences of RFC 3629 is computed once for each of the
 -- 256 bytes, and is what the check tests.
 -- Assumes nothing.
-use mathlib.Core.Bool.{Bool, true, false, cond, _&&_}
+use mathlib.Core.Bool.{Bool, true, false, cond, _&&_, and-false}
 use mathlib.Core.Option.{Option, none, some}
 use mathlib.Core.Path.{_≡_, refl, sym, ap, _∙_, subst}
 use mathlib.Core.List.{List, [], _∷_}
@@ -77,10 +77,6 @@ fits-short : (q : List Range) (w : List ℕ) → length w < length q → fits in
 fits-short [] w h = absurd (not-suc-le-zero h)
 fits-short (p ∷ q) [] h = refl
 fits-short (p ∷ q) (x ∷ w) h = rw (fits-short q w (le-of-suc-le-suc h)) (and-false (inside p x))
-  where
-    and-false : (b : Bool) → (b && false) ≡ false
-    and-false true = refl
-    and-false false = refl
 
 -- What the check takes to follow a first byte.
 abbrev tested : ℕ → List (List Range)

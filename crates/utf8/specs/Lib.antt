@@ -1,2 +1,2 @@
--- What the check of UTF-8 tests.
+-- What the UTF-8 check tests.
 pub mod Check

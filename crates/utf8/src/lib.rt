@@ -1,6 +1,6 @@
-// How far a text is valid UTF-8, and the character that stands at its head. A text is read by parts: 128 bytes that are all ASCII, or up to 227
-// bytes each of which fits after the three before it, are passed by counting; the rest is read character by character. The tests of single bytes
-// have no branch and the counts no early end, so that many bytes are tested at once.
+// The UTF-8 check of RFC 3629. A text is read in blocks: a block that is all ASCII, or in which each byte may follow the three before it (the usual
+// range check over a window of four bytes), is passed as a whole; the rest is read character by character. The loops over blocks have no early exit
+// and no branch on a byte, so that they become vector code.
 ghost use mathlib.Core.Path.{_≡_};
 ghost use Prim.Native.Nat.{ℕ, suc, _+_, _≤_, _<_};
 ghost use lib.ListN.{length, take, drop, getD};
@@ -9,43 +9,52 @@ ghost use Rattle.rules.specs.Moves.{takes};
 ghost use Rattle.rules.specs.Utf8.{IsText, charStep, validTo};
 ghost use Rattle.utf8.specs.Check.{isStart, onward, tailsOf, isOpen, fitsAfter, headsFit, AllFit, pendingIn};
 
-// Whether a byte can start a character.
+// The longest block that is tested for being ASCII: the largest power of two whose count of bytes fits a byte.
+const ASCII_BLOCK: usize = 128;
+
+// The longest block that is tested by windows: the first three bytes one by one, and seven times 32. The count of bytes fits a byte.
+const WINDOWS_BLOCK: usize = 227;
+
+// The shortest block that is tested by windows: three bytes and 32. A shorter one is read faster character by character.
+const WINDOWS_LEAST: usize = 35;
+
+// Reports whether a byte can start a character.
 fn is_start(d: u8) -> bool
     ensures { λ r. ⌜ r ≡ isStart d ⌝ }
 {
-    (d < 128) | ((194 <= d) & (d <= 244))
+    (d < 0x80) | ((0xC2 <= d) & (d <= 0xF4))
 }
 
-// The least byte that goes on after the byte `c` of a character.
+// Returns the lowest byte that may follow the byte `c` of an unfinished character. E0 and F0 exclude overlong forms.
 fn low(c: u8) -> u8
     ensures { λ r. ⌜ r ≡ onward c .0 ⌝ }
 {
     match c {
-        224 => 160,
-        240 => 144,
-        _ => 128,
+        0xE0 => 0xA0,
+        0xF0 => 0x90,
+        _ => 0x80,
     }
 }
 
-// The greatest.
+// Returns the highest. ED excludes surrogates, F4 excludes what is above U+10FFFF.
 fn high(c: u8) -> u8
     ensures { λ r. ⌜ r ≡ onward c .1 ⌝ }
 {
     match c {
-        237 => 159,
-        244 => 143,
-        _ => 191,
+        0xED => 0x9F,
+        0xF4 => 0x8F,
+        _ => 0xBF,
     }
 }
 
-// Whether the byte `d` goes on after the byte `c` of a character.
+// Reports whether the byte `d` may follow the byte `c` of an unfinished character.
 fn goes_on(c: u8, d: u8) -> bool
     ensures { λ r. ⌜ r ≡ inside (onward c) d ⌝ }
 {
     base::is_within(low(c), high(c), d)
 }
 
-// How many bytes the character of a first byte above ASCII has: as many as the one-bits that the byte starts with.
+// Returns the length of a character by its first byte, which is not ASCII: the number of one-bits that the byte starts with.
 fn lead_ones(a: u8) -> usize
     requires { ⌜ (194 ≤ a) × (a ≤ 244) ⌝ }
     ensures { λ r. ⌜ (r ≡ suc (length (tailsOf a))) × (2 ≤ r) × (r ≤ 4) ⌝ }
@@ -53,7 +62,7 @@ fn lead_ones(a: u8) -> usize
     u8::leading_zeros(!a) as usize
 }
 
-// Whether the other bytes of a character stand after the first byte of `rest`, which says that it has `n` bytes.
+// Reports whether the first byte of `rest`, which starts a character of `n` bytes, is followed by the others.
 fn has_tails(rest: &[u8], n: usize) -> bool
     requires { ⌜ (128 ≤ getD (now rest) 0 0) × (n ≡ suc (length (tailsOf (getD (now rest) 0 0)))) × (2 ≤ n) × (n ≤ 4) × (n ≤ length (now rest)) ⌝ }
     ensures { λ r. ⌜ r ≡ fits inside (tailsOf (getD (now (rest .entry)) 0 0)) (drop 1 (now (rest .entry))) ⌝ }
@@ -62,22 +71,22 @@ fn has_tails(rest: &[u8], n: usize) -> bool
     if n == 2 {
         return two;
     }
-    let three = two & base::is_within(128, 191, rest[2]);
+    let three = two & base::is_within(0x80, 0xBF, rest[2]);
     if n == 3 {
         return three;
     }
-    three & base::is_within(128, 191, rest[3])
+    three & base::is_within(0x80, 0xBF, rest[3])
 }
 
-// How many bytes the character at the head of `rest` has, 0 where none stands there.
-pub fn sequence(rest: &[u8]) -> usize
+// Returns the length of the character that `rest` begins with, or 0 if it begins with none.
+fn sequence(rest: &[u8]) -> usize
     ensures { λ r. ⌜ (r ≡ length (takes (charStep 0 (now (rest .entry))))) × (r ≤ length (now (rest .entry))) × (r ≤ 4) ⌝ }
 {
     if rest.len() == 0 {
         return 0;
     }
     let a = rest[0];
-    if a < 128 {
+    if a < 0x80 {
         return 1;
     }
     if !is_start(a) {
@@ -93,14 +102,14 @@ pub fn sequence(rest: &[u8]) -> usize
     0
 }
 
-// Whether the last character of the bytes `a`, `b` and `c` is unfinished.
+// Reports whether the bytes `a`, `b` and `c` end within a character.
 fn is_open(a: u8, b: u8, c: u8) -> bool
     ensures { λ r. ⌜ r ≡ isOpen a b c ⌝ }
 {
-    (192 <= c) | (224 <= b) | (240 <= a)
+    (0xC0 <= c) | (0xE0 <= b) | (0xF0 <= a)
 }
 
-// Whether the byte `d` fits after them: it goes on with a character that is unfinished, else it starts one.
+// Reports whether the byte `d` may follow them: as a continuation of an unfinished character, else as the start of one.
 fn is_fit(a: u8, b: u8, c: u8, d: u8) -> bool
     ensures { λ r. ⌜ r ≡ fitsAfter a b c d ⌝ }
 {
@@ -110,7 +119,7 @@ fn is_fit(a: u8, b: u8, c: u8, d: u8) -> bool
     is_start(d)
 }
 
-// Whether the first three bytes of a part fit where nothing comes before them.
+// Reports whether the first three bytes of a block may start a text.
 fn heads_fit(part: &[u8]) -> bool
     requires { ⌜ 3 ≤ length (now part) ⌝ }
     ensures { λ r. ⌜ r ≡ headsFit (now (part .entry)) ⌝ }
@@ -118,7 +127,7 @@ fn heads_fit(part: &[u8]) -> bool
     is_fit(0, 0, 0, part[0]) & is_fit(0, 0, part[0], part[1]) & is_fit(0, part[0], part[1], part[2])
 }
 
-// How many bytes of a part do not fit after the three before them; 1 where one of its first three does not.
+// Counts the bytes of a block that may not follow the three before them; 1 if that is so of one of its first three.
 fn misfits(part: &[u8]) -> u8
     requires { ⌜ (3 ≤ length (now part)) × (length (now part) ≤ 227) ⌝ }
     ensures { λ r. ⌜ (r ≡ 0 → AllFit 0 0 0 (now (part .entry))) ⌝ }
@@ -137,25 +146,25 @@ fn misfits(part: &[u8]) -> u8
     n
 }
 
-// How many bytes at the end of a part belong to a character that is unfinished.
+// Returns how many bytes at the end of a block belong to an unfinished character.
 fn unfinished(part: &[u8]) -> usize
     requires { ⌜ 3 ≤ length (now part) ⌝ }
     ensures { λ r. ⌜ (r ≡ pendingIn 0 0 0 (now (part .entry))) × (r ≤ 3) ⌝ }
 {
     let n = part.len();
-    if 192 <= part[n - 1] {
+    if 0xC0 <= part[n - 1] {
         return 1;
     }
-    if 224 <= part[n - 2] {
+    if 0xE0 <= part[n - 2] {
         return 2;
     }
-    if 240 <= part[n - 3] {
+    if 0xF0 <= part[n - 3] {
         return 3;
     }
     0
 }
 
-// How many bytes of a part are known to be valid: where each fits, all but those of an unfinished character; else none.
+// Returns the length of a valid prefix of a block: all but an unfinished character at its end if every window is right, else 0.
 fn fitting(part: &[u8]) -> usize
     requires { ⌜ (3 ≤ length (now part)) × (length (now part) ≤ 227) ⌝ }
     ensures { λ r. ⌜ (r ≤ length (now (part .entry))) × IsText (take r (now (part .entry))) ⌝ }
@@ -166,7 +175,7 @@ fn fitting(part: &[u8]) -> usize
     0
 }
 
-// How many bytes of a part are not ASCII.
+// Counts the bytes of a block that are not ASCII.
 fn highs(part: &[u8]) -> u8
     requires { ⌜ length (now part) ≤ 128 ⌝ }
     ensures { λ r. ⌜ (r ≡ 0 → (k : ℕ) → k < length (now (part .entry)) → getD (now (part .entry)) k 0 < 128) ⌝ }
@@ -174,7 +183,7 @@ fn highs(part: &[u8]) -> u8
     let mut n: u8 = 0;
     let mut k: usize = 0;
     while k < part.len() {
-        if 128 <= part[k] {
+        if 0x80 <= part[k] {
             n += 1;
         }
         k += 1;
@@ -182,24 +191,24 @@ fn highs(part: &[u8]) -> u8
     n
 }
 
-// A place from `i` on up to which the text is still valid, by the part that starts at `i`: its end where all is ASCII, or the end of its last whole
-// character where each byte fits; else `i`. 227 bytes are three and seven times 32, which are tested at once; under 35 plain reading is faster.
+// Returns a place up to which the text is valid, by the block at `i`: its end if it is ASCII, else the end of its last whole character if every
+// window is right, else `i`.
 fn ahead(text: &[u8], i: usize) -> usize
     requires { ⌜ (i < length (now text)) × IsText (take i (now text)) ⌝ }
     ensures { λ r. ⌜ (i ≤ r) × (r ≤ length (now (text .entry))) × IsText (take r (now (text .entry))) ⌝ }
 {
-    let e = base::clip(i, text.len(), 128);
+    let e = base::clip(i, text.len(), ASCII_BLOCK);
     if highs(&text[i..e]) == 0 {
         return e;
     }
-    let f = base::clip(i, text.len(), 227);
-    if f - i < 35 {
+    let f = base::clip(i, text.len(), WINDOWS_BLOCK);
+    if f - i < WINDOWS_LEAST {
         return i;
     }
     i + fitting(&text[i..f])
 }
 
-// The length of the longest valid prefix, of which the first `i` bytes are known: read character by character.
+// Returns the length of the longest valid prefix, given that the first `i` bytes are valid: read character by character.
 fn plain_to(text: &[u8], i: usize) -> usize
     requires { ⌜ (i ≤ length (now text)) × IsText (take i (now text)) ⌝ }
     ensures { λ r. ⌜ (r ≡ validTo (now (text .entry))) × (r ≤ length (now (text .entry))) ⌝ }
@@ -215,7 +224,7 @@ fn plain_to(text: &[u8], i: usize) -> usize
     k
 }
 
-// The length of the longest valid prefix: by parts as far as they go, then plainly.
+// Returns the length of the longest valid prefix: by blocks as far as they go, then character by character.
 pub fn valid_to(text: &[u8]) -> usize
     ensures { λ r. ⌜ (r ≡ validTo (now (text .entry))) × (r ≤ length (now (text .entry))) ⌝ }
 {

@@ -12,33 +12,21 @@ use Rattle.rules.specs.Operations.{encodeOf}
 use Rattle.rules.specs.declared.Context.the-variants.{InHtml}
 use Rattle.base.proofs.Filled.{lent-rest}
 use Rattle.encode_html.proofs.Spilt.{over-spilt}
-use Rattle.encode_html.proofs.Text.{copied, halves, half-sizes}
+use Rattle.encode_html.proofs.Text.{halves, half-sizes}
 use Rattle.encode_html.proofs.write.Statement.{statement}
 use Rattle.encode_html.proofs.write.Tie as tie
 
-put-requires : tie.Need-put-requires
-put-requires c κs = search needs
+words-of-requires : tie.Need-words-of-requires
+words-of-requires c κs = search needs
+
+write-exactly-requires : tie.Need-write-exactly-requires
+write-exactly-requires c κs = search needs
 
 same-length : tie.Need-same-length
 same-length c = search needs
 
 returns : tie.Need-returns
-returns c =
-    let s = c .before .before .before .before .before .before .before in
-    let e = copied (s .args .h) (s .args .text .now) (omega (arith, s .pre .0, c .before .before .before .before .if1 .taken)) in
-    rw e (c .before .before .put .ensures)
-
-choose-requires : tie.Need-choose-requires
-choose-requires c κs = search needs
-
-write-exactly-requires : tie.Need-write-exactly-requires
-write-exactly-requires c κs = search needs
-
-same-length-2 : tie.Need-same-length-2
-same-length-2 c = search needs
-
-returns-2 : tie.Need-returns-2
-returns-2 c = search needs
+returns c = search needs
 
 sub-end : tie.Need-sub-end
 sub-end c = search needs
@@ -48,10 +36,10 @@ slice-aggregate-write-most c = sym (length-take-le _ _ (omega arith))
 
 write-most-requires : tie.Need-write-most-requires
 write-most-requires c κs =
-    let s = c .before .before .before .before .before .before .before in
+    let s = c .before .before .before .before .before .before in
     let a = s .args in
     let t = a .text .now in
-    (c .before .before .before .choose .ensures, omega (arith, half-sizes (a .h) t (length t - 7), s .pre .1))
+    (c .before .before .before .words-of .ensures, omega (arith, half-sizes (a .h) t (length t - 7), s .pre .1))
 
 sub-write-exactly : tie.Need-sub-write-exactly
 sub-write-exactly c = search needs
@@ -64,7 +52,7 @@ part-write-exactly-end c = search needs
 
 sub-write-exactly-2 : tie.Need-sub-write-exactly-2
 sub-write-exactly-2 c =
-    let s = c .before .before .before .before .before .before .before .before .before .before .before in
+    let s = c .before .before .before .before .before .before .before .before .before .before in
     let a = s .args in
     let t = a .text .now in
     let m = c .before .before .before .write-most in
@@ -72,7 +60,7 @@ sub-write-exactly-2 c =
 
 part-write-exactly-start-2 : tie.Need-part-write-exactly-start-2
 part-write-exactly-start-2 c =
-    let s = c .before .before .before .before .before .before .before .before .before .before .before in
+    let s = c .before .before .before .before .before .before .before .before .before .before in
     let a = s .args in
     let t = a .text .now in
     let m = c .before .before .before .write-most in
@@ -83,29 +71,29 @@ part-write-exactly-end-2 c = search needs
 
 write-exactly-requires-2 : tie.Need-write-exactly-requires-2
 write-exactly-requires-2 c κs =
-    let s = c .before .before .before .before .before .before .before .before .before .before .before .before in
+    let s = c .before .before .before .before .before .before .before .before .before .before .before in
     let a = s .args in
     let t = a .text .now in
     let m = c .before .before .before .before .write-most in
     let sizes = half-sizes (a .h) t (length t - 7) in (
-      (c .before .before .before .before .before .before .before .before .choose .ensures, omega arith),
+      (c .before .before .before .before .before .before .before .before .words-of .ensures, omega arith),
       rw (lent-rest (m .result) (m .last .1 .1 .1 .1 .0), length-drop) (omega (arith, s .pre .1, m .ensures .0, m .kept .1 .1 .1 .1 .0)),
     )
 
 add-result : tie.Need-add-result
 add-result c =
-    let s = c .before .before .before .before .before .before .before .before .before .before .before .before .before .before .before in
+    let s = c .before .before .before .before .before .before .before .before .before .before .before .before .before .before in
     let a = s .args in
     let t = a .text .now in
     let m = c .before .before .before .before .before .before .before .write-most in
     omega (arith, half-sizes (a .h) t (length t - 7), s .pre .1, m .ensures .0, c .before .before .write-exactly2 .ensures .0)
 
-same-length-3 : tie.Need-same-length-3
-same-length-3 c = search needs
+same-length-2 : tie.Need-same-length-2
+same-length-2 c = search needs
 
-returns-3 : tie.Need-returns-3
-returns-3 c =
-    let a = c .before .before .before .before .before .before .before .before .before .before .before .before .before .before .before .args in
+returns-2 : tie.Need-returns-2
+returns-2 c =
+    let a = c .before .before .before .before .before .before .before .before .before .before .before .before .before .before .args in
     let t = a .text .now in
     let m = c .before .before .before .before .before .before .before .write-most in
     let x = c .before .before .write-exactly2 in
@@ -120,13 +108,10 @@ pub write-spec : {M : Type 1} → statement M
 write-spec =
     tie.close
     (tie.spec
-    put-requires
+    words-of-requires
+    write-exactly-requires
     same-length
     returns
-    choose-requires
-    write-exactly-requires
-    same-length-2
-    returns-2
     sub-end
     slice-aggregate-write-most
     write-most-requires
@@ -138,5 +123,5 @@ write-spec =
     part-write-exactly-end-2
     write-exactly-requires-2
     add-result
-    same-length-3
-    returns-3)
+    same-length-2
+    returns-2)

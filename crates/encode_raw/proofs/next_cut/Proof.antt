@@ -19,11 +19,11 @@ Inv-loop text from i₀ i = (from ≤ i) × (i ≤ length text) × Free (cutAt t
 abbrev μ-loop : tie.MeasureT-loop
 μ-loop text from i₀ i = length text - i
 
-pass-requires : tie.Need-pass-requires Inv-loop μ-loop
-pass-requires c κs = search needs
+skip-blocks-requires : tie.Need-skip-blocks-requires Inv-loop μ-loop
+skip-blocks-requires c κs = search needs
 
 loop-holds : tie.Need-loop-holds Inv-loop μ-loop
-loop-holds c = c .pass .ensures
+loop-holds c = c .skip-blocks .ensures
 
 shared-slice-read-if1 : tie.Need-shared-slice-read-if1 Inv-loop μ-loop
 shared-slice-read-if1 c = search needs
@@ -66,11 +66,11 @@ returns c =
       here = λ h. less-cut (a .text .now) (l .i) true (search needs) (sym (c .if2 .taken) ∙ c .before .is-parted .ensures);
     }
 
-add-pass : tie.Need-add-pass Inv-loop μ-loop
-add-pass c = search needs
+add-skip-blocks : tie.Need-add-skip-blocks Inv-loop μ-loop
+add-skip-blocks c = search needs
 
-pass-requires-2 : tie.Need-pass-requires-2 Inv-loop μ-loop
-pass-requires-2 c κs = search needs
+skip-blocks-requires-2 : tie.Need-skip-blocks-requires-2 Inv-loop μ-loop
+skip-blocks-requires-2 c κs = search needs
 
 loop-less-2 : tie.Need-loop-less-2 Inv-loop μ-loop
 loop-less-2 c = search needs
@@ -81,7 +81,7 @@ loop-again-2 c =
     let l = c .before .before .before .before .before .before .before .loop in
     let f = c .before .before .is-parted .ensures in
     let none = free-step (cutAt (a .text .now)) (a .from) (l .i) (l .inv .2) (less-cut (a .text .now) (l .i) false (search needs) (sym (c .before .if2 .left) ∙ f)) in
-    (search needs, search needs, free-join (cutAt (a .text .now)) (a .from) (l .i + 1) (c .pass2 .result) none (c .pass2 .ensures .2))
+    (search needs, search needs, free-join (cutAt (a .text .now)) (a .from) (l .i + 1) (c .skip-blocks2 .result) none (c .skip-blocks2 .ensures .2))
 
 returns-2 : tie.Need-returns-2 Inv-loop μ-loop
 returns-2 c = let l = c .before .loop in record { after = search needs; within = search needs; none = l .inv .2; here = λ h. absurd (omega arith) }
@@ -92,7 +92,7 @@ next-cut-spec =
     (tie.spec
     Inv-loop
     μ-loop
-    pass-requires
+    skip-blocks-requires
     loop-holds
     shared-slice-read-if1
     add-i
@@ -104,8 +104,8 @@ next-cut-spec =
     part-is-parted-end
     is-parted-requires
     returns
-    add-pass
-    pass-requires-2
+    add-skip-blocks
+    skip-blocks-requires-2
     loop-less-2
     loop-again-2
     returns-2)

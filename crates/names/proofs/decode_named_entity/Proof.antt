@@ -11,11 +11,11 @@ common-requires c κs = search needs
 returns : tie.Need-returns
 returns c = sym (c .before .common .ensures (c .if1 .taken))
 
-find-requires : tie.Need-find-requires
-find-requires c κs = search needs
+find-in-group-requires : tie.Need-find-in-group-requires
+find-in-group-requires c κs = search needs
 
 returns-2 : tie.Need-returns-2
 returns-2 c = search needs
 
 pub decode-named-entity-spec : {M : Type 1} → statement M
-decode-named-entity-spec = tie.close (tie.spec common-requires returns find-requires returns-2)
+decode-named-entity-spec = tie.close (tie.spec common-requires returns find-in-group-requires returns-2)

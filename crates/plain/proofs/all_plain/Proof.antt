@@ -7,12 +7,12 @@ use native.Mathlib.Omega.{arith}
 use lib.ListN.{length}
 use Rattle.base.specs.First.{Free}
 use Rattle.base.proofs.Firsts.{free-start, free-join}
-use Rattle.plain.specs.Plain.{oddAt}
+use Rattle.plain.specs.Plain.{specialAt}
 use Rattle.plain.proofs.all_plain.Statement.{statement}
 use Rattle.plain.proofs.all_plain.Tie as tie
 
 abbrev Inv-loop : tie.InvT-loop
-Inv-loop unquoted text size last done₀ done = (last + size ≡ length text) × (done ≤ length text) × Free (oddAt unquoted text) 0 done
+Inv-loop unquoted text size last done₀ done = (last + size ≡ length text) × (done ≤ length text) × Free (specialAt unquoted text) 0 done
 
 abbrev μ-loop : tie.MeasureT-loop
 μ-loop unquoted text size last done₀ done = length text - done
@@ -26,8 +26,8 @@ loop-holds c = (omega arith, search needs, free-start _ 0)
 next-requires : tie.Need-next-requires Inv-loop μ-loop
 next-requires c κs = search needs
 
-has-odd-requires : tie.Need-has-odd-requires Inv-loop μ-loop
-has-odd-requires c κs = search needs
+has-special-requires : tie.Need-has-special-requires Inv-loop μ-loop
+has-special-requires c κs = search needs
 
 returns : tie.Need-returns Inv-loop μ-loop
 returns c = λ z. let never : _≡_ {A = ℕ} 0 1 = cc in absurd (omega arith)
@@ -46,7 +46,7 @@ loop-again c =
     let a = c .before .before .before .before .before .before .args in
     let l = c .before .before .before .before .loop in
     let n = c .before .before .next in
-    (search needs, omega (arith, n .ensures .1), free-join (oddAt (a .unquoted) (a .text .now)) 0 (l .done) (n .result + a .size) (l .inv .2) (λ k h m. c .before .has-odd .ensures (c .if1 .left) k (omega (arith, n .ensures .0)) m))
+    (search needs, omega (arith, n .ensures .1), free-join (specialAt (a .unquoted) (a .text .now)) 0 (l .done) (n .result + a .size) (l .inv .2) (λ k h m. c .before .has-special .ensures (c .if1 .left) k (omega (arith, n .ensures .0)) m))
 
 returns-2 : tie.Need-returns-2 Inv-loop μ-loop
 returns-2 c = λ z k h m. c .before .loop .inv .2 k h (omega arith)
@@ -60,7 +60,7 @@ all-plain-spec =
     sub-last
     loop-holds
     next-requires
-    has-odd-requires
+    has-special-requires
     returns
     add-done
     loop-less

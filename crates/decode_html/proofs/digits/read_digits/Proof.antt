@@ -1,5 +1,4 @@
--- `decode_html::digits::read_digits` meets its contract. The invariant: what is left makes of the number so far what all the digits make of 0,
--- up to the ceiling.
+-- What is left of the digits makes of the number so far what all the digits make of 0, up to the ceiling.
 -- Assumes nothing.
 use borrow.Author.Needs.{needs}
 use mathlib.Core.Path.{_≡_, refl, sym, ap, _∙_}
@@ -7,9 +6,8 @@ use Prim.Native.Nat.{_+_, _-_, _*_, _≤_}
 use native.Mathlib.Omega.{arith}
 use lib.ListN.{length, drop, getD}
 use Rattle.rules.specs.References.{digits as digitsOf}
-use Rattle.base.specs.Digits.{below}
 use Rattle.decode_html.specs.Digits.{digitBy, capped}
-use Rattle.decode_html.proofs.Ceiling.{ceiling-most, digit-by, base-some, base-most, digits-more, digits-none, digits-end, number-none, number-some}
+use Rattle.decode_html.proofs.Ceiling.{ceiling-most, digit-by, base-some, base-small, base-most, digits-more, digits-none, digits-end, number-none, number-some}
 use Rattle.decode_html.proofs.digits.read_digits.Statement.{statement}
 use Rattle.decode_html.proofs.digits.read_digits.Tie as tie
 
@@ -28,40 +26,35 @@ returns c = let a = c .before .before .args in ap capped (sym (number-none (digi
 loop-holds : tie.Need-loop-holds Inv-loop μ-loop
 loop-holds c = (search needs, search needs, refl)
 
-shared-slice-read-digit-value : tie.Need-shared-slice-read-digit-value Inv-loop μ-loop
-shared-slice-read-digit-value c = search needs
+shared-slice-read-value-of : tie.Need-shared-slice-read-value-of Inv-loop μ-loop
+shared-slice-read-value-of c = search needs
 
-digit-value-requires : tie.Need-digit-value-requires Inv-loop μ-loop
-digit-value-requires c κs = search needs
-
-wide-requires : tie.Need-wide-requires Inv-loop μ-loop
-wide-requires c κs = search needs
+value-of-requires : tie.Need-value-of-requires Inv-loop μ-loop
+value-of-requires c κs = search needs
 
 returns-2 : tie.Need-returns-2 Inv-loop μ-loop
 returns-2 c =
-    let o = c .before .before .before .before .before .before .before .before in
+    let o = c .before .before .before .before .before .before .before in
     let a = o .args in
-    let l = c .before .before .before .before .before .loop in
+    let l = c .before .before .before .before .loop in
     let s = a .digits .now in
-    let v = c .before .wide .result in
-    let d = c .before .before .digit-value in
-    let same = digit-by (a .base) (getD s (l .i) 0) (d .result) (o .pre) (d .ensures .0) (d .ensures .1) in
-    let e : below (a .base) v ≡ digitBy (a .base) (getD s (l .i) 0) = rw (c .before .wide .ensures) same in
-    sym (digits-none (a .base) (l .number) (l .i) v s (search needs) e (omega arith))
+    let v = c .before .value-of in
+    let e = digit-by (a .base) (getD s (l .i) 0) (v .result) (o .pre) (v .ensures .0) (v .ensures .1) in
+    sym (digits-none (a .base) (l .number) (l .i) (v .result) s (search needs) e (omega arith))
     ∙ l .inv .2
-    ∙ ap capped (sym (number-some (digitBy (a .base)) (a .base) s (c .before .before .before .before .before .before .if1 .left)))
+    ∙ ap capped (sym (number-some (digitBy (a .base)) (a .base) s (c .before .before .before .before .before .if1 .left)))
 
 mul-ceiling : tie.Need-mul-ceiling Inv-loop μ-loop
 mul-ceiling c =
-    let o = c .before .before .before .before .before .before .before .before in
-    let l = c .before .before .before .before .before .loop in
+    let o = c .before .before .before .before .before .before .before in
+    let l = c .before .before .before .before .loop in
     omega (arith, base-most (o .args .base) (l .number) (o .pre) (l .inv .1))
 
 add-ceiling : tie.Need-add-ceiling Inv-loop μ-loop
 add-ceiling c =
-    let o = c .before .before .before .before .before .before .before .before in
-    let l = c .before .before .before .before .before .loop in
-    omega (arith, base-most (o .args .base) (l .number) (o .pre) (l .inv .1), c .before .wide .ensures, c .if2 .left)
+    let o = c .before .before .before .before .before .before .before in
+    let l = c .before .before .before .before .loop in
+    omega (arith, base-most (o .args .base) (l .number) (o .pre) (l .inv .1), base-small (o .args .base) (o .pre))
 
 ceiling-requires : tie.Need-ceiling-requires Inv-loop μ-loop
 ceiling-requires c κs = search needs
@@ -74,17 +67,15 @@ loop-less c = search needs
 
 loop-again : tie.Need-loop-again Inv-loop μ-loop
 loop-again c =
-    let o = c .before .before .before .before .before .before .before .before .before in
+    let o = c .before .before .before .before .before .before .before .before in
     let a = o .args in
-    let l = c .before .before .before .before .before .before .loop in
+    let l = c .before .before .before .before .before .loop in
     let s = a .digits .now in
-    let v = c .before .before .wide .result in
-    let d = c .before .before .before .digit-value in
-    let same = digit-by (a .base) (getD s (l .i) 0) (d .result) (o .pre) (d .ensures .0) (d .ensures .1) in
-    let e : below (a .base) v ≡ digitBy (a .base) (getD s (l .i) 0) = rw (c .before .before .wide .ensures) same in (
+    let v = c .before .before .value-of in
+    let e = digit-by (a .base) (getD s (l .i) 0) (v .result) (o .pre) (v .ensures .0) (v .ensures .1) in (
       search needs,
-      rw (c .ceiling .ensures) (ceiling-most (l .number * a .base + v)),
-      rw (c .ceiling .ensures) (digits-more (a .base) (l .number) (l .i) v s (base-some (a .base) (o .pre)) (search needs) e (omega arith) ∙ l .inv .2),
+      rw (c .ceiling .ensures) (ceiling-most (l .number * a .base + v .result)),
+      rw (c .ceiling .ensures) (digits-more (a .base) (l .number) (l .i) (v .result) s (base-some (a .base) (o .pre)) (search needs) e (omega arith) ∙ l .inv .2),
     )
 
 returns-3 : tie.Need-returns-3 Inv-loop μ-loop
@@ -104,9 +95,8 @@ read-digits-spec =
     μ-loop
     returns
     loop-holds
-    shared-slice-read-digit-value
-    digit-value-requires
-    wide-requires
+    shared-slice-read-value-of
+    value-of-requires
     returns-2
     mul-ceiling
     add-ceiling

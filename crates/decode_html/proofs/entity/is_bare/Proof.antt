@@ -1,4 +1,4 @@
--- `decode_html::entity::is_bare` meets its contract, by what follows the `&`.
+-- By the byte after the `&`: without one, or before another `&`, there is no body, and the empty body is no name.
 -- Assumes nothing.
 use mathlib.Core.Bool.{true≢false, false≢true}
 use Prim.Native.Nat.{_+_}
@@ -27,7 +27,7 @@ returns-3 : tie.Need-returns-3
 returns-3 c = ((λ z numbers. reads-empty numbers (c .before .before .before .before .before .args .text .now) (c .before .before .before .before .before .args .start) (c .before .before .before .before .before .pre .0) (c .before .before .before .before .before .pre .1) (search needs) (c .if3 .taken)), λ z. absurd (true≢false z))
 
 returns-4 : tie.Need-returns-4
-returns-4 c = ((λ z. absurd (false≢true z)), λ z. search needs)
+returns-4 c = ((λ z. absurd (false≢true z)), λ z. record { within = search needs; amp = c .before .before .if2 .left; end = c .if3 .left })
 
 pub is-bare-spec : {M : Type 1} → statement M
 is-bare-spec =

@@ -1,4 +1,4 @@
--- `decode_html::entity::known_length` meets its contract: of the two sums at most one is not 0.
+-- Of the two lengths at most one is not 0.
 -- Assumes nothing.
 use borrow.Author.Needs.{needs}
 use mathlib.Core.Logic.{inl}
@@ -40,11 +40,11 @@ add-d c = search needs
 shared-slice-read-d : tie.Need-shared-slice-read-d
 shared-slice-read-d c = search needs
 
-when-requires : tie.Need-when-requires
-when-requires c κs = search needs
+length-if-requires : tie.Need-length-if-requires
+length-if-requires c κs = search needs
 
-when-requires-2 : tie.Need-when-requires-2
-when-requires-2 c κs = search needs
+length-if-requires-2 : tie.Need-length-if-requires-2
+length-if-requires-2 c κs = search needs
 
 add-result : tie.Need-add-result
 add-result c = search needs
@@ -54,8 +54,8 @@ returns-2 c =
     let a = c .before .before .before .before .before .before .before .before .args in
     let t = a .text .now in
     let i = a .start in
-    let m = c .before .when in
-    let n = c .when2 in
+    let m = c .before .length-if in
+    let n = c .length-if2 in
     let k = known-sum (getD t (i + 1) 0) (getD t (i + 2) 0) (getD t (i + 3) 0) (getD t (i + 4) 0) (m .result) (n .result) (m .ensures .0) (n .ensures .0) in
     record { within = omega (arith, known-most k); bytes = k }
 
@@ -73,7 +73,7 @@ known-length-spec =
     shared-slice-read-c
     add-d
     shared-slice-read-d
-    when-requires
-    when-requires-2
+    length-if-requires
+    length-if-requires-2
     add-result
     returns-2)

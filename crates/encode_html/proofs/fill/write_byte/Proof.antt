@@ -14,8 +14,8 @@ use Rattle.encode_html.proofs.fill.write_byte.Tie as tie
 word-requires : tie.Need-word-requires
 word-requires c κs = search needs
 
-stamp-requires : tie.Need-stamp-requires
-stamp-requires c κs = omega (arith, written-some (c .before .before .before .args .h) (c .before .before .before .args .b), c .before .before .before .pre .1)
+store-requires : tie.Need-store-requires
+store-requires c κs = omega (arith, written-some (c .before .before .before .args .h) (c .before .before .before .args .b), c .before .before .before .pre .1)
 
 same-length : tie.Need-same-length
 same-length c = search needs
@@ -26,7 +26,7 @@ returns c =
     let a = s .args in
     let w = written (a .h) (a .b) in
     let x = c .before .before .before .before .word in
-    let p = c .before .before .stamp in
+    let p = c .before .before .store in
     let e = word-is (a .h) (a .b) (s .fits .b .fits) in (
       p .ensures .0 ∙ rw (x .ensures) (e .0),
       rw (p .ensures .1, x .ensures)
@@ -34,4 +34,4 @@ returns c =
     )
 
 pub write-byte-spec : {M : Type 1} → statement M
-write-byte-spec = tie.close (tie.spec word-requires stamp-requires same-length returns)
+write-byte-spec = tie.close (tie.spec word-requires store-requires same-length returns)

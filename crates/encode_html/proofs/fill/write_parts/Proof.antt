@@ -18,8 +18,8 @@ Inv-loop h w text output₀ g at₀ i₀ output at i = (i ≤ length text) × Sp
 abbrev μ-loop : tie.MeasureT-loop
 μ-loop h w text output₀ g at₀ i₀ output at i = length text - i
 
-weigh-requires : tie.Need-weigh-requires Inv-loop μ-loop
-weigh-requires c κs = search needs
+gains-of-requires : tie.Need-gains-of-requires Inv-loop μ-loop
+gains-of-requires c κs = c .before .before .pre .0
 
 loop-holds : tie.Need-loop-holds Inv-loop μ-loop
 loop-holds c = (search needs, spilt-start _ _ (c .before .before .before .pre .1))
@@ -51,7 +51,7 @@ write-part-requires c κs =
     let l = c .before .before .before .before .loop in
     let size = part-length (s .args .text .now) (l .i) (c .before .before .clip .result) (search needs) (search needs) in
     let next = next-part (s .args .h) (s .args .text .now) (l .i) (c .before .before .clip .result) (search needs) in
-    ((c .before .before .before .before .before .weigh .ensures, s .pre .0, omega arith), spilt-room (l .inv .1) next)
+    ((c .before .before .before .before .before .gains-of .ensures, s .pre .0, omega arith), spilt-room (l .inv .1) next)
 
 add-at : tie.Need-add-at Inv-loop μ-loop
 add-at c =
@@ -86,7 +86,7 @@ write-parts-spec =
     (tie.spec
     Inv-loop
     μ-loop
-    weigh-requires
+    gains-of-requires
     loop-holds
     clip-requires
     sub-write-part

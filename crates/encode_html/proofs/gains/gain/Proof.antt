@@ -44,7 +44,7 @@ returns-2 c = let s = c .before .before .before .before .before in
     let y = c .before .before .when2 in
     let z = c .before .when3 in
     let sum : x .result + y .result + z .result ≡ sum3 (a .h) (a .b) = rw (x .ensures .0, y .ensures .0, z .ensures .0, s .pre) in
-    let e = gain3 (a .h) (a .b) (s .fits .b .fits) (sym (ap (λ (g : Gains). g .few) (s .pre)) ∙ c .if2 .taken) in
+    let e = gain3 (a .h) (a .b) (s .fits .b .fits) (sym (ap (λ (g : Gains). g .text) (s .pre)) ∙ c .if2 .taken) in
     gain-is (a .h) (a .b) _ (ap (λ (n : ℕ). n + 1) sum ∙ e)
 
 when-requires-4 : tie.Need-when-requires-4

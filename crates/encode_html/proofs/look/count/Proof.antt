@@ -38,14 +38,8 @@ tally-requires c κs =
     let s = c .before .before .before .before .before in
     (s .pre .0, omega (arith, part-length (s .args .text .now) (c .before .before .before .loop .i) (c .before .clip .result) (search needs) (search needs)))
 
-cast-high-bytes : tie.Need-cast-high-bytes Inv-loop μ-loop
-cast-high-bytes c = search needs
-
 add-high-bytes : tie.Need-add-high-bytes Inv-loop μ-loop
 add-high-bytes c = search needs
-
-cast-n : tie.Need-cast-n Inv-loop μ-loop
-cast-n c = search needs
 
 add-n : tie.Need-add-n Inv-loop μ-loop
 add-n c = search needs
@@ -85,9 +79,7 @@ count-spec =
     part-tally-start
     part-tally-end
     tally-requires
-    cast-high-bytes
     add-high-bytes
-    cast-n
     add-n
     loop-less
     loop-again

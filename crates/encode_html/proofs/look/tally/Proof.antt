@@ -50,6 +50,12 @@ loop-again c =
       λ e. below-more _ _ (l .inv .2 (omega arith)) (c .before .high .ensures .1 (omega arith)),
     )
 
+cast-t12 : tie.Need-cast-t12 Inv-loop μ-loop
+cast-t12 c = search needs
+
+cast-t13 : tie.Need-cast-t13 Inv-loop μ-loop
+cast-t13 c = search needs
+
 returns : tie.Need-returns Inv-loop μ-loop
 returns c =
     let s = c .before .before .before in
@@ -71,4 +77,6 @@ tally-spec =
     add-i
     loop-less
     loop-again
+    cast-t12
+    cast-t13
     returns)

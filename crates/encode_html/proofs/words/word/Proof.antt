@@ -33,10 +33,10 @@ returns-2 : tie.Need-returns-2
 unfolding choice3 wordOf
 returns-2 c = let s = c .before .before .before .before .before .before in
     let a = s .args in
-    let few = c .before in
-    let choice : few .select3 .result ≡ choice3 (a .h) (a .b) =
-    rw (few .select3 .ensures, few .before .select2 .ensures, few .before .before .select .ensures, few .before .before .before .plain .ensures, s .pre) in
-    choice ∙ word3 (a .h) (a .b) (s .fits .b .fits) (sym (ap (λ (w : Words). w .few) (s .pre)) ∙ c .if2 .taken)
+    let first = c .before in
+    let choice : first .select3 .result ≡ choice3 (a .h) (a .b) =
+    rw (first .select3 .ensures, first .before .select2 .ensures, first .before .before .select .ensures, first .before .before .before .plain .ensures, s .pre) in
+    choice ∙ word3 (a .h) (a .b) (s .fits .b .fits) (sym (ap (λ (w : Words). w .text) (s .pre)) ∙ c .if2 .taken)
 
 select-requires-4 : tie.Need-select-requires-4
 select-requires-4 c κs = search needs
@@ -51,9 +51,9 @@ returns-3 : tie.Need-returns-3
 unfolding choice3 choice6 wordOf
 returns-3 c = let s = c .before .before .before .before .before .before .before .before .before in
     let a = s .args in
-    let few = c .before .before .before .before in
-    let x : few .select3 .result ≡ choice3 (a .h) (a .b) =
-    rw (few .select3 .ensures, few .before .select2 .ensures, few .before .before .select .ensures, few .before .before .before .plain .ensures, s .pre) in
+    let first = c .before .before .before .before in
+    let x : first .select3 .result ≡ choice3 (a .h) (a .b) =
+    rw (first .select3 .ensures, first .before .select2 .ensures, first .before .before .select .ensures, first .before .before .before .plain .ensures, s .pre) in
     let y : c .select6 .result ≡ choice6 (a .h) (a .b) = rw (c .select6 .ensures, c .before .select5 .ensures, c .before .before .select4 .ensures, x, s .pre) in
     let kind = sym (ap (λ (w : Words). w .unquoted) (s .pre)) ∙ c .before .before .before .before .before .before .before .before .if1 .left in
     y ∙ word6 (a .h) (a .b) (s .fits .b .fits) kind

@@ -1,10 +1,11 @@
--- In each context the four numbers are computed from what is written for `>`, `"`, `'` and `/`.
+-- In each context the four words are computed from what is written for `>`, `"`, `'` and `/`.
 -- Assumes nothing.
 use borrow.Author.Needs.{needs}
 use Rattle.rules.specs.Encoding.{encodeStep}
+use Rattle.encode_html.specs.Words.{wordOf}
 use Rattle.encode_html.specs.Written.{written}
-use Rattle.encode_html.proofs.gains.weigh.Statement.{statement}
-use Rattle.encode_html.proofs.gains.weigh.Tie as tie
+use Rattle.encode_html.proofs.words.words_of.Statement.{statement}
+use Rattle.encode_html.proofs.words.words_of.Tie as tie
 
 enum-told : tie.Need-enum-told
 enum-told c = search needs
@@ -49,35 +50,35 @@ new-requires-7 : tie.Need-new-requires-7
 new-requires-7 c κs = search needs
 
 returns : tie.Need-returns
-unfolding written encodeStep
+unfolding wordOf written encodeStep
 returns c = rw (c .before .enum-told .given .1) (c .new .ensures)
 
 returns-2 : tie.Need-returns-2
-unfolding written encodeStep
+unfolding wordOf written encodeStep
 returns-2 c = rw (c .before .enum-told2 .given .1) (c .new2 .ensures)
 
 returns-3 : tie.Need-returns-3
-unfolding written encodeStep
+unfolding wordOf written encodeStep
 returns-3 c = rw (c .before .enum-told3 .given .1) (c .new3 .ensures)
 
 returns-4 : tie.Need-returns-4
-unfolding written encodeStep
+unfolding wordOf written encodeStep
 returns-4 c = rw (c .before .enum-told4 .given .1) (c .new4 .ensures)
 
 returns-5 : tie.Need-returns-5
-unfolding written encodeStep
+unfolding wordOf written encodeStep
 returns-5 c = rw (c .before .enum-told5 .given .1) (c .new5 .ensures)
 
 returns-6 : tie.Need-returns-6
-unfolding written encodeStep
+unfolding wordOf written encodeStep
 returns-6 c = rw (c .before .enum-told6 .given .1) (c .new6 .ensures)
 
 returns-7 : tie.Need-returns-7
-unfolding written encodeStep
+unfolding wordOf written encodeStep
 returns-7 c = rw (c .before .enum-told7 .given .1) (c .new7 .ensures)
 
-pub weigh-spec : {M : Type 1} → statement M
-weigh-spec =
+pub words-of-spec : {M : Type 1} → statement M
+words-of-spec =
     tie.close
     (tie.spec
     enum-told

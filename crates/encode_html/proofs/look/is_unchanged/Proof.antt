@@ -1,4 +1,4 @@
--- No byte of the parts so far is special; the answer true comes only after the last, and then every byte is calm (Calm).
+-- No byte of the parts so far is special; the answer true comes only after the last, and then every byte is unchanged (Unchanged).
 -- Assumes nothing.
 use mathlib.Core.Bool.{false}
 use mathlib.Core.Path.{_≡_, ap, _∙_, sym, subst}
@@ -11,9 +11,9 @@ use Rattle.encode_html.specs.declared.gains.Gains.{Gains}
 use Rattle.encode_html.specs.declared.look.Keys.{Keys}
 use Rattle.encode_html.proofs.Seven.{differ}
 use Rattle.encode_html.proofs.Text.{each-part}
-use Rattle.encode_html.proofs.Calm.{special-calm}
-use Rattle.encode_html.proofs.look.is_calm.Statement.{statement}
-use Rattle.encode_html.proofs.look.is_calm.Tie as tie
+use Rattle.encode_html.proofs.Unchanged.{special-unchanged}
+use Rattle.encode_html.proofs.look.is_unchanged.Statement.{statement}
+use Rattle.encode_html.proofs.look.is_unchanged.Tie as tie
 
 abbrev Inv-loop : tie.InvT-loop
 Inv-loop text k i₀ i = (i ≤ length text) × ((j : ℕ) → j < i → special k (getD text j 0) ≡ false)
@@ -63,11 +63,11 @@ returns-3 : tie.Need-returns-3 Inv-loop μ-loop
 returns-3 c = λ e j l.
     let f = c .before .before .before .before .before in
     let k = c .before .before .keys-of in
-    special-calm (f .args .h) (sym (ap (λ (g : Gains). g .unquoted) (f .pre)) ∙ c .before .before .before .if1 .left) (getD (f .args .text .now) j 0)
+    special-unchanged (f .args .h) (sym (ap (λ (g : Gains). g .unquoted) (f .pre)) ∙ c .before .before .before .if1 .left) (getD (f .args .text .now) j 0)
     (subst (λ (k : Keys). special k (getD (f .args .text .now) j 0) ≡ false) (k .ensures ∙ ap keysOf (f .pre)) (c .before .loop .inv .1 j (omega arith)))
 
-pub is-calm-spec : {M : Type 1} → statement M
-is-calm-spec =
+pub is-unchanged-spec : {M : Type 1} → statement M
+is-unchanged-spec =
     tie.close
     (tie.spec
     Inv-loop

@@ -1,4 +1,4 @@
--- `encode_raw::among` meets its contract. The invariant: the answer so far is false only where no backslash goes in after a byte that is passed.
+-- `encode_raw::has_suspect` meets its contract. The invariant: the answer so far is false only where no backslash goes in after a byte that is passed.
 -- Assumes nothing.
 use borrow.Author.Needs.{needs}
 use mathlib.Core.Bool.{false}
@@ -8,8 +8,8 @@ use native.Mathlib.Omega.{arith}
 use Rattle.base.specs.First.{Free}
 use Rattle.encode_raw.specs.Cuts.{cutAt}
 use Rattle.encode_raw.proofs.Cuts.{uncut-more}
-use Rattle.encode_raw.proofs.among.Statement.{statement}
-use Rattle.encode_raw.proofs.among.Tie as tie
+use Rattle.encode_raw.proofs.has_suspect.Statement.{statement}
+use Rattle.encode_raw.proofs.has_suspect.Tie as tie
 
 abbrev Inv-loop : tie.InvT-loop
 Inv-loop text at hit₀ j₀ hit j = (j ≤ 16) × (hit ≡ false → Free (cutAt text) at (at + j))
@@ -57,8 +57,8 @@ returns c =
     let e : l .j ≡ 16 = omega arith in
     rw e at (l .inv .1)
 
-pub among-spec : {M : Type 1} → statement M
-among-spec =
+pub has-suspect-spec : {M : Type 1} → statement M
+has-suspect-spec =
     tie.close
     (tie.spec
     Inv-loop

@@ -1,4 +1,4 @@
--- `names::find` meets its contract: a name is looked up in its group as it is in the whole table.
+-- `names::find_in_group` meets its contract: a name is looked up in its group as it is in the whole table.
 -- Assumes nothing.
 use mathlib.Core.Path.{_∙_}
 use Prim.Native.Nat.{_≤_}
@@ -7,8 +7,8 @@ use borrow.Author.Needs.{needs}
 use Rattle.rules.specs.Names.{names}
 use Rattle.names_search.proofs.Lookups.{in-group}
 use Rattle.names.proofs.Letters.{in-none, none-below, none-between, none-above, past}
-use Rattle.names.proofs.find.Statement.{statement}
-use Rattle.names.proofs.find.Tie as tie
+use Rattle.names.proofs.find_in_group.Statement.{statement}
+use Rattle.names.proofs.find_in_group.Tie as tie
 
 first-byte-requires : tie.Need-first-byte-requires
 first-byte-requires c κs = search needs
@@ -136,8 +136,8 @@ returns-19 c = c .in-x-to-z .ensures ∙ in-group 0x78 0x7A (c .before .before .
 returns-20 : tie.Need-returns-20
 returns-20 c = in-none 0x7B 0xFF (c .before .before .before .before .before .before .before .before .before .args .name .now) (omega arith) (omega arith) none-above
 
-pub find-spec : {M : Type 1} → statement M
-find-spec =
+pub find-in-group-spec : {M : Type 1} → statement M
+find-in-group-spec =
     tie.close
     (tie.spec
     first-byte-requires

@@ -4,8 +4,8 @@ use lib.ListN.{length-set}
 use lib.Seq.{sets-eq}
 use borrow.Author.Needs.{needs}
 use Rattle.encode_html.specs.Words.{eight}
-use Rattle.encode_html.proofs.fill.stamp.Statement.{statement}
-use Rattle.encode_html.proofs.fill.stamp.Tie as tie
+use Rattle.encode_html.proofs.fill.store.Statement.{statement}
+use Rattle.encode_html.proofs.fill.store.Tie as tie
 
 cast-output : tie.Need-cast-output
 cast-output c = search needs
@@ -61,8 +61,8 @@ same-length c = search needs
 returns : tie.Need-returns
 returns c = (search needs, sets-eq (eight (c .args .x)) (c .args .output .now) 0 (c .pre))
 
-pub stamp-spec : {M : Type 1} → statement M
-stamp-spec =
+pub store-spec : {M : Type 1} → statement M
+store-spec =
     tie.close
     (tie.spec
     cast-output

@@ -1,4 +1,4 @@
--- `encode_raw::pass` meets its contract. The invariant: no backslash goes in after a byte that is passed.
+-- `encode_raw::skip_blocks` meets its contract. The invariant: no backslash goes in after a byte that is passed.
 -- Assumes nothing.
 use borrow.Author.Needs.{needs}
 use Prim.Native.Nat.{_≤_, _+_, _-_}
@@ -6,8 +6,8 @@ use lib.ListN.{length}
 use Rattle.base.specs.First.{Free}
 use Rattle.base.proofs.Firsts.{free-start, free-join}
 use Rattle.encode_raw.specs.Cuts.{cutAt}
-use Rattle.encode_raw.proofs.pass.Statement.{statement}
-use Rattle.encode_raw.proofs.pass.Tie as tie
+use Rattle.encode_raw.proofs.skip_blocks.Statement.{statement}
+use Rattle.encode_raw.proofs.skip_blocks.Tie as tie
 
 abbrev Inv-loop : tie.InvT-loop
 Inv-loop text from i₀ i = (from ≤ i) × (i ≤ length text) × Free (cutAt text) from i
@@ -21,8 +21,8 @@ loop-holds c = (search needs, search needs, free-start (cutAt (c .before .args .
 sub-loop : tie.Need-sub-loop Inv-loop μ-loop
 sub-loop c = search needs
 
-among-requires : tie.Need-among-requires Inv-loop μ-loop
-among-requires c κs = search needs
+has-suspect-requires : tie.Need-has-suspect-requires Inv-loop μ-loop
+has-suspect-requires c κs = search needs
 
 returns : tie.Need-returns Inv-loop μ-loop
 returns c = search needs
@@ -37,20 +37,20 @@ loop-again : tie.Need-loop-again Inv-loop μ-loop
 loop-again c =
     let a = c .before .before .before .before .before .args in
     let l = c .before .before .before .loop in
-    (search needs, search needs, free-join (cutAt (a .text .now)) (a .from) (l .i) (l .i + 16) (l .inv .2) (c .before .among .ensures (c .if1 .left)))
+    (search needs, search needs, free-join (cutAt (a .text .now)) (a .from) (l .i) (l .i + 16) (l .inv .2) (c .before .has-suspect .ensures (c .if1 .left)))
 
 returns-2 : tie.Need-returns-2 Inv-loop μ-loop
 returns-2 c = search needs
 
-pub pass-spec : {M : Type 1} → statement M
-pass-spec =
+pub skip-blocks-spec : {M : Type 1} → statement M
+skip-blocks-spec =
     tie.close
     (tie.spec
     Inv-loop
     μ-loop
     loop-holds
     sub-loop
-    among-requires
+    has-suspect-requires
     returns
     add-i
     loop-less

@@ -1,4 +1,4 @@
--- `plain::is_odd` meets its contract: its tests are the definition's, each denied.
+-- `plain::is_special` meets its contract: its tests are the definition's, each denied.
 -- Assumes nothing.
 use borrow.Author.Needs.{needs}
 use mathlib.Core.Bool.{Bool, true, false, not, _&&_, _||_}
@@ -6,8 +6,8 @@ use mathlib.Core.Path.{_≡_, refl}
 use lib.Dec.{eqb}
 use Rattle.rules.specs.Bytes.{inside}
 use Rattle.plain.specs.Plain.{plain}
-use Rattle.plain.proofs.is_odd.Statement.{statement}
-use Rattle.plain.proofs.is_odd.Tie as tie
+use Rattle.plain.proofs.is_special.Statement.{statement}
+use Rattle.plain.proofs.is_special.Tie as tie
 
 is-letter-or-digit-requires : tie.Need-is-letter-or-digit-requires
 is-letter-or-digit-requires c κs = search needs
@@ -36,5 +36,5 @@ returns-2 c =
     let b = c .before .before .args .b in
     rw (c .before .if1 .left, c .is-within .ensures) (denied (inside (32, 127) b) (eqb b 34) (eqb b 38) (eqb b 39) (eqb b 47) (eqb b 60) (eqb b 62) (eqb b 92))
 
-pub is-odd-spec : {M : Type 1} → statement M
-is-odd-spec = tie.close (tie.spec is-letter-or-digit-requires returns is-within-requires returns-2)
+pub is-special-spec : {M : Type 1} → statement M
+is-special-spec = tie.close (tie.spec is-letter-or-digit-requires returns is-within-requires returns-2)
