@@ -5,11 +5,13 @@ use mathlib.Core.Path.{_≡_, refl, sym, ap, _∙_, subst}
 use mathlib.Core.List.{List, [], _∷_, _++_}
 use Prim.Native.Nat.{ℕ, zero, suc, _+_, _-_, _≤_, _<_}
 use native.Mathlib.Omega.{arith}
+use lib.Dec.{eqb}
 use lib.ListN.{length, take, drop, getD, length-append, length-drop}
 use lib.Seq.{length-take-le}
 use Rattle.rules.specs.Bytes.{over}
 use Rattle.rules.specs.Moves.{Move, keep, swap, Rule, taken, result, replaced, place, through, before, from}
 use Rattle.rules.specs.Encoding.{keepByte}
+use Rattle.rules.specs.Answers.{Measures}
 use Rattle.rules.proofs.Loops.{from-next, drop-next}
 use Rattle.rules.proofs.Quiet.{Keeps, quiet-result, quiet-place, quiet-replaced}
 use Rattle.base.proofs.Filled.{Filled, Next, filled-end}
@@ -89,6 +91,12 @@ module _ {rule : Rule} {t : List ℕ} {i n k : ℕ} (c : Counted rule t i n k) w
     omega (arith, c .many, ap replaced e),
     omega (arith, c .far, ap place e),
   )
+
+  -- So they are what a pass over the text finds.
+  pub counted-measures : from rule t i ≡ [] → Measures (record { length = n; place = i; same = eqb k 0 }) (through rule t)
+  counted-measures e =
+      let (long, many, far) = counted-end e in
+      record { long = long; reach = far; kept = ap (λ (k : ℕ). eqb k 0) many }
 
 -- ---- the same for a writing loop: what stands next in the result
 
