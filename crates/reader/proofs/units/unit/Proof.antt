@@ -1,4 +1,4 @@
--- `unit` meets its contract: each return by the tests that led there.
+-- `unit` meets its contract: each context by its kind.
 -- Assumes nothing.
 use borrow.Author.Needs.{needs}
 use Rattle.reader.proofs.units.unit.Statement.{statement}
