@@ -1,9 +1,8 @@
-// Texts that every operation leaves as they are, such as most names: found by many bytes at a time, and copied.
+// Texts that every operation leaves as they are, such as most names: found by many bytes at a time.
 ghost use mathlib.Core.Bool.{true, false, not};
 ghost use mathlib.Core.Path.{_≡_};
-ghost use Prim.Native.Nat.{ℕ, _+_, _≤_, _<_};
-ghost use lib.ListN.{length, take};
-ghost use Rattle.rules.specs.Bytes.{over};
+ghost use Prim.Native.Nat.{_+_, _≤_, _<_};
+ghost use lib.ListN.{length};
 ghost use Rattle.base.specs.First.{Free};
 ghost use Rattle.plain.specs.Plain.{plain, oddAt};
 
@@ -40,13 +39,6 @@ fn has_odd(unquoted: bool, text: &[u8], at: usize, size: usize) -> bool
     hit
 }
 
-// Where the next bytes begin that are taken together, of a text that is done up to a place: there, or where fewer are left at the last of them.
-fn next(done: usize, last: usize) -> usize
-    ensures { λ r. ⌜ (r ≤ done) × (r ≤ last) × ((n : ℕ) → 0 < n → done < last + n → done < r + n) ⌝ }
-{
-    if done < last { done } else { last }
-}
-
 // Whether each byte of a text is plain: true only where it is so. It takes `size` bytes together, and at the end the last of them, some again.
 fn all_plain(unquoted: bool, text: &[u8], size: usize) -> bool
     requires { ⌜ (0 < size) × (size ≤ length (now text)) ⌝ }
@@ -55,7 +47,7 @@ fn all_plain(unquoted: bool, text: &[u8], size: usize) -> bool
     let last = text.len() - size;
     let mut done: usize = 0;
     while done < text.len() {
-        let at = next(done, last);
+        let at = base::min(done, last);
         if has_odd(unquoted, text, at, size) {
             return false;
         }
@@ -89,54 +81,4 @@ pub fn is_plain(unquoted: bool, text: &[u8]) -> bool
         return all_plain(unquoted, text, 8);
     }
     false
-}
-
-// Writes the first eight bytes of a text to the start of `output`: all are read first, so that it is one load and one store.
-fn put_eight(text: &[u8], output: &mut [u8])
-    requires { ⌜ (8 ≤ length (now text)) × (8 ≤ length (now output)) ⌝ }
-    ensures { λ _. ⌜ now (output .exit) ≡ over (take 8 (now (text .entry))) (now (output .entry)) ⌝ }
-{
-    let a = text[0];
-    let b = text[1];
-    let c = text[2];
-    let d = text[3];
-    let e = text[4];
-    let f = text[5];
-    let g = text[6];
-    let h = text[7];
-    output[0] = a;
-    output[1] = b;
-    output[2] = c;
-    output[3] = d;
-    output[4] = e;
-    output[5] = f;
-    output[6] = g;
-    output[7] = h;
-}
-
-// Writes a text of eight bytes or more by eights.
-fn put_eights(text: &[u8], output: &mut [u8]) -> usize
-    requires { ⌜ (8 ≤ length (now text)) × (length (now text) ≤ length (now output)) ⌝ }
-    ensures { λ r. ⌜ (r ≡ length (now (text .entry))) × (now (output .exit) ≡ over (now (text .entry)) (now (output .entry))) ⌝ }
-{
-    let last = text.len() - 8;
-    let mut done: usize = 0;
-    while done < text.len() {
-        let at = next(done, last);
-        put_eight(&text[at..], &mut output[at..]);
-        done = at + 8;
-    }
-    done
-}
-
-// Writes a text of eight bytes or more to the start of `output` and returns its length, as `base::put` does, but quicker where it is short; what
-// lies past it keeps its values.
-pub fn put(text: &[u8], output: &mut [u8]) -> usize
-    requires { ⌜ (8 ≤ length (now text)) × (length (now text) ≤ length (now output)) ⌝ }
-    ensures { λ r. ⌜ (r ≡ length (now (text .entry))) × (now (output .exit) ≡ over (now (text .entry)) (now (output .entry))) ⌝ }
-{
-    if 64 < text.len() {
-        return base::put(text, output);
-    }
-    put_eights(text, output)
 }

@@ -25,29 +25,65 @@ Inv-loop language quotes text n₀ k₀ i₀ n k i = Counted (decodeStep (string
 abbrev μ-loop : tie.MeasureT-loop
 μ-loop language quotes text n₀ k₀ i₀ n k i = length text - i
 
-quiet : (c : tie.After-find-byte Inv-loop μ-loop) → Keeps (decodeStep (stringOf (c .before .before .before .before .before .before .args .language) (c .before .before .before .before .before .before .args .quotes))) (c .before .before .before .before .before .before .args .text .now) (c .before .before .before .before .loop .i) (c .find-byte .result)
-quiet c = string-quiet (c .before .before .before .before .before .before .args .language) (c .before .before .before .before .before .before .args .quotes) (c .before .before .before .before .before .before .args .text .now) (c .before .before .before .before .loop .i) (c .find-byte .result) (c .find-byte .ensures)
+quiet : (c : tie.After-find-byte Inv-loop μ-loop)
+    → let a = c .before .before .before .before .before .before .args in
+    let l = c .before .before .before .before .loop in
+    Keeps (decodeStep (stringOf (a .language) (a .quotes))) (a .text .now) (l .i) (c .find-byte .result)
+quiet c =
+    let a = c .before .before .before .before .before .before .args in
+    let l = c .before .before .before .before .loop in
+    string-quiet (a .language) (a .quotes) (a .text .now) (l .i) (c .find-byte .result) (c .find-byte .ensures)
 
-two : (c : tie.Then2 Inv-loop μ-loop) → SlashedAt (c .before .before .before .before .before .before .before .before .before .args .language) (c .before .before .before .before .before .before .before .before .before .args .quotes) (c .before .before .before .before .before .before .before .before .before .args .text .now) (c .before .before .before .before .before .before .before .loop .i) (c .before .before .after-slash .result)
-two c = slashed-here (c .before .before .before .before .before .before .before .before .before .args .language) (c .before .before .before .before .before .before .before .before .before .args .quotes) (c .before .before .before .before .before .before .before .before .before .args .text .now) (c .before .before .before .before .before .before .before .loop .i) (c .before .before .after-slash .result) (c .before .before .after-slash .ensures) (sym (c .before .is-slashed .ensures) ∙ c .if2 .taken)
+two : (c : tie.Then2 Inv-loop μ-loop)
+    → let a = c .before .before .before .before .before .before .before .before .before .args in
+    let l = c .before .before .before .before .before .before .before .loop in
+    SlashedAt (a .language) (a .quotes) (a .text .now) (l .i) (c .before .before .after-slash .result)
+two c =
+    let a = c .before .before .before .before .before .before .before .before .before .args in
+    let l = c .before .before .before .before .before .before .before .loop in
+    let after-slash = c .before .before .after-slash in
+    slashed-here (a .language) (a .quotes) (a .text .now) (l .i) (after-slash .result) (after-slash .ensures) (sym (c .before .is-slashed .ensures) ∙ c .if2 .taken)
 
 -- What was read at this place is the move here.
-told : (c : tie.After-read-escape Inv-loop μ-loop) (r : Escape) → c .read-escape .result ≡ r → Told (c .before .before .before .before .before .before .before .before .before .before .before .before .args .language) (c .before .before .before .before .before .before .before .before .before .before .before .before .args .quotes) (c .before .before .before .before .before .before .before .before .before .before .before .before .args .text .now) (c .before .before .before .before .before .before .before .before .before .before .loop .i) r
+told : (c : tie.After-read-escape Inv-loop μ-loop)
+    → let a = c .before .before .before .before .before .before .before .before .before .before .before .before .args in
+    let l = c .before .before .before .before .before .before .before .before .before .before .loop in
+    (r : Escape) → c .read-escape .result ≡ r → Told (a .language) (a .quotes) (a .text .now) (l .i) r
 told c r =
-    told-here (c .before .before .before .before .before .before .before .before .before .before .before .before .args .language) (c .before .before .before .before .before .before .before .before .before .before .before .before .args .quotes) (c .before .before .before .before .before .before .before .before .before .before .before .before .args .text .now) (c .before .before .before .before .before .before .before .before .before .before .loop .i) (c .before .before .before .before .before .after-slash .result) (c .before .before .byte-before .result) r (c .read-escape .result)
-    (c .before .before .before .before .before .after-slash .ensures) (sym (c .before .before .before .before .is-slashed .ensures) ∙ c .before .before .before .if2 .left) (c .before .before .byte-before .ensures) (c .read-escape .ensures)
+    let a = c .before .before .before .before .before .before .before .before .before .before .before .before .args in
+    let l = c .before .before .before .before .before .before .before .before .before .before .loop in
+    let after-slash = c .before .before .before .before .before .after-slash in
+    let byte-before = c .before .before .byte-before in
+    let is-slashed = c .before .before .before .before .is-slashed in
+    let if2 = c .before .before .before .if2 in
+    told-here (a .language) (a .quotes) (a .text .now) (l .i) (after-slash .result) (byte-before .result) r (c .read-escape .result)
+    (after-slash .ensures) (sym (is-slashed .ensures) ∙ if2 .left) (byte-before .ensures) (c .read-escape .ensures)
 
-none : (c : tie.After-enum-told Inv-loop μ-loop) → Told (c .before .before .before .before .before .before .before .before .before .before .before .before .before .before .args .language) (c .before .before .before .before .before .before .before .before .before .before .before .before .before .before .args .quotes) (c .before .before .before .before .before .before .before .before .before .before .before .before .before .before .args .text .now) (c .before .before .before .before .before .before .before .before .before .before .before .before .loop .i) Nothing
+none : (c : tie.After-enum-told Inv-loop μ-loop)
+    → let a = c .before .before .before .before .before .before .before .before .before .before .before .before .before .before .args in
+    let l = c .before .before .before .before .before .before .before .before .before .before .before .before .loop in
+    Told (a .language) (a .quotes) (a .text .now) (l .i) Nothing
 none c = told (c .before .before) _ (c .enum-told .given .1)
 
-taken : (c : tie.After-n Inv-loop μ-loop) → Told (c .before .before .before .before .before .before .before .before .before .before .before .before .before .before .args .language) (c .before .before .before .before .before .before .before .before .before .before .before .before .before .before .args .quotes) (c .before .before .before .before .before .before .before .before .before .before .before .before .before .before .args .text .now) (c .before .before .before .before .before .before .before .before .before .before .before .before .loop .i) (Taken (c .n .given .0 .0) (c .n .given .0 .1 .0))
+taken : (c : tie.After-n Inv-loop μ-loop)
+    → let a = c .before .before .before .before .before .before .before .before .before .before .before .before .before .before .args in
+    let l = c .before .before .before .before .before .before .before .before .before .before .before .before .loop in
+    Told (a .language) (a .quotes) (a .text .now) (l .i) (Taken (c .n .given .0 .0) (c .n .given .0 .1 .0))
 taken c = told (c .before .before) _ (c .n .given .1)
 
-fits : (c : tie.After-n Inv-loop μ-loop) → (1 ≤ c .n .given .0 .0) × (c .before .before .before .before .before .before .before .before .before .before .before .before .loop .i + c .n .given .0 .0 ≤ length (c .before .before .before .before .before .before .before .before .before .before .before .before .before .before .args .text .now)) × (length (utf8 (c .n .given .0 .1 .0)) ≤ c .n .given .0 .0) × (c .n .given .0 .1 .0 ≤ 0x10FFFF)
-fits c = within-rest (c .before .before .before .before .before .before .before .before .before .before .before .before .before .before .args .text .now) (c .before .before .before .before .before .before .before .before .before .before .before .before .loop .i) (c .n .given .0 .0) (c .n .given .0 .1 .0) (taken c .within)
+fits : (c : tie.After-n Inv-loop μ-loop)
+    → let l = c .before .before .before .before .before .before .before .before .before .before .before .before .loop in
+    let a = c .before .before .before .before .before .before .before .before .before .before .before .before .before .before .args in
+    (1 ≤ c .n .given .0 .0) × (l .i + c .n .given .0 .0 ≤ length (a .text .now)) × (length (utf8 (c .n .given .0 .1 .0)) ≤ c .n .given .0 .0) × (c .n .given .0 .1 .0 ≤ 0x10FFFF)
+fits c =
+    let a = c .before .before .before .before .before .before .before .before .before .before .before .before .before .before .args in
+    let l = c .before .before .before .before .before .before .before .before .before .before .before .before .loop in
+    within-rest (a .text .now) (l .i) (c .n .given .0 .0) (c .n .given .0 .1 .0) (taken c .within)
 
 loop-holds : tie.Need-loop-holds Inv-loop μ-loop
-loop-holds c = counted-start (decodeStep (stringOf (c .before .args .language) (c .before .args .quotes))) (c .before .args .text .now)
+loop-holds c =
+    let a = c .before .args in
+    counted-start (decodeStep (stringOf (a .language) (a .quotes))) (a .text .now)
 
 shared-slice-read-if1 : tie.Need-shared-slice-read-if1 Inv-loop μ-loop
 shared-slice-read-if1 c = search needs
@@ -62,10 +98,15 @@ add-length : tie.Need-add-length Inv-loop μ-loop
 add-length c = search needs
 
 loop-less : tie.Need-loop-less Inv-loop μ-loop
-loop-less c = omega (arith, nearest-past (c .before .before .before .before .before .before .args .text .now) (c .before .before .before .before .loop .i) 92 (c .find-byte .result) (search needs) (c .before .if1 .taken) (c .find-byte .ensures), c .find-byte .ensures .within)
+loop-less c =
+    let a = c .before .before .before .before .before .before .args in
+    let l = c .before .before .before .before .loop in
+    omega (arith, nearest-past (a .text .now) (l .i) 92 (c .find-byte .result) (search needs) (c .before .if1 .taken) (c .find-byte .ensures), c .find-byte .ensures .within)
 
 loop-again : tie.Need-loop-again Inv-loop μ-loop
-loop-again c = counted-quiet (c .before .before .before .before .loop .inv) (c .find-byte .result) (c .find-byte .ensures .after) (c .find-byte .ensures .within) (quiet c)
+loop-again c =
+    let l = c .before .before .before .before .loop in
+    counted-quiet (l .inv) (c .find-byte .result) (c .find-byte .ensures .after) (c .find-byte .ensures .within) (quiet c)
 
 sub-after-slash : tie.Need-sub-after-slash Inv-loop μ-loop
 sub-after-slash c = search needs
@@ -95,7 +136,8 @@ loop-less-2 : tie.Need-loop-less-2 Inv-loop μ-loop
 loop-less-2 c = omega (arith, two c .1)
 
 loop-again-2 : tie.Need-loop-again-2 Inv-loop μ-loop
-loop-again-2 c = counted-swap (c .before .before .before .before .before .before .before .loop .inv) 2 (c .before .before .after-slash .result ∷ []) (omega arith) (two c .1) (omega arith) (two c .0)
+loop-again-2 c =
+    counted-swap (c .before .before .before .before .before .before .before .loop .inv) 2 (c .before .before .after-slash .result ∷ []) (omega arith) (two c .1) (omega arith) (two c .0)
 
 byte-before-requires : tie.Need-byte-before-requires Inv-loop μ-loop
 byte-before-requires c κs = search needs
@@ -128,7 +170,8 @@ loop-less-3 : tie.Need-loop-less-3 Inv-loop μ-loop
 loop-less-3 c = search needs
 
 loop-again-3 : tie.Need-loop-again-3 Inv-loop μ-loop
-loop-again-3 c = counted-keep (c .before .before .before .before .before .before .before .before .before .before .before .before .loop .inv) (search needs) (none c .moves)
+loop-again-3 c =
+    counted-keep (c .before .before .before .before .before .before .before .before .before .before .before .before .loop .inv) (search needs) (none c .moves)
 
 char-length-requires : tie.Need-char-length-requires Inv-loop μ-loop
 char-length-requires c κs = search needs
@@ -147,11 +190,16 @@ loop-less-4 c = let w = fits (c .before .before) in omega (arith, w .0, w .1)
 
 loop-again-4 : tie.Need-loop-again-4 Inv-loop μ-loop
 loop-again-4 c =
+    let l = c .before .before .before .before .before .before .before .before .before .before .before .before .before .before .loop in
+    let n = c .before .before .n in
     let w = fits (c .before .before) in
-    rw (c .char-length .ensures .0) (counted-swap (c .before .before .before .before .before .before .before .before .before .before .before .before .before .before .loop .inv) (c .before .before .n .given .0 .0) (utf8 (c .before .before .n .given .0 .1 .0)) (w .0) (w .1) (w .2) (taken (c .before .before) .moves))
+    rw (c .char-length .ensures .0) (counted-swap (l .inv) (n .given .0 .0) (utf8 (n .given .0 .1 .0)) (w .0) (w .1) (w .2) (taken (c .before .before) .moves))
 
 returns : tie.Need-returns Inv-loop μ-loop
-returns c = counted-measures (c .before .loop .inv) (from-end (decodeStep (stringOf (c .before .before .before .args .language) (c .before .before .before .args .quotes))) (c .before .before .before .args .text .now) (c .before .loop .i) (omega arith))
+returns c =
+    let l = c .before .loop in
+    let a = c .before .before .before .args in
+    counted-measures (l .inv) (from-end (decodeStep (stringOf (a .language) (a .quotes))) (a .text .now) (l .i) (omega arith))
 
 pub measure-spec : {M : Type 1} → statement M
 measure-spec =

@@ -36,44 +36,110 @@ Inv-loop language quotes text output₀ at₀ k₀ i₀ output at k i =
 abbrev μ-loop : tie.MeasureT-loop
 μ-loop language quotes text output₀ at₀ k₀ i₀ output at k i = length text - i
 
-quiet : (c : tie.After-put-until Inv-loop μ-loop) → Keeps (decodeStep (stringOf (c .before .before .before .before .before .before .before .before .args .language) (c .before .before .before .before .before .before .before .before .args .quotes))) (c .before .before .before .before .before .before .before .before .args .text .now) (c .before .before .before .before .before .loop .i) (c .put-until .result)
-quiet c = string-quiet (c .before .before .before .before .before .before .before .before .args .language) (c .before .before .before .before .before .before .before .before .args .quotes) (c .before .before .before .before .before .before .before .before .args .text .now) (c .before .before .before .before .before .loop .i) (c .put-until .result) (c .put-until .ensures .0)
+quiet : (c : tie.After-put-until Inv-loop μ-loop)
+    → let a = c .before .before .before .before .before .before .before .before .args in
+    let l = c .before .before .before .before .before .loop in
+    Keeps (decodeStep (stringOf (a .language) (a .quotes))) (a .text .now) (l .i) (c .put-until .result)
+quiet c =
+    let a = c .before .before .before .before .before .before .before .before .args in
+    let l = c .before .before .before .before .before .loop in
+    string-quiet (a .language) (a .quotes) (a .text .now) (l .i) (c .put-until .result) (c .put-until .ensures .0)
 
-next-part : (c : tie.After-put-until Inv-loop μ-loop) → Next (Rest (c .before .before .before .before .before .before .before .before .args .language) (c .before .before .before .before .before .before .before .before .args .quotes) (c .before .before .before .before .before .before .before .before .args .text .now) (c .before .before .before .before .before .loop .i)) (take (c .put-until .result - c .before .before .before .before .before .loop .i) (drop (c .before .before .before .before .before .loop .i) (c .before .before .before .before .before .before .before .before .args .text .now))) (Rest (c .before .before .before .before .before .before .before .before .args .language) (c .before .before .before .before .before .before .before .before .args .quotes) (c .before .before .before .before .before .before .before .before .args .text .now) (c .put-until .result))
-next-part c = next-quiet (decodeStep (stringOf (c .before .before .before .before .before .before .before .before .args .language) (c .before .before .before .before .before .before .before .before .args .quotes))) (c .before .before .before .before .before .before .before .before .args .text .now) (c .before .before .before .before .before .loop .i) (c .put-until .result) (c .put-until .ensures .0 .after) (c .put-until .ensures .0 .within) (quiet c)
+next-part : (c : tie.After-put-until Inv-loop μ-loop)
+    → let a = c .before .before .before .before .before .before .before .before .args in
+    let l = c .before .before .before .before .before .loop in
+    Next (Rest (a .language) (a .quotes) (a .text .now) (l .i)) (take (c .put-until .result - l .i) (drop (l .i) (a .text .now))) (Rest (a .language) (a .quotes) (a .text .now) (c .put-until .result))
+next-part c =
+    let a = c .before .before .before .before .before .before .before .before .args in
+    let l = c .before .before .before .before .before .loop in
+    next-quiet (decodeStep (stringOf (a .language) (a .quotes))) (a .text .now) (l .i) (c .put-until .result) (c .put-until .ensures .0 .after) (c .put-until .ensures .0 .within) (quiet c)
 
-size : (c : tie.After-put-until Inv-loop μ-loop) → length (take (c .put-until .result - c .before .before .before .before .before .loop .i) (drop (c .before .before .before .before .before .loop .i) (c .before .before .before .before .before .before .before .before .args .text .now))) ≡ c .put-until .result - c .before .before .before .before .before .loop .i
-size c = part-length (c .before .before .before .before .before .before .before .before .args .text .now) (c .before .before .before .before .before .loop .i) (c .put-until .result) (c .put-until .ensures .0 .after) (c .put-until .ensures .0 .within)
+size : (c : tie.After-put-until Inv-loop μ-loop)
+    → let l = c .before .before .before .before .before .loop in
+    let a = c .before .before .before .before .before .before .before .before .args in
+    length (take (c .put-until .result - l .i) (drop (l .i) (a .text .now))) ≡ c .put-until .result - l .i
+size c =
+    let a = c .before .before .before .before .before .before .before .before .args in
+    let l = c .before .before .before .before .before .loop in
+    part-length (a .text .now) (l .i) (c .put-until .result) (c .put-until .ensures .0 .after) (c .put-until .ensures .0 .within)
 
-two : (c : tie.Then2 Inv-loop μ-loop) → SlashedAt (c .before .before .before .before .before .before .before .before .before .before .args .language) (c .before .before .before .before .before .before .before .before .before .before .args .quotes) (c .before .before .before .before .before .before .before .before .before .before .args .text .now) (c .before .before .before .before .before .before .before .loop .i) (c .before .before .after-slash .result)
-two c = slashed-here (c .before .before .before .before .before .before .before .before .before .before .args .language) (c .before .before .before .before .before .before .before .before .before .before .args .quotes) (c .before .before .before .before .before .before .before .before .before .before .args .text .now) (c .before .before .before .before .before .before .before .loop .i) (c .before .before .after-slash .result) (c .before .before .after-slash .ensures) (sym (c .before .is-slashed .ensures) ∙ c .if2 .taken)
+two : (c : tie.Then2 Inv-loop μ-loop)
+    → let a = c .before .before .before .before .before .before .before .before .before .before .args in
+    let l = c .before .before .before .before .before .before .before .loop in
+    SlashedAt (a .language) (a .quotes) (a .text .now) (l .i) (c .before .before .after-slash .result)
+two c =
+    let a = c .before .before .before .before .before .before .before .before .before .before .args in
+    let l = c .before .before .before .before .before .before .before .loop in
+    let after-slash = c .before .before .after-slash in
+    slashed-here (a .language) (a .quotes) (a .text .now) (l .i) (after-slash .result) (after-slash .ensures) (sym (c .before .is-slashed .ensures) ∙ c .if2 .taken)
 
-next-two : (c : tie.Then2 Inv-loop μ-loop) → Next (Rest (c .before .before .before .before .before .before .before .before .before .before .args .language) (c .before .before .before .before .before .before .before .before .before .before .args .quotes) (c .before .before .before .before .before .before .before .before .before .before .args .text .now) (c .before .before .before .before .before .before .before .loop .i)) (c .before .before .after-slash .result ∷ []) (Rest (c .before .before .before .before .before .before .before .before .before .before .args .language) (c .before .before .before .before .before .before .before .before .before .before .args .quotes) (c .before .before .before .before .before .before .before .before .before .before .args .text .now) (c .before .before .before .before .before .before .before .loop .i + 2))
-next-two c = next-swap (decodeStep (stringOf (c .before .before .before .before .before .before .before .before .before .before .args .language) (c .before .before .before .before .before .before .before .before .before .before .args .quotes))) (c .before .before .before .before .before .before .before .before .before .before .args .text .now) (c .before .before .before .before .before .before .before .loop .i) 2 (c .before .before .after-slash .result ∷ []) (omega arith) (two c .1) (two c .0)
+next-two : (c : tie.Then2 Inv-loop μ-loop)
+    → let a = c .before .before .before .before .before .before .before .before .before .before .args in
+    let l = c .before .before .before .before .before .before .before .loop in
+    Next (Rest (a .language) (a .quotes) (a .text .now) (l .i)) (c .before .before .after-slash .result ∷ []) (Rest (a .language) (a .quotes) (a .text .now) (l .i + 2))
+next-two c =
+    let a = c .before .before .before .before .before .before .before .before .before .before .args in
+    let l = c .before .before .before .before .before .before .before .loop in
+    next-swap (decodeStep (stringOf (a .language) (a .quotes))) (a .text .now) (l .i) 2 (c .before .before .after-slash .result ∷ []) (omega arith) (two c .1) (two c .0)
 
 -- What was read at this place is the move here.
-told : (c : tie.After-read-escape Inv-loop μ-loop) (r : Escape) → c .read-escape .result ≡ r → Told (c .before .before .before .before .before .before .before .before .before .before .before .before .before .args .language) (c .before .before .before .before .before .before .before .before .before .before .before .before .before .args .quotes) (c .before .before .before .before .before .before .before .before .before .before .before .before .before .args .text .now) (c .before .before .before .before .before .before .before .before .before .before .loop .i) r
+told : (c : tie.After-read-escape Inv-loop μ-loop)
+    → let a = c .before .before .before .before .before .before .before .before .before .before .before .before .before .args in
+    let l = c .before .before .before .before .before .before .before .before .before .before .loop in
+    (r : Escape) → c .read-escape .result ≡ r → Told (a .language) (a .quotes) (a .text .now) (l .i) r
 told c r =
-    told-here (c .before .before .before .before .before .before .before .before .before .before .before .before .before .args .language) (c .before .before .before .before .before .before .before .before .before .before .before .before .before .args .quotes) (c .before .before .before .before .before .before .before .before .before .before .before .before .before .args .text .now) (c .before .before .before .before .before .before .before .before .before .before .loop .i) (c .before .before .before .before .before .after-slash .result) (c .before .before .byte-before .result) r (c .read-escape .result)
-    (c .before .before .before .before .before .after-slash .ensures) (sym (c .before .before .before .before .is-slashed .ensures) ∙ c .before .before .before .if2 .left) (c .before .before .byte-before .ensures) (c .read-escape .ensures)
+    let a = c .before .before .before .before .before .before .before .before .before .before .before .before .before .args in
+    let l = c .before .before .before .before .before .before .before .before .before .before .loop in
+    let after-slash = c .before .before .before .before .before .after-slash in
+    let byte-before = c .before .before .byte-before in
+    let is-slashed = c .before .before .before .before .is-slashed in
+    let if2 = c .before .before .before .if2 in
+    told-here (a .language) (a .quotes) (a .text .now) (l .i) (after-slash .result) (byte-before .result) r (c .read-escape .result)
+    (after-slash .ensures) (sym (is-slashed .ensures) ∙ if2 .left) (byte-before .ensures) (c .read-escape .ensures)
 
-none : (c : tie.After-enum-told Inv-loop μ-loop) → Told (c .before .before .before .before .before .before .before .before .before .before .before .before .before .before .before .args .language) (c .before .before .before .before .before .before .before .before .before .before .before .before .before .before .before .args .quotes) (c .before .before .before .before .before .before .before .before .before .before .before .before .before .before .before .args .text .now) (c .before .before .before .before .before .before .before .before .before .before .before .before .loop .i) Nothing
+none : (c : tie.After-enum-told Inv-loop μ-loop)
+    → let a = c .before .before .before .before .before .before .before .before .before .before .before .before .before .before .before .args in
+    let l = c .before .before .before .before .before .before .before .before .before .before .before .before .loop in
+    Told (a .language) (a .quotes) (a .text .now) (l .i) Nothing
 none c = told (c .before .before) _ (c .enum-told .given .1)
 
-next-one : (c : tie.After-enum-told Inv-loop μ-loop) → Next (Rest (c .before .before .before .before .before .before .before .before .before .before .before .before .before .before .before .args .language) (c .before .before .before .before .before .before .before .before .before .before .before .before .before .before .before .args .quotes) (c .before .before .before .before .before .before .before .before .before .before .before .before .before .before .before .args .text .now) (c .before .before .before .before .before .before .before .before .before .before .before .before .loop .i)) (take (c .before .before .before .before .before .before .before .before .before .before .before .before .loop .i + 1 - c .before .before .before .before .before .before .before .before .before .before .before .before .loop .i) (drop (c .before .before .before .before .before .before .before .before .before .before .before .before .loop .i) (c .before .before .before .before .before .before .before .before .before .before .before .before .before .before .before .args .text .now))) (Rest (c .before .before .before .before .before .before .before .before .before .before .before .before .before .before .before .args .language) (c .before .before .before .before .before .before .before .before .before .before .before .before .before .before .before .args .quotes) (c .before .before .before .before .before .before .before .before .before .before .before .before .before .before .before .args .text .now) (c .before .before .before .before .before .before .before .before .before .before .before .before .loop .i + 1))
-next-one c = next-keep (decodeStep (stringOf (c .before .before .before .before .before .before .before .before .before .before .before .before .before .before .before .args .language) (c .before .before .before .before .before .before .before .before .before .before .before .before .before .before .before .args .quotes))) (c .before .before .before .before .before .before .before .before .before .before .before .before .before .before .before .args .text .now) (c .before .before .before .before .before .before .before .before .before .before .before .before .loop .i) (search needs) (none c .moves)
+next-one : (c : tie.After-enum-told Inv-loop μ-loop)
+    → let a = c .before .before .before .before .before .before .before .before .before .before .before .before .before .before .before .args in
+    let l = c .before .before .before .before .before .before .before .before .before .before .before .before .loop in
+    Next (Rest (a .language) (a .quotes) (a .text .now) (l .i)) (take (l .i + 1 - l .i) (drop (l .i) (a .text .now))) (Rest (a .language) (a .quotes) (a .text .now) (l .i + 1))
+next-one c =
+    let a = c .before .before .before .before .before .before .before .before .before .before .before .before .before .before .before .args in
+    let l = c .before .before .before .before .before .before .before .before .before .before .before .before .loop in
+    next-keep (decodeStep (stringOf (a .language) (a .quotes))) (a .text .now) (l .i) (search needs) (none c .moves)
 
-taken : (c : tie.After-n Inv-loop μ-loop) → Told (c .before .before .before .before .before .before .before .before .before .before .before .before .before .before .before .args .language) (c .before .before .before .before .before .before .before .before .before .before .before .before .before .before .before .args .quotes) (c .before .before .before .before .before .before .before .before .before .before .before .before .before .before .before .args .text .now) (c .before .before .before .before .before .before .before .before .before .before .before .before .loop .i) (Taken (c .n .given .0 .0) (c .n .given .0 .1 .0))
+taken : (c : tie.After-n Inv-loop μ-loop)
+    → let a = c .before .before .before .before .before .before .before .before .before .before .before .before .before .before .before .args in
+    let l = c .before .before .before .before .before .before .before .before .before .before .before .before .loop in
+    Told (a .language) (a .quotes) (a .text .now) (l .i) (Taken (c .n .given .0 .0) (c .n .given .0 .1 .0))
 taken c = told (c .before .before) _ (c .n .given .1)
 
-fits : (c : tie.After-n Inv-loop μ-loop) → (1 ≤ c .n .given .0 .0) × (c .before .before .before .before .before .before .before .before .before .before .before .before .loop .i + c .n .given .0 .0 ≤ length (c .before .before .before .before .before .before .before .before .before .before .before .before .before .before .before .args .text .now)) × (length (utf8 (c .n .given .0 .1 .0)) ≤ c .n .given .0 .0) × (c .n .given .0 .1 .0 ≤ 0x10FFFF)
-fits c = within-rest (c .before .before .before .before .before .before .before .before .before .before .before .before .before .before .before .args .text .now) (c .before .before .before .before .before .before .before .before .before .before .before .before .loop .i) (c .n .given .0 .0) (c .n .given .0 .1 .0) (taken c .within)
+fits : (c : tie.After-n Inv-loop μ-loop)
+    → let l = c .before .before .before .before .before .before .before .before .before .before .before .before .loop in
+    let a = c .before .before .before .before .before .before .before .before .before .before .before .before .before .before .before .args in
+    (1 ≤ c .n .given .0 .0) × (l .i + c .n .given .0 .0 ≤ length (a .text .now)) × (length (utf8 (c .n .given .0 .1 .0)) ≤ c .n .given .0 .0) × (c .n .given .0 .1 .0 ≤ 0x10FFFF)
+fits c =
+    let a = c .before .before .before .before .before .before .before .before .before .before .before .before .before .before .before .args in
+    let l = c .before .before .before .before .before .before .before .before .before .before .before .before .loop in
+    within-rest (a .text .now) (l .i) (c .n .given .0 .0) (c .n .given .0 .1 .0) (taken c .within)
 
-next-char : (c : tie.After-n Inv-loop μ-loop) → Next (Rest (c .before .before .before .before .before .before .before .before .before .before .before .before .before .before .before .args .language) (c .before .before .before .before .before .before .before .before .before .before .before .before .before .before .before .args .quotes) (c .before .before .before .before .before .before .before .before .before .before .before .before .before .before .before .args .text .now) (c .before .before .before .before .before .before .before .before .before .before .before .before .loop .i)) (utf8 (c .n .given .0 .1 .0)) (Rest (c .before .before .before .before .before .before .before .before .before .before .before .before .before .before .before .args .language) (c .before .before .before .before .before .before .before .before .before .before .before .before .before .before .before .args .quotes) (c .before .before .before .before .before .before .before .before .before .before .before .before .before .before .before .args .text .now) (c .before .before .before .before .before .before .before .before .before .before .before .before .loop .i + c .n .given .0 .0))
-next-char c = next-swap (decodeStep (stringOf (c .before .before .before .before .before .before .before .before .before .before .before .before .before .before .before .args .language) (c .before .before .before .before .before .before .before .before .before .before .before .before .before .before .before .args .quotes))) (c .before .before .before .before .before .before .before .before .before .before .before .before .before .before .before .args .text .now) (c .before .before .before .before .before .before .before .before .before .before .before .before .loop .i) (c .n .given .0 .0) (utf8 (c .n .given .0 .1 .0)) (fits c .0) (fits c .1) (taken c .moves)
+next-char : (c : tie.After-n Inv-loop μ-loop)
+    → let a = c .before .before .before .before .before .before .before .before .before .before .before .before .before .before .before .args in
+    let l = c .before .before .before .before .before .before .before .before .before .before .before .before .loop in
+    Next (Rest (a .language) (a .quotes) (a .text .now) (l .i)) (utf8 (c .n .given .0 .1 .0)) (Rest (a .language) (a .quotes) (a .text .now) (l .i + c .n .given .0 .0))
+next-char c =
+    let a = c .before .before .before .before .before .before .before .before .before .before .before .before .before .before .before .args in
+    let l = c .before .before .before .before .before .before .before .before .before .before .before .before .loop in
+    next-swap (decodeStep (stringOf (a .language) (a .quotes))) (a .text .now) (l .i) (c .n .given .0 .0) (utf8 (c .n .given .0 .1 .0)) (fits c .0) (fits c .1) (taken c .moves)
 
 loop-holds : tie.Need-loop-holds Inv-loop μ-loop
-loop-holds c = (counted-start (decodeStep (stringOf (c .before .before .args .language) (c .before .before .args .quotes))) (c .before .before .args .text .now), filled-start _ _ (c .before .before .pre))
+loop-holds c =
+    let a = c .before .before .args in
+    (counted-start (decodeStep (stringOf (a .language) (a .quotes))) (a .text .now), filled-start _ _ (c .before .before .pre))
 
 shared-slice-read-if1 : tie.Need-shared-slice-read-if1 Inv-loop μ-loop
 shared-slice-read-if1 c = search needs
@@ -89,28 +155,38 @@ part-put-until-end c = search needs
 
 put-until-requires : tie.Need-put-until-requires Inv-loop μ-loop
 put-until-requires c κs =
-    let t = c .before .before .before .before .before .before .before .args .text .now in
-    let i = c .before .before .before .before .loop .i in (
+    let a = c .before .before .before .before .before .before .before .args in
+    let l = c .before .before .before .before .loop in
+    let t = a .text .now in
+    let i = l .i in (
       search needs,
       λ r near.
-          let next = next-quiet (decodeStep (stringOf (c .before .before .before .before .before .before .before .args .language) (c .before .before .before .before .before .before .before .args .quotes))) t i r (near .after) (near .within) (string-quiet (c .before .before .before .before .before .before .before .args .language) (c .before .before .before .before .before .before .before .args .quotes) t i r near) in
-          omega (arith, near .after, part-length t i r (near .after) (near .within), filled-room (c .before .before .before .before .loop .inv .1) next),
+          let next = next-quiet (decodeStep (stringOf (a .language) (a .quotes))) t i r (near .after) (near .within) (string-quiet (a .language) (a .quotes) t i r near) in
+          omega (arith, near .after, part-length t i r (near .after) (near .within), filled-room (l .inv .1) next),
     )
 
 sub-at : tie.Need-sub-at Inv-loop μ-loop
 sub-at c = omega (arith, c .before .before .put-until .ensures .0 .after)
 
 add-at : tie.Need-add-at Inv-loop μ-loop
-add-at c = omega (arith, size (c .before .before), filled-next (c .before .before .before .before .before .before .before .loop .inv .1) (next-part (c .before .before)))
+add-at c =
+    omega (arith, size (c .before .before), filled-next (c .before .before .before .before .before .before .before .loop .inv .1) (next-part (c .before .before)))
 
 loop-less : tie.Need-loop-less Inv-loop μ-loop
-loop-less c = omega (arith, nearest-past (c .before .before .before .before .before .before .before .before .before .before .args .text .now) (c .before .before .before .before .before .before .before .loop .i) 92 (c .before .before .put-until .result) (search needs) (c .before .before .before .before .if1 .taken) (c .before .before .put-until .ensures .0), c .before .before .put-until .ensures .0 .within)
+loop-less c =
+    let a = c .before .before .before .before .before .before .before .before .before .before .args in
+    let l = c .before .before .before .before .before .before .before .loop in
+    let put-until = c .before .before .put-until in
+    let if1 = c .before .before .before .before .if1 in
+    omega (arith, nearest-past (a .text .now) (l .i) 92 (put-until .result) (search needs) (if1 .taken) (put-until .ensures .0), put-until .ensures .0 .within)
 
 loop-again : tie.Need-loop-again Inv-loop μ-loop
 loop-again c =
+    let l = c .before .before .before .before .before .before .before .loop in
+    let put-until = c .before .before .put-until in
     let p = (c .before .before) in (
-      counted-quiet (c .before .before .before .before .before .before .before .loop .inv .0) (c .before .before .put-until .result) (c .before .before .put-until .ensures .0 .after) (c .before .before .put-until .ensures .0 .within) (quiet p),
-      filled-put (c .before .before .before .before .before .before .before .loop .inv .1) (next-part p) (c .before .before .put-until .last .1 .1 .1 .0) (c .before .before .put-until .result - c .before .before .before .before .before .before .before .loop .i) (sym (size p)) (c .before .before .put-until .ensures .1),
+      counted-quiet (l .inv .0) (put-until .result) (put-until .ensures .0 .after) (put-until .ensures .0 .within) (quiet p),
+      filled-put (l .inv .1) (next-part p) (put-until .last .1 .1 .1 .0) (put-until .result - l .i) (sym (size p)) (put-until .ensures .1),
     )
 
 sub-after-slash : tie.Need-sub-after-slash Inv-loop μ-loop
@@ -144,7 +220,8 @@ put-requires : tie.Need-put-requires Inv-loop μ-loop
 put-requires c κs = filled-room (c .before .before .before .before .before .before .before .before .before .loop .inv .1) (next-two (c .before .before))
 
 add-at-2 : tie.Need-add-at-2 Inv-loop μ-loop
-add-at-2 c = omega (arith, c .before .before .put .ensures .0, filled-next (c .before .before .before .before .before .before .before .before .before .before .before .before .loop .inv .1) (next-two (c .before .before .before .before .before)))
+add-at-2 c =
+    omega (arith, c .before .before .put .ensures .0, filled-next (c .before .before .before .before .before .before .before .before .before .before .before .before .loop .inv .1) (next-two (c .before .before .before .before .before)))
 
 add-escapes : tie.Need-add-escapes Inv-loop μ-loop
 add-escapes c = search needs
@@ -157,9 +234,12 @@ loop-less-2 c = omega (arith, two (c .before .before .before .before .before) .1
 
 loop-again-2 : tie.Need-loop-again-2 Inv-loop μ-loop
 loop-again-2 c =
+    let put = c .before .before .put in
+    let l = c .before .before .before .before .before .before .before .before .before .before .before .before .loop in
+    let after-slash = c .before .before .before .before .before .before .before .after-slash in
     let p = (c .before .before .before .before .before) in (
-      rw (c .before .before .put .ensures .0) (counted-swap (c .before .before .before .before .before .before .before .before .before .before .before .before .loop .inv .0) 2 (c .before .before .before .before .before .before .before .after-slash .result ∷ []) (omega arith) (two p .1) (omega arith) (two p .0)),
-      filled-put (c .before .before .before .before .before .before .before .before .before .before .before .before .loop .inv .1) (next-two p) (c .before .before .put .last .1 .0) (c .before .before .put .result) (c .before .before .put .ensures .0) (c .before .before .put .ensures .1),
+      rw (put .ensures .0) (counted-swap (l .inv .0) 2 (after-slash .result ∷ []) (omega arith) (two p .1) (omega arith) (two p .0)),
+      filled-put (l .inv .1) (next-two p) (put .last .1 .0) (put .result) (put .ensures .0) (put .ensures .1),
     )
 
 byte-before-requires : tie.Need-byte-before-requires Inv-loop μ-loop
@@ -205,19 +285,24 @@ part-put-end-3 : tie.Need-part-put-end-3 Inv-loop μ-loop
 part-put-end-3 c = search needs
 
 put-requires-2 : tie.Need-put-requires-2 Inv-loop μ-loop
-put-requires-2 c κs = filled-room (c .before .before .before .before .before .before .before .before .before .before .before .before .before .before .loop .inv .1) (next-one (c .before .before))
+put-requires-2 c κs =
+    filled-room (c .before .before .before .before .before .before .before .before .before .before .before .before .before .before .loop .inv .1) (next-one (c .before .before))
 
 add-at-3 : tie.Need-add-at-3 Inv-loop μ-loop
-add-at-3 c = omega (arith, c .before .before .put2 .ensures .0, filled-next (c .before .before .before .before .before .before .before .before .before .before .before .before .before .before .before .before .before .loop .inv .1) (next-one (c .before .before .before .before .before)))
+add-at-3 c =
+    omega (arith, c .before .before .put2 .ensures .0, filled-next (c .before .before .before .before .before .before .before .before .before .before .before .before .before .before .before .before .before .loop .inv .1) (next-one (c .before .before .before .before .before)))
 
 loop-less-3 : tie.Need-loop-less-3 Inv-loop μ-loop
 loop-less-3 c = search needs
 
 loop-again-3 : tie.Need-loop-again-3 Inv-loop μ-loop
 loop-again-3 c =
+    let put2 = c .before .before .put2 in
+    let a = c .before .before .before .before .before .before .before .before .before .before .before .before .before .before .before .before .before .before .before .before .args in
+    let l = c .before .before .before .before .before .before .before .before .before .before .before .before .before .before .before .before .before .loop in
     let p = (c .before .before .before .before .before) in
-    let one : c .before .before .put2 .result ≡ 1 = omega (arith, c .before .before .put2 .ensures .0, part-length (c .before .before .before .before .before .before .before .before .before .before .before .before .before .before .before .before .before .before .before .before .args .text .now) (c .before .before .before .before .before .before .before .before .before .before .before .before .before .before .before .before .before .loop .i) (c .before .before .before .before .before .before .before .before .before .before .before .before .before .before .before .before .before .loop .i + 1) (omega arith) (search needs)) in
-    (rw one (counted-keep (c .before .before .before .before .before .before .before .before .before .before .before .before .before .before .before .before .before .loop .inv .0) (search needs) (none p .moves)), filled-put (c .before .before .before .before .before .before .before .before .before .before .before .before .before .before .before .before .before .loop .inv .1) (next-one p) (c .before .before .put2 .last .1 .0) (c .before .before .put2 .result) (c .before .before .put2 .ensures .0) (c .before .before .put2 .ensures .1))
+    let one : put2 .result ≡ 1 = omega (arith, put2 .ensures .0, part-length (a .text .now) (l .i) (l .i + 1) (omega arith) (search needs)) in
+    (rw one (counted-keep (l .inv .0) (search needs) (none p .moves)), filled-put (l .inv .1) (next-one p) (put2 .last .1 .0) (put2 .result) (put2 .ensures .0) (put2 .ensures .1))
 
 sub-put-char : tie.Need-sub-put-char Inv-loop μ-loop
 sub-put-char c = search needs
@@ -229,10 +314,12 @@ part-put-char-end : tie.Need-part-put-char-end Inv-loop μ-loop
 part-put-char-end c = search needs
 
 put-char-requires : tie.Need-put-char-requires Inv-loop μ-loop
-put-char-requires c κs = (fits (c .before .before) .3, filled-room (c .before .before .before .before .before .before .before .before .before .before .before .before .before .before .loop .inv .1) (next-char (c .before .before)))
+put-char-requires c κs =
+    (fits (c .before .before) .3, filled-room (c .before .before .before .before .before .before .before .before .before .before .before .before .before .before .loop .inv .1) (next-char (c .before .before)))
 
 add-at-4 : tie.Need-add-at-4 Inv-loop μ-loop
-add-at-4 c = omega (arith, c .before .before .put-char .ensures .0, filled-next (c .before .before .before .before .before .before .before .before .before .before .before .before .before .before .before .before .before .loop .inv .1) (next-char (c .before .before .before .before .before)))
+add-at-4 c =
+    omega (arith, c .before .before .put-char .ensures .0, filled-next (c .before .before .before .before .before .before .before .before .before .before .before .before .before .before .before .before .before .loop .inv .1) (next-char (c .before .before .before .before .before)))
 
 add-escapes-2 : tie.Need-add-escapes-2 Inv-loop μ-loop
 add-escapes-2 c = search needs
@@ -245,10 +332,13 @@ loop-less-4 c = let w = fits (c .before .before .before .before .before) in omeg
 
 loop-again-4 : tie.Need-loop-again-4 Inv-loop μ-loop
 loop-again-4 c =
+    let put-char = c .before .before .put-char in
+    let l = c .before .before .before .before .before .before .before .before .before .before .before .before .before .before .before .before .before .loop in
+    let n = c .before .before .before .before .before .n in
     let p = (c .before .before .before .before .before) in
     let w = fits p in (
-      rw (c .before .before .put-char .ensures .0) (counted-swap (c .before .before .before .before .before .before .before .before .before .before .before .before .before .before .before .before .before .loop .inv .0) (c .before .before .before .before .before .n .given .0 .0) (utf8 (c .before .before .before .before .before .n .given .0 .1 .0)) (w .0) (w .1) (w .2) (taken p .moves)),
-      filled-put (c .before .before .before .before .before .before .before .before .before .before .before .before .before .before .before .before .before .loop .inv .1) (next-char p) (c .before .before .put-char .last .1 .0) (c .before .before .put-char .result) (c .before .before .put-char .ensures .0) (c .before .before .put-char .ensures .1),
+      rw (put-char .ensures .0) (counted-swap (l .inv .0) (n .given .0 .0) (utf8 (n .given .0 .1 .0)) (w .0) (w .1) (w .2) (taken p .moves)),
+      filled-put (l .inv .1) (next-char p) (put-char .last .1 .0) (put-char .result) (put-char .ensures .0) (put-char .ensures .1),
     )
 
 same-length : tie.Need-same-length Inv-loop μ-loop
@@ -256,8 +346,10 @@ same-length c = search needs
 
 returns : tie.Need-returns Inv-loop μ-loop
 returns c =
-    let none = from-end (decodeStep (stringOf (c .before .before .before .before .args .language) (c .before .before .before .before .args .quotes))) (c .before .before .before .before .args .text .now) (c .before .loop .i) (omega arith) in
-    (counted-measures (c .before .loop .inv .0) none, filled-all (c .before .loop .inv .1) (ap result none) .1)
+    let a = c .before .before .before .before .args in
+    let l = c .before .loop in
+    let none = from-end (decodeStep (stringOf (a .language) (a .quotes))) (a .text .now) (l .i) (omega arith) in
+    (counted-measures (l .inv .0) none, filled-all (l .inv .1) (ap result none) .1)
 
 pub write-spec : {M : Type 1} → statement M
 write-spec =

@@ -24,26 +24,57 @@ Inv-loop c text leads set mark n₀ k₀ i₀ n k i = Counted (byteStep c) text 
 abbrev μ-loop : tie.MeasureT-loop
 μ-loop c text leads set mark n₀ k₀ i₀ n k i = length text - i
 
-clear : (c : tie.After-next-replaced Inv-loop μ-loop) → Keeps (byteStep (c .before .before .before .before .before .before .before .before .before .before .before .args .c)) (c .before .before .before .before .before .before .before .before .before .before .before .args .text .now) (c .before .before .before .before .before .before .loop .i) (c .next-replaced .result)
+clear : (c : tie.After-next-replaced Inv-loop μ-loop)
+    → let a = c .before .before .before .before .before .before .before .before .before .before .before .args in
+    let l = c .before .before .before .before .before .before .loop in
+    Keeps (byteStep (a .c)) (a .text .now) (l .i) (c .next-replaced .result)
 clear c =
-    clear-keeps (c .before .before .before .before .before .before .before .before .before .before .before .args .c) (c .before .before .before .before .before .before .before .before .before .before .before .args .text .now) (λ k. c .before .before .before .before .before .before .before .before .before .before .shared-slice-known .given k .fits) (c .before .before .before .before .before .before .before .before .before .leads-of .result) (c .before .before .before .before .before .before .before .before .before .leads-of .ensures) (c .before .before .before .before .before .before .loop .i) (c .next-replaced .result)
+    let a = c .before .before .before .before .before .before .before .before .before .before .before .args in
+    let shared-slice-known = c .before .before .before .before .before .before .before .before .before .before .shared-slice-known in
+    let leads-of = c .before .before .before .before .before .before .before .before .before .leads-of in
+    let l = c .before .before .before .before .before .before .loop in
+    clear-keeps (a .c) (a .text .now) (λ k. shared-slice-known .given k .fits) (leads-of .result) (leads-of .ensures) (l .i) (c .next-replaced .result)
     (c .next-replaced .ensures)
 
 -- The reader stops at another replaced character,
-stopped : (c : tie.Then2 Inv-loop μ-loop) → from (byteStep (c .before .before .before .before .before .before .before .before .before .before .before .before .args .c)) (c .before .before .before .before .before .before .before .before .before .before .before .before .args .text .now) (c .before .before .before .before .before .before .before .loop .i) ≡ []
+stopped : (c : tie.Then2 Inv-loop μ-loop)
+    → let a = c .before .before .before .before .before .before .before .before .before .before .before .before .args in
+    let l = c .before .before .before .before .before .before .before .loop in
+    from (byteStep (a .c)) (a .text .now) (l .i) ≡ []
 stopped c =
-    from-stop (byteStep (c .before .before .before .before .before .before .before .before .before .before .before .before .args .c)) (c .before .before .before .before .before .before .before .before .before .before .before .before .args .text .now) (c .before .before .before .before .before .before .before .loop .i) (omega arith)
-    (no-mark-here (c .before .before .before .before .before .before .before .before .before .before .before .before .args .c) (c .before .before .before .before .before .before .before .before .before .before .before .before .args .text .now) (c .before .before .before .before .before .before .before .loop .i) (omega arith) (λ k. c .before .before .before .before .before .before .before .before .before .before .before .shared-slice-known .given k .fits) (c .before .before .before .before .before .before .before .before .before .before .leads-of .result) (c .before .before .before .before .before .before .before .before .before .before .leads-of .ensures)
-    (λ z. c .before .before .before .before .if1 .taken (z ∙ sym (c .before .before .before .before .before .before .before .before .mark-of .ensures))) (rw (c .if2 .taken) at (c .before .next-replaced .ensures)))
+    let a = c .before .before .before .before .before .before .before .before .before .before .before .before .args in
+    let l = c .before .before .before .before .before .before .before .loop in
+    let shared-slice-known = c .before .before .before .before .before .before .before .before .before .before .before .shared-slice-known in
+    let leads-of = c .before .before .before .before .before .before .before .before .before .before .leads-of in
+    let if1 = c .before .before .before .before .if1 in
+    let mark-of = c .before .before .before .before .before .before .before .before .mark-of in
+    from-stop (byteStep (a .c)) (a .text .now) (l .i) (omega arith)
+    (no-mark-here (a .c) (a .text .now) (l .i) (omega arith) (λ k. shared-slice-known .given k .fits) (leads-of .result) (leads-of .ensures)
+    (λ z. if1 .taken (z ∙ sym (mark-of .ensures))) (rw (c .if2 .taken) at (c .before .next-replaced .ensures)))
 
 -- and where no unit is.
-unread : (c : tie.After-enum-told Inv-loop μ-loop) → from (byteStep (c .before .before .before .before .before .before .before .before .before .before .before .before .args .c)) (c .before .before .before .before .before .before .before .before .before .before .before .before .args .text .now) (c .before .before .before .before .before .before .before .loop .i) ≡ []
+unread : (c : tie.After-enum-told Inv-loop μ-loop)
+    → let a = c .before .before .before .before .before .before .before .before .before .before .before .before .args in
+    let l = c .before .before .before .before .before .before .before .loop in
+    from (byteStep (a .c)) (a .text .now) (l .i) ≡ []
 unread c =
-    from-stop (byteStep (c .before .before .before .before .before .before .before .before .before .before .before .before .args .c)) (c .before .before .before .before .before .before .before .before .before .before .before .before .args .text .now) (c .before .before .before .before .before .before .before .loop .i) (omega arith)
-    (no-unit-here (c .before .before .before .before .before .before .before .before .before .before .before .before .args .c) (c .before .before .before .before .before .before .before .before .before .before .before .before .args .text .now) (c .before .before .before .before .before .before .before .loop .i) (omega arith) (c .before .before .read-unit .result) (c .before .before .before .before .if1 .left ∙ c .before .before .before .before .before .before .before .before .mark-of .ensures) (c .enum-told .given .1) (c .before .before .read-unit .ensures))
+    let a = c .before .before .before .before .before .before .before .before .before .before .before .before .args in
+    let l = c .before .before .before .before .before .before .before .loop in
+    let read-unit = c .before .before .read-unit in
+    let if1 = c .before .before .before .before .if1 in
+    let mark-of = c .before .before .before .before .before .before .before .before .mark-of in
+    from-stop (byteStep (a .c)) (a .text .now) (l .i) (omega arith)
+    (no-unit-here (a .c) (a .text .now) (l .i) (omega arith) (read-unit .result) (if1 .left ∙ mark-of .ensures) (c .enum-told .given .1) (read-unit .ensures))
 
-found : (c : tie.After-n Inv-loop μ-loop) → UnitAt (c .before .before .before .before .before .before .before .before .before .before .before .before .args .c) (c .before .before .before .before .before .before .before .before .before .before .before .before .args .text .now) (c .before .before .before .before .before .before .before .loop .i) (c .n .given .0 .0) (c .n .given .0 .1 .0)
-found c = unit-here (c .before .before .before .before .before .before .before .before .before .before .before .before .args .c) (c .before .before .before .before .before .before .before .before .before .before .before .before .args .text .now) (c .before .before .before .before .before .before .before .loop .i) (omega arith) (c .n .given .0 .0) (c .n .given .0 .1 .0) (c .before .before .read-unit .result) (c .n .given .1) (c .before .before .read-unit .ensures)
+found : (c : tie.After-n Inv-loop μ-loop)
+    → let a = c .before .before .before .before .before .before .before .before .before .before .before .before .args in
+    let l = c .before .before .before .before .before .before .before .loop in
+    UnitAt (a .c) (a .text .now) (l .i) (c .n .given .0 .0) (c .n .given .0 .1 .0)
+found c =
+    let a = c .before .before .before .before .before .before .before .before .before .before .before .before .args in
+    let l = c .before .before .before .before .before .before .before .loop in
+    let read-unit = c .before .before .read-unit in
+    unit-here (a .c) (a .text .now) (l .i) (omega arith) (c .n .given .0 .0) (c .n .given .0 .1 .0) (read-unit .result) (c .n .given .1) (read-unit .ensures)
 
 leads-of-requires : tie.Need-leads-of-requires Inv-loop μ-loop
 leads-of-requires c κs = search needs
@@ -55,16 +86,23 @@ mark-of-requires : tie.Need-mark-of-requires Inv-loop μ-loop
 mark-of-requires c κs = search needs
 
 loop-holds : tie.Need-loop-holds Inv-loop μ-loop
-loop-holds c = counted-start (byteStep (c .before .before .before .before .args .c)) (c .before .before .before .before .args .text .now)
+loop-holds c =
+    let a = c .before .before .before .before .args in
+    counted-start (byteStep (a .c)) (a .text .now)
 
 shared-slice-read-if1 : tie.Need-shared-slice-read-if1 Inv-loop μ-loop
 shared-slice-read-if1 c = search needs
 
 next-replaced-requires : tie.Need-next-replaced-requires Inv-loop μ-loop
-next-replaced-requires c κs = (λ b h. c .before .before .before .before .before .before .before .set-of .ensures b h ∙ sym (c .before .before .before .before .before .before .before .before .leads-of .ensures b h), search needs)
+next-replaced-requires c κs =
+    (λ b h. c .before .before .before .before .before .before .before .set-of .ensures b h ∙ sym (c .before .before .before .before .before .before .before .before .leads-of .ensures b h), search needs)
 
 returns : tie.Need-returns Inv-loop μ-loop
-returns c = read-measures (c .before .before .before .before .before .before .before .before .before .before .before .before .args .c) (c .before .before .before .before .before .before .before .before .before .before .before .before .args .text .now) (c .before .before .before .before .before .before .before .loop .i) _ _ (c .before .before .before .before .before .before .before .before .before .before .before .before .pre .1) (c .before .before .before .before .before .before .before .loop .inv) (stopped c)
+returns c =
+    let a = c .before .before .before .before .before .before .before .before .before .before .before .before .args in
+    let l = c .before .before .before .before .before .before .before .loop in
+    let pre = c .before .before .before .before .before .before .before .before .before .before .before .before .pre in
+    read-measures (a .c) (a .text .now) (l .i) _ _ (pre .1) (l .inv) (stopped c)
 
 sub-length : tie.Need-sub-length Inv-loop μ-loop
 sub-length c = search needs
@@ -73,10 +111,15 @@ add-length : tie.Need-add-length Inv-loop μ-loop
 add-length c = search needs
 
 loop-less : tie.Need-loop-less Inv-loop μ-loop
-loop-less c = omega (arith, c .before .next-replaced .ensures .after, c .before .next-replaced .ensures .within, c .if2 .left)
+loop-less c =
+    let next-replaced = c .before .next-replaced in
+    omega (arith, next-replaced .ensures .after, next-replaced .ensures .within, c .if2 .left)
 
 loop-again : tie.Need-loop-again Inv-loop μ-loop
-loop-again c = counted-quiet (c .before .before .before .before .before .before .before .loop .inv) (c .before .next-replaced .result) (c .before .next-replaced .ensures .after) (c .before .next-replaced .ensures .within) (clear (c .before))
+loop-again c =
+    let l = c .before .before .before .before .before .before .before .loop in
+    let next-replaced = c .before .next-replaced in
+    counted-quiet (l .inv) (next-replaced .result) (next-replaced .ensures .after) (next-replaced .ensures .within) (clear (c .before))
 
 read-unit-requires : tie.Need-read-unit-requires Inv-loop μ-loop
 read-unit-requires c κs = (c .before .before .before .before .before .before .set-of .ensures, search needs)
@@ -88,7 +131,11 @@ enum-told : tie.Need-enum-told Inv-loop μ-loop
 enum-told c = search needs
 
 returns-2 : tie.Need-returns-2 Inv-loop μ-loop
-returns-2 c = read-measures (c .before .before .before .before .before .before .before .before .before .before .before .before .args .c) (c .before .before .before .before .before .before .before .before .before .before .before .before .args .text .now) (c .before .before .before .before .before .before .before .loop .i) _ _ (c .before .before .before .before .before .before .before .before .before .before .before .before .pre .1) (c .before .before .before .before .before .before .before .loop .inv) (unread c)
+returns-2 c =
+    let a = c .before .before .before .before .before .before .before .before .before .before .before .before .args in
+    let l = c .before .before .before .before .before .before .before .loop in
+    let pre = c .before .before .before .before .before .before .before .before .before .before .before .before .pre in
+    read-measures (a .c) (a .text .now) (l .i) _ _ (pre .1) (l .inv) (unread c)
 
 char-length-requires : tie.Need-char-length-requires Inv-loop μ-loop
 char-length-requires c κs = search needs
@@ -107,11 +154,17 @@ loop-less-2 c = let u = found (c .before .before) in omega (arith, u .some, u .e
 
 loop-again-2 : tie.Need-loop-again-2 Inv-loop μ-loop
 loop-again-2 c =
+    let l = c .before .before .before .before .before .before .before .before .before .loop in
+    let n = c .before .before .n in
     let u = found (c .before .before) in
-    rw (c .char-length .ensures .0) (counted-swap (c .before .before .before .before .before .before .before .before .before .loop .inv) (c .before .before .n .given .0 .0) (utf8 (c .before .before .n .given .0 .1 .0)) (u .some) (u .ends) (u .shorter) (u .moves))
+    rw (c .char-length .ensures .0) (counted-swap (l .inv) (n .given .0 .0) (utf8 (n .given .0 .1 .0)) (u .some) (u .ends) (u .shorter) (u .moves))
 
 returns-3 : tie.Need-returns-3 Inv-loop μ-loop
-returns-3 c = read-measures (c .before .before .before .before .before .before .args .c) (c .before .before .before .before .before .before .args .text .now) (c .before .loop .i) _ _ (c .before .before .before .before .before .before .pre .1) (c .before .loop .inv) (from-end (byteStep (c .before .before .before .before .before .before .args .c)) (c .before .before .before .before .before .before .args .text .now) (c .before .loop .i) (omega arith))
+returns-3 c =
+    let a = c .before .before .before .before .before .before .args in
+    let l = c .before .loop in
+    let pre = c .before .before .before .before .before .before .pre in
+    read-measures (a .c) (a .text .now) (l .i) _ _ (pre .1) (l .inv) (from-end (byteStep (a .c)) (a .text .now) (l .i) (omega arith))
 
 pub measure-spec : {M : Type 1} → statement M
 measure-spec =

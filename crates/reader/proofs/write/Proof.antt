@@ -31,32 +31,75 @@ Inv-loop c text output₀ leads set mark at₀ i₀ output at i = (i ≤ length 
 abbrev μ-loop : tie.MeasureT-loop
 μ-loop c text output₀ leads set mark at₀ i₀ output at i = length text - i
 
-clear : (c : tie.After-next-replaced Inv-loop μ-loop) → Keeps (byteStep (c .before .before .before .before .before .before .before .before .before .before .before .before .args .c)) (c .before .before .before .before .before .before .before .before .before .before .before .before .args .text .now) (c .before .before .before .before .before .before .loop .i) (c .next-replaced .result)
+clear : (c : tie.After-next-replaced Inv-loop μ-loop)
+    → let a = c .before .before .before .before .before .before .before .before .before .before .before .before .args in
+    let l = c .before .before .before .before .before .before .loop in
+    Keeps (byteStep (a .c)) (a .text .now) (l .i) (c .next-replaced .result)
 clear c =
-    clear-keeps (c .before .before .before .before .before .before .before .before .before .before .before .before .args .c) (c .before .before .before .before .before .before .before .before .before .before .before .before .args .text .now) (λ k. c .before .before .before .before .before .before .before .before .before .before .before .shared-slice-known .given k .fits) (c .before .before .before .before .before .before .before .before .before .leads-of .result) (c .before .before .before .before .before .before .before .before .before .leads-of .ensures) (c .before .before .before .before .before .before .loop .i) (c .next-replaced .result)
+    let a = c .before .before .before .before .before .before .before .before .before .before .before .before .args in
+    let shared-slice-known = c .before .before .before .before .before .before .before .before .before .before .before .shared-slice-known in
+    let leads-of = c .before .before .before .before .before .before .before .before .before .leads-of in
+    let l = c .before .before .before .before .before .before .loop in
+    clear-keeps (a .c) (a .text .now) (λ k. shared-slice-known .given k .fits) (leads-of .result) (leads-of .ensures) (l .i) (c .next-replaced .result)
     (c .next-replaced .ensures)
 
-next-part : (c : tie.After-next-replaced Inv-loop μ-loop) → Next (Rest (c .before .before .before .before .before .before .before .before .before .before .before .before .args .c) (c .before .before .before .before .before .before .before .before .before .before .before .before .args .text .now) (c .before .before .before .before .before .before .loop .i)) (take (c .next-replaced .result - c .before .before .before .before .before .before .loop .i) (drop (c .before .before .before .before .before .before .loop .i) (c .before .before .before .before .before .before .before .before .before .before .before .before .args .text .now))) (Rest (c .before .before .before .before .before .before .before .before .before .before .before .before .args .c) (c .before .before .before .before .before .before .before .before .before .before .before .before .args .text .now) (c .next-replaced .result))
-next-part c = next-quiet (byteStep (c .before .before .before .before .before .before .before .before .before .before .before .before .args .c)) (c .before .before .before .before .before .before .before .before .before .before .before .before .args .text .now) (c .before .before .before .before .before .before .loop .i) (c .next-replaced .result) (c .next-replaced .ensures .after) (c .next-replaced .ensures .within) (clear c)
+next-part : (c : tie.After-next-replaced Inv-loop μ-loop)
+    → let a = c .before .before .before .before .before .before .before .before .before .before .before .before .args in
+    let l = c .before .before .before .before .before .before .loop in
+    Next (Rest (a .c) (a .text .now) (l .i)) (take (c .next-replaced .result - l .i) (drop (l .i) (a .text .now))) (Rest (a .c) (a .text .now) (c .next-replaced .result))
+next-part c =
+    let a = c .before .before .before .before .before .before .before .before .before .before .before .before .args in
+    let l = c .before .before .before .before .before .before .loop in
+    next-quiet (byteStep (a .c)) (a .text .now) (l .i) (c .next-replaced .result) (c .next-replaced .ensures .after) (c .next-replaced .ensures .within) (clear c)
 
 -- The reader stops at another replaced character,
-stopped : (c : tie.Then2 Inv-loop μ-loop) → from (byteStep (c .before .before .before .before .before .before .before .before .before .before .before .before .before .args .c)) (c .before .before .before .before .before .before .before .before .before .before .before .before .before .args .text .now) (c .before .before .before .before .before .before .before .loop .i) ≡ []
+stopped : (c : tie.Then2 Inv-loop μ-loop)
+    → let a = c .before .before .before .before .before .before .before .before .before .before .before .before .before .args in
+    let l = c .before .before .before .before .before .before .before .loop in
+    from (byteStep (a .c)) (a .text .now) (l .i) ≡ []
 stopped c =
-    from-stop (byteStep (c .before .before .before .before .before .before .before .before .before .before .before .before .before .args .c)) (c .before .before .before .before .before .before .before .before .before .before .before .before .before .args .text .now) (c .before .before .before .before .before .before .before .loop .i) (omega arith)
-    (no-mark-here (c .before .before .before .before .before .before .before .before .before .before .before .before .before .args .c) (c .before .before .before .before .before .before .before .before .before .before .before .before .before .args .text .now) (c .before .before .before .before .before .before .before .loop .i) (omega arith) (λ k. c .before .before .before .before .before .before .before .before .before .before .before .before .shared-slice-known .given k .fits) (c .before .before .before .before .before .before .before .before .before .before .leads-of .result) (c .before .before .before .before .before .before .before .before .before .before .leads-of .ensures)
-    (λ z. c .before .before .before .before .if1 .taken (z ∙ sym (c .before .before .before .before .before .before .before .before .mark-of .ensures))) (rw (c .if2 .taken) at (c .before .next-replaced .ensures)))
+    let a = c .before .before .before .before .before .before .before .before .before .before .before .before .before .args in
+    let l = c .before .before .before .before .before .before .before .loop in
+    let shared-slice-known = c .before .before .before .before .before .before .before .before .before .before .before .before .shared-slice-known in
+    let leads-of = c .before .before .before .before .before .before .before .before .before .before .leads-of in
+    let if1 = c .before .before .before .before .if1 in
+    let mark-of = c .before .before .before .before .before .before .before .before .mark-of in
+    from-stop (byteStep (a .c)) (a .text .now) (l .i) (omega arith)
+    (no-mark-here (a .c) (a .text .now) (l .i) (omega arith) (λ k. shared-slice-known .given k .fits) (leads-of .result) (leads-of .ensures)
+    (λ z. if1 .taken (z ∙ sym (mark-of .ensures))) (rw (c .if2 .taken) at (c .before .next-replaced .ensures)))
 
 -- and where no unit is.
-unread : (c : tie.After-enum-told Inv-loop μ-loop) → from (byteStep (c .before .before .before .before .before .before .before .before .before .before .before .before .before .args .c)) (c .before .before .before .before .before .before .before .before .before .before .before .before .before .args .text .now) (c .before .before .before .before .before .before .before .loop .i) ≡ []
+unread : (c : tie.After-enum-told Inv-loop μ-loop)
+    → let a = c .before .before .before .before .before .before .before .before .before .before .before .before .before .args in
+    let l = c .before .before .before .before .before .before .before .loop in
+    from (byteStep (a .c)) (a .text .now) (l .i) ≡ []
 unread c =
-    from-stop (byteStep (c .before .before .before .before .before .before .before .before .before .before .before .before .before .args .c)) (c .before .before .before .before .before .before .before .before .before .before .before .before .before .args .text .now) (c .before .before .before .before .before .before .before .loop .i) (omega arith)
-    (no-unit-here (c .before .before .before .before .before .before .before .before .before .before .before .before .before .args .c) (c .before .before .before .before .before .before .before .before .before .before .before .before .before .args .text .now) (c .before .before .before .before .before .before .before .loop .i) (omega arith) (c .before .before .read-unit .result) (c .before .before .before .before .if1 .left ∙ c .before .before .before .before .before .before .before .before .mark-of .ensures) (c .enum-told .given .1) (c .before .before .read-unit .ensures))
+    let a = c .before .before .before .before .before .before .before .before .before .before .before .before .before .args in
+    let l = c .before .before .before .before .before .before .before .loop in
+    let read-unit = c .before .before .read-unit in
+    let if1 = c .before .before .before .before .if1 in
+    let mark-of = c .before .before .before .before .before .before .before .before .mark-of in
+    from-stop (byteStep (a .c)) (a .text .now) (l .i) (omega arith)
+    (no-unit-here (a .c) (a .text .now) (l .i) (omega arith) (read-unit .result) (if1 .left ∙ mark-of .ensures) (c .enum-told .given .1) (read-unit .ensures))
 
-found : (c : tie.After-n Inv-loop μ-loop) → UnitAt (c .before .before .before .before .before .before .before .before .before .before .before .before .before .args .c) (c .before .before .before .before .before .before .before .before .before .before .before .before .before .args .text .now) (c .before .before .before .before .before .before .before .loop .i) (c .n .given .0 .0) (c .n .given .0 .1 .0)
-found c = unit-here (c .before .before .before .before .before .before .before .before .before .before .before .before .before .args .c) (c .before .before .before .before .before .before .before .before .before .before .before .before .before .args .text .now) (c .before .before .before .before .before .before .before .loop .i) (omega arith) (c .n .given .0 .0) (c .n .given .0 .1 .0) (c .before .before .read-unit .result) (c .n .given .1) (c .before .before .read-unit .ensures)
+found : (c : tie.After-n Inv-loop μ-loop)
+    → let a = c .before .before .before .before .before .before .before .before .before .before .before .before .before .args in
+    let l = c .before .before .before .before .before .before .before .loop in
+    UnitAt (a .c) (a .text .now) (l .i) (c .n .given .0 .0) (c .n .given .0 .1 .0)
+found c =
+    let a = c .before .before .before .before .before .before .before .before .before .before .before .before .before .args in
+    let l = c .before .before .before .before .before .before .before .loop in
+    let read-unit = c .before .before .read-unit in
+    unit-here (a .c) (a .text .now) (l .i) (omega arith) (c .n .given .0 .0) (c .n .given .0 .1 .0) (read-unit .result) (c .n .given .1) (read-unit .ensures)
 
-next-char : (c : tie.After-n Inv-loop μ-loop) → Next (Rest (c .before .before .before .before .before .before .before .before .before .before .before .before .before .args .c) (c .before .before .before .before .before .before .before .before .before .before .before .before .before .args .text .now) (c .before .before .before .before .before .before .before .loop .i)) (utf8 (c .n .given .0 .1 .0)) (Rest (c .before .before .before .before .before .before .before .before .before .before .before .before .before .args .c) (c .before .before .before .before .before .before .before .before .before .before .before .before .before .args .text .now) (c .before .before .before .before .before .before .before .loop .i + c .n .given .0 .0))
-next-char c = next-swap (byteStep (c .before .before .before .before .before .before .before .before .before .before .before .before .before .args .c)) (c .before .before .before .before .before .before .before .before .before .before .before .before .before .args .text .now) (c .before .before .before .before .before .before .before .loop .i) (c .n .given .0 .0) (utf8 (c .n .given .0 .1 .0)) (found c .some) (found c .ends) (found c .moves)
+next-char : (c : tie.After-n Inv-loop μ-loop)
+    → let a = c .before .before .before .before .before .before .before .before .before .before .before .before .before .args in
+    let l = c .before .before .before .before .before .before .before .loop in
+    Next (Rest (a .c) (a .text .now) (l .i)) (utf8 (c .n .given .0 .1 .0)) (Rest (a .c) (a .text .now) (l .i + c .n .given .0 .0))
+next-char c =
+    let a = c .before .before .before .before .before .before .before .before .before .before .before .before .before .args in
+    let l = c .before .before .before .before .before .before .before .loop in
+    next-swap (byteStep (a .c)) (a .text .now) (l .i) (c .n .given .0 .0) (utf8 (c .n .given .0 .1 .0)) (found c .some) (found c .ends) (found c .moves)
 
 leads-of-requires : tie.Need-leads-of-requires Inv-loop μ-loop
 leads-of-requires c κs = search needs
@@ -68,13 +111,17 @@ mark-of-requires : tie.Need-mark-of-requires Inv-loop μ-loop
 mark-of-requires c κs = search needs
 
 loop-holds : tie.Need-loop-holds Inv-loop μ-loop
-loop-holds c = (search needs, rw (byte-result (c .before .before .before .before .before .args .c) (c .before .before .before .before .before .args .text .now) (c .before .before .before .before .before .pre .0)) (filled-start _ _ (c .before .before .before .before .before .pre .1)))
+loop-holds c =
+    let a = c .before .before .before .before .before .args in
+    let pre = c .before .before .before .before .before .pre in
+    (search needs, rw (byte-result (a .c) (a .text .now) (pre .0)) (filled-start _ _ (pre .1)))
 
 shared-slice-read-if1 : tie.Need-shared-slice-read-if1 Inv-loop μ-loop
 shared-slice-read-if1 c = search needs
 
 next-replaced-requires : tie.Need-next-replaced-requires Inv-loop μ-loop
-next-replaced-requires c κs = (λ b h. c .before .before .before .before .before .before .before .set-of .ensures b h ∙ sym (c .before .before .before .before .before .before .before .before .leads-of .ensures b h), search needs)
+next-replaced-requires c κs =
+    (λ b h. c .before .before .before .before .before .before .before .set-of .ensures b h ∙ sym (c .before .before .before .before .before .before .before .before .leads-of .ensures b h), search needs)
 
 same-length : tie.Need-same-length Inv-loop μ-loop
 same-length c = search needs
@@ -104,13 +151,21 @@ put-requires : tie.Need-put-requires Inv-loop μ-loop
 put-requires c κs = filled-room (c .before .before .before .before .before .before .before .before .before .loop .inv .1) (next-part (c .before .before .before))
 
 add-at : tie.Need-add-at Inv-loop μ-loop
-add-at c = omega (arith, c .before .before .put .ensures .0, filled-next (c .before .before .before .before .before .before .before .before .before .before .before .before .loop .inv .1) (next-part (c .before .before .before .before .before .before)))
+add-at c =
+    omega (arith, c .before .before .put .ensures .0, filled-next (c .before .before .before .before .before .before .before .before .before .before .before .before .loop .inv .1) (next-part (c .before .before .before .before .before .before)))
 
 loop-less : tie.Need-loop-less Inv-loop μ-loop
-loop-less c = omega (arith, c .before .before .before .before .before .before .next-replaced .ensures .after, c .before .before .before .before .before .before .next-replaced .ensures .within, c .before .before .before .before .before .if2 .left)
+loop-less c =
+    let next-replaced = c .before .before .before .before .before .before .next-replaced in
+    let if2 = c .before .before .before .before .before .if2 in
+    omega (arith, next-replaced .ensures .after, next-replaced .ensures .within, if2 .left)
 
 loop-again : tie.Need-loop-again Inv-loop μ-loop
-loop-again c = (c .before .before .before .before .before .before .next-replaced .ensures .within, filled-put (c .before .before .before .before .before .before .before .before .before .before .before .before .loop .inv .1) (next-part (c .before .before .before .before .before .before)) (c .before .before .put .last .1 .0) (c .before .before .put .result) (c .before .before .put .ensures .0) (c .before .before .put .ensures .1))
+loop-again c =
+    let next-replaced = c .before .before .before .before .before .before .next-replaced in
+    let l = c .before .before .before .before .before .before .before .before .before .before .before .before .loop in
+    let put = c .before .before .put in
+    (next-replaced .ensures .within, filled-put (l .inv .1) (next-part (c .before .before .before .before .before .before)) (put .last .1 .0) (put .result) (put .ensures .0) (put .ensures .1))
 
 read-unit-requires : tie.Need-read-unit-requires Inv-loop μ-loop
 read-unit-requires c κs = (c .before .before .before .before .before .before .set-of .ensures, search needs)
@@ -137,10 +192,12 @@ part-put-char-end : tie.Need-part-put-char-end Inv-loop μ-loop
 part-put-char-end c = search needs
 
 put-char-requires : tie.Need-put-char-requires Inv-loop μ-loop
-put-char-requires c κs = (found (c .before .before) .scalar, filled-room (c .before .before .before .before .before .before .before .before .before .loop .inv .1) (next-char (c .before .before)))
+put-char-requires c κs =
+    (found (c .before .before) .scalar, filled-room (c .before .before .before .before .before .before .before .before .before .loop .inv .1) (next-char (c .before .before)))
 
 add-at-2 : tie.Need-add-at-2 Inv-loop μ-loop
-add-at-2 c = omega (arith, c .before .before .put-char .ensures .0, filled-next (c .before .before .before .before .before .before .before .before .before .before .before .before .loop .inv .1) (next-char (c .before .before .before .before .before)))
+add-at-2 c =
+    omega (arith, c .before .before .put-char .ensures .0, filled-next (c .before .before .before .before .before .before .before .before .before .before .before .before .loop .inv .1) (next-char (c .before .before .before .before .before)))
 
 add-i : tie.Need-add-i Inv-loop μ-loop
 add-i c = omega (arith, found (c .before .before .before .before .before) .ends)
@@ -149,13 +206,19 @@ loop-less-2 : tie.Need-loop-less-2 Inv-loop μ-loop
 loop-less-2 c = let u = found (c .before .before .before .before .before) in omega (arith, u .some, u .ends)
 
 loop-again-2 : tie.Need-loop-again-2 Inv-loop μ-loop
-loop-again-2 c = (found (c .before .before .before .before .before) .ends, filled-put (c .before .before .before .before .before .before .before .before .before .before .before .before .loop .inv .1) (next-char (c .before .before .before .before .before)) (c .before .before .put-char .last .1 .0) (c .before .before .put-char .result) (c .before .before .put-char .ensures .0) (c .before .before .put-char .ensures .1))
+loop-again-2 c =
+    let l = c .before .before .before .before .before .before .before .before .before .before .before .before .loop in
+    let put-char = c .before .before .put-char in
+    (found (c .before .before .before .before .before) .ends, filled-put (l .inv .1) (next-char (c .before .before .before .before .before)) (put-char .last .1 .0) (put-char .result) (put-char .ensures .0) (put-char .ensures .1))
 
 same-length-3 : tie.Need-same-length-3 Inv-loop μ-loop
 same-length-3 c = search needs
 
 returns-3 : tie.Need-returns-3 Inv-loop μ-loop
-returns-3 c = filled-all (c .before .loop .inv .1) (ap result (from-end (byteStep (c .before .before .before .before .before .before .before .args .c)) (c .before .before .before .before .before .before .before .args .text .now) (c .before .loop .i) (omega arith)))
+returns-3 c =
+    let l = c .before .loop in
+    let a = c .before .before .before .before .before .before .before .args in
+    filled-all (l .inv .1) (ap result (from-end (byteStep (a .c)) (a .text .now) (l .i) (omega arith)))
 
 pub write-spec : {M : Type 1} → statement M
 write-spec =

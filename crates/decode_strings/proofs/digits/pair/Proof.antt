@@ -18,7 +18,9 @@ returns c = (rw (← c .before .before .digit .ensures, le-ltb _ 16 (c .if1 .tak
 
 returns-2 : tie.Need-returns-2
 unfolding pairOf
-returns-2 c = (rw (← c .before .before .before .digit .ensures, ← c .before .before .digit2 .ensures, lt-ltb _ 16 (c .before .if1 .left), le-ltb _ 16 (c .if2 .taken)), search needs)
+returns-2 c =
+    let digit = c .before .before .before .digit in
+    (rw (← digit .ensures, ← c .before .before .digit2 .ensures, lt-ltb _ 16 (c .before .if1 .left), le-ltb _ 16 (c .if2 .taken)), search needs)
 
 mul-result : tie.Need-mul-result
 mul-result c = search needs
@@ -31,7 +33,9 @@ cast-result c = search needs
 
 returns-3 : tie.Need-returns-3
 unfolding pairOf
-returns-3 c = (rw (← c .before .before .before .digit .ensures, ← c .before .before .digit2 .ensures, lt-ltb _ 16 (c .before .if1 .left), lt-ltb _ 16 (c .if2 .left)), search needs)
+returns-3 c =
+    let digit = c .before .before .before .digit in
+    (rw (← digit .ensures, ← c .before .before .digit2 .ensures, lt-ltb _ 16 (c .before .if1 .left), lt-ltb _ 16 (c .if2 .left)), search needs)
 
 pub pair-spec : {M : Type 1} → statement M
 pair-spec =

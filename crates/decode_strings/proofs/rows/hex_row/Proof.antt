@@ -15,20 +15,25 @@ is-hexed-requires : tie.Need-is-hexed-requires
 is-hexed-requires c κs = search needs
 
 packed-requires : tie.Need-packed-requires
-packed-requires c κs = (search needs, omega (arith, hexed-byte (c .before .before .before .before .args .language) (c .before .before .hex-escape .result) (sym (c .before .is-hexed .ensures) ∙ c .if1 .taken)))
+packed-requires c κs =
+    let a = c .before .before .before .before .args in
+    (search needs, omega (arith, hexed-byte (a .language) (c .before .before .hex-escape .result) (sym (c .before .is-hexed .ensures) ∙ c .if1 .taken)))
 
 returns : tie.Need-returns
 returns c =
-    let language = c .before .before .before .before .before .args .language in
-    let v = c .before .before .before .hex-escape .result in
+    let a = c .before .before .before .before .before .args in
+    let hex-escape = c .before .before .before .hex-escape in
+    let language = a .language in
+    let v = hex-escape .result in
     let e = sym (c .before .before .is-hexed .ensures) ∙ c .before .if1 .taken in
-    rw (c .packed .ensures, escape-packed 4 v (omega arith) (omega (arith, hexed-byte language v e)), c .before .before .before .hex-escape .ensures)
-    (finds-hexed language (c .before .before .before .before .before .args .rest .now) (ap (isHexed language) (sym (c .before .before .before .hex-escape .ensures)) ∙ e))
+    rw (c .packed .ensures, escape-packed 4 v (omega arith) (omega (arith, hexed-byte language v e)), hex-escape .ensures)
+    (finds-hexed language (a .rest .now) (ap (isHexed language) (sym (hex-escape .ensures)) ∙ e))
 
 returns-2 : tie.Need-returns-2
 returns-2 c =
-    let language = c .before .before .before .before .args .language in
-    finds-no-hexed language (c .before .before .before .before .args .rest .now) (ap (isHexed language) (sym (c .before .before .hex-escape .ensures)) ∙ sym (c .before .is-hexed .ensures) ∙ c .if1 .left)
+    let a = c .before .before .before .before .args in
+    let language = a .language in
+    finds-no-hexed language (a .rest .now) (ap (isHexed language) (sym (c .before .before .hex-escape .ensures)) ∙ sym (c .before .is-hexed .ensures) ∙ c .if1 .left)
 
 pub hex-row-spec : {M : Type 1} → statement M
 hex-row-spec =

@@ -24,7 +24,9 @@ returns : tie.Need-returns
 returns c = rw (c .if1 .taken) (less (c .before .args .language))
 
 returns-2 : tie.Need-returns-2
-returns-2 c = above (c .before .before .args .language) (c .before .before .args .v) (ne-eqb _ 60 (c .before .if1 .left)) (le-ltb _ 32 (c .if2 .taken))
+returns-2 c =
+    let a = c .before .before .args in
+    above (a .language) (a .v) (ne-eqb _ 60 (c .before .if1 .left)) (le-ltb _ 32 (c .if2 .taken))
 
 enum-told : tie.Need-enum-told
 enum-told c = search needs
@@ -33,10 +35,14 @@ enum-told-2 : tie.Need-enum-told-2
 enum-told-2 c = search needs
 
 returns-3 : tie.Need-returns-3
-returns-3 c = rw (c .enum-told .given .1, ne-eqb _ 60 (c .before .before .before .if1 .left), lt-ltb _ 32 (c .before .before .if2 .left))
+returns-3 c =
+    let if1 = c .before .before .before .if1 in
+    rw (c .enum-told .given .1, ne-eqb _ 60 (if1 .left), lt-ltb _ 32 (c .before .before .if2 .left))
 
 returns-4 : tie.Need-returns-4
-returns-4 c = rw (c .enum-told2 .given .1, ne-eqb _ 60 (c .before .before .before .if1 .left), lt-ltb _ 32 (c .before .before .if2 .left))
+returns-4 c =
+    let if1 = c .before .before .before .if1 in
+    rw (c .enum-told2 .given .1, ne-eqb _ 60 (if1 .left), lt-ltb _ 32 (c .before .before .if2 .left))
 
 pub is-hexed-spec : {M : Type 1} → statement M
 is-hexed-spec =

@@ -22,7 +22,9 @@ after-slash-requires : tie.Need-after-slash-requires
 after-slash-requires c κs = search needs
 
 returns-2 : tie.Need-returns-2
-returns-2 c = rw (c .before .before .enum-told .given .1) (no-separator (c .before .before .before .before .before .args .rest .now) (λ z. c .if1 .taken (c .before .after-slash .ensures ∙ z)))
+returns-2 c =
+    let a = c .before .before .before .before .before .args in
+    rw (c .before .before .enum-told .given .1) (no-separator (a .rest .now) (λ z. c .if1 .taken (c .before .after-slash .ensures ∙ z)))
 
 slice-aggregate-starts : tie.Need-slice-aggregate-starts
 slice-aggregate-starts c = search needs
@@ -34,7 +36,9 @@ packed-requires : tie.Need-packed-requires
 packed-requires c κs = search needs
 
 returns-3 : tie.Need-returns-3
-returns-3 c = rw (c .before .before .before .before .before .before .enum-told .given .1, c .packed .ensures) (finds-here lineSeparator (paragraphSeparator ∷ []) 0x2028 (sym (c .before .before .starts .ensures) ∙ c .before .if2 .taken) refl tt)
+returns-3 c =
+    let enum-told = c .before .before .before .before .before .before .enum-told in
+    rw (enum-told .given .1, c .packed .ensures) (finds-here lineSeparator (paragraphSeparator ∷ []) 0x2028 (sym (c .before .before .starts .ensures) ∙ c .before .if2 .taken) refl tt)
 
 slice-aggregate-starts-2 : tie.Need-slice-aggregate-starts-2
 slice-aggregate-starts-2 c = search needs
@@ -46,10 +50,18 @@ packed-requires-2 : tie.Need-packed-requires-2
 packed-requires-2 c κs = search needs
 
 returns-4 : tie.Need-returns-4
-returns-4 c = rw (c .before .before .before .before .before .before .before .before .before .enum-told .given .1, c .packed2 .ensures) (finds-later (sym (c .before .before .before .before .before .starts .ensures) ∙ c .before .before .before .before .if2 .left) (finds-here paragraphSeparator [] 0x2029 (sym (c .before .before .starts2 .ensures) ∙ c .before .if3 .taken) refl tt))
+returns-4 c =
+    let enum-told = c .before .before .before .before .before .before .before .before .before .enum-told in
+    let starts = c .before .before .before .before .before .starts in
+    let if2 = c .before .before .before .before .if2 in
+    rw (enum-told .given .1, c .packed2 .ensures) (finds-later (sym (starts .ensures) ∙ if2 .left) (finds-here paragraphSeparator [] 0x2029 (sym (c .before .before .starts2 .ensures) ∙ c .before .if3 .taken) refl tt))
 
 returns-5 : tie.Need-returns-5
-returns-5 c = rw (c .before .before .before .before .before .before .before .before .enum-told .given .1) (finds-later (sym (c .before .before .before .before .starts .ensures) ∙ c .before .before .before .if2 .left) (finds-later (sym (c .before .starts2 .ensures) ∙ c .if3 .left) finds-end))
+returns-5 c =
+    let enum-told = c .before .before .before .before .before .before .before .before .enum-told in
+    let starts = c .before .before .before .before .starts in
+    let if2 = c .before .before .before .if2 in
+    rw (enum-told .given .1) (finds-later (sym (starts .ensures) ∙ if2 .left) (finds-later (sym (c .before .starts2 .ensures) ∙ c .if3 .left) finds-end))
 
 pub separator-spec : {M : Type 1} → statement M
 separator-spec =

@@ -6,7 +6,10 @@ use Rattle.encode_strings.proofs.escapes.put_found.Statement.{statement
 use Rattle.encode_strings.proofs.escapes.put_found.Tie as tie
 
 shared-slice-read-b : tie.Need-shared-slice-read-b
-shared-slice-read-b c = held-some (c .before .before .before .args .found) (c .before .before .before .args .rest .now) (c .before .before .before .pre .0)
+shared-slice-read-b c =
+    let a = c .before .before .before .args in
+    let pre = c .before .before .before .pre in
+    held-some (a .found) (a .rest .now) (pre .0)
 
 enum-told : tie.Need-enum-told
 enum-told c = search needs

@@ -32,13 +32,21 @@ same-length : tie.Need-same-length
 same-length c = search needs
 
 returns : tie.Need-returns
-returns c = rw (c .before .before .before .before .before .enum-told .given .1, ← c .before .before .before .before .before .before .before .before .hex-digit .ensures .0, ← c .before .before .before .before .before .before .before .hex-digit2 .ensures .0) (c .before .before .put .ensures)
+returns c =
+    let enum-told = c .before .before .before .before .before .enum-told in
+    let hex-digit = c .before .before .before .before .before .before .before .before .hex-digit in
+    let hex-digit2 = c .before .before .before .before .before .before .before .hex-digit2 in
+    rw (enum-told .given .1, ← hex-digit .ensures .0, ← hex-digit2 .ensures .0) (c .before .before .put .ensures)
 
 same-length-2 : tie.Need-same-length-2
 same-length-2 c = search needs
 
 returns-2 : tie.Need-returns-2
-returns-2 c = rw (c .before .before .before .before .before .enum-told2 .given .1, ← c .before .before .before .before .before .before .before .before .hex-digit .ensures .0, ← c .before .before .before .before .before .before .before .hex-digit2 .ensures .0) (c .before .before .put2 .ensures)
+returns-2 c =
+    let enum-told2 = c .before .before .before .before .before .enum-told2 in
+    let hex-digit = c .before .before .before .before .before .before .before .before .hex-digit in
+    let hex-digit2 = c .before .before .before .before .before .before .before .hex-digit2 in
+    rw (enum-told2 .given .1, ← hex-digit .ensures .0, ← hex-digit2 .ensures .0) (c .before .before .put2 .ensures)
 
 pub put-hex-spec : {M : Type 1} → statement M
 put-hex-spec =

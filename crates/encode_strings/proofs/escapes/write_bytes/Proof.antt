@@ -26,20 +26,39 @@ abbrev μ-loop : tie.MeasureT-loop
 μ-loop language quotes flags text output₀ at₀ i₀ output at i = length text - i
 
 -- What is found at a place.
-kind : (c : tie.After-found Inv-loop μ-loop) → FoundAt (c .before .before .before .before .before .before .before .before .args .language) (c .before .before .before .before .before .before .before .before .args .quotes) (c .before .before .before .before .before .before .before .before .args .text .now) (c .before .before .before .before .before .loop .i) (By (c .found .given .0 .0))
+kind : (c : tie.After-found Inv-loop μ-loop)
+    → let a = c .before .before .before .before .before .before .before .before .args in
+    let l = c .before .before .before .before .before .loop in
+    FoundAt (a .language) (a .quotes) (a .text .now) (l .i) (By (c .found .given .0 .0))
 kind c = rw (c .found .given .1) at (c .before .before .escape .ensures)
 
-next : (c : tie.After-found Inv-loop μ-loop) (n : ℕ) → n ≡ takenBy (c .found .given .0 .0)
-    → Next (encodeOf (stringOf (c .before .before .before .before .before .before .before .before .args .language) (c .before .before .before .before .before .before .before .before .args .quotes)) (drop (c .before .before .before .before .before .loop .i) (c .before .before .before .before .before .before .before .before .args .text .now))) (gives (replacementMove (c .before .before .before .before .before .before .before .before .args .language) (take (length (c .before .before .before .before .before .before .before .before .args .text .now) - c .before .before .before .before .before .loop .i) (drop (c .before .before .before .before .before .loop .i) (c .before .before .before .before .before .before .before .before .args .text .now))) (c .found .given .0 .0))) (encodeOf (stringOf (c .before .before .before .before .before .before .before .before .args .language) (c .before .before .before .before .before .before .before .before .args .quotes)) (drop (c .before .before .before .before .before .loop .i + n) (c .before .before .before .before .before .before .before .before .args .text .now)))
-next c = next-found (c .before .before .before .before .before .before .before .before .args .language) (c .before .before .before .before .before .before .before .before .args .quotes) (c .before .before .before .before .before .before .before .before .args .text .now) (c .before .before .before .before .before .loop .i) (c .before .before .before .before .loop-test .taken) (c .found .given .0 .0) (kind c .0) (kind c .1)
+next : (c : tie.After-found Inv-loop μ-loop)
+    → let a = c .before .before .before .before .before .before .before .before .args in
+    let l = c .before .before .before .before .before .loop in
+    (n : ℕ) → n ≡ takenBy (c .found .given .0 .0)
+    → Next (encodeOf (stringOf (a .language) (a .quotes)) (drop (l .i) (a .text .now))) (gives (replacementMove (a .language) (take (length (a .text .now) - l .i) (drop (l .i) (a .text .now))) (c .found .given .0 .0))) (encodeOf (stringOf (a .language) (a .quotes)) (drop (l .i + n) (a .text .now)))
+next c =
+    let a = c .before .before .before .before .before .before .before .before .args in
+    let l = c .before .before .before .before .before .loop in
+    let loop-test = c .before .before .before .before .loop-test in
+    next-found (a .language) (a .quotes) (a .text .now) (l .i) (loop-test .taken) (c .found .given .0 .0) (kind c .0) (kind c .1)
 
-ends : (c : tie.After-found Inv-loop μ-loop) → takenBy (c .found .given .0 .0) ≤ length (c .before .before .before .before .before .before .before .before .args .text .now) - c .before .before .before .before .before .loop .i
+ends : (c : tie.After-found Inv-loop μ-loop)
+    → let a = c .before .before .before .before .before .before .before .before .args in
+    let l = c .before .before .before .before .before .loop in
+    takenBy (c .found .given .0 .0) ≤ length (a .text .now) - l .i
 ends c = rw (lent-rest, length-drop) at (held-within (c .found .given .0 .0) _ (kind c .1))
 
-byte : (c : tie.After-enum-told Inv-loop μ-loop) → Next (encodeOf (stringOf (c .before .before .before .before .before .before .before .before .args .language) (c .before .before .before .before .before .before .before .before .args .quotes)) (drop (c .before .before .before .before .before .loop .i) (c .before .before .before .before .before .before .before .before .args .text .now))) (getD (c .before .before .before .before .before .before .before .before .args .text .now) (c .before .before .before .before .before .loop .i) 0 ∷ []) (encodeOf (stringOf (c .before .before .before .before .before .before .before .before .args .language) (c .before .before .before .before .before .before .before .before .args .quotes)) (drop (c .before .before .before .before .before .loop .i + 1) (c .before .before .before .before .before .before .before .before .args .text .now)))
+byte : (c : tie.After-enum-told Inv-loop μ-loop)
+    → let a = c .before .before .before .before .before .before .before .before .args in
+    let l = c .before .before .before .before .before .loop in
+    Next (encodeOf (stringOf (a .language) (a .quotes)) (drop (l .i) (a .text .now))) (getD (a .text .now) (l .i) 0 ∷ []) (encodeOf (stringOf (a .language) (a .quotes)) (drop (l .i + 1) (a .text .now)))
 byte c =
-    let f : FoundAt (c .before .before .before .before .before .before .before .before .args .language) (c .before .before .before .before .before .before .before .before .args .quotes) (c .before .before .before .before .before .before .before .before .args .text .now) (c .before .before .before .before .before .loop .i) Nothing = rw (c .enum-told .given .1) at (c .before .before .escape .ensures) in
-    next-byte (c .before .before .before .before .before .before .before .before .args .language) (c .before .before .before .before .before .before .before .before .args .quotes) (c .before .before .before .before .before .before .before .before .args .text .now) (c .before .before .before .before .before .loop .i) (c .before .before .before .before .loop-test .taken) (f .0)
+    let a = c .before .before .before .before .before .before .before .before .args in
+    let l = c .before .before .before .before .before .loop in
+    let loop-test = c .before .before .before .before .loop-test in
+    let f : FoundAt (a .language) (a .quotes) (a .text .now) (l .i) Nothing = rw (c .enum-told .given .1) at (c .before .before .escape .ensures) in
+    next-byte (a .language) (a .quotes) (a .text .now) (l .i) (loop-test .taken) (f .0)
 
 loop-holds : tie.Need-loop-holds Inv-loop μ-loop
 loop-holds c = (search needs, filled-start _ _ (c .before .before .pre .1))
@@ -81,7 +100,8 @@ put-requires : tie.Need-put-requires Inv-loop μ-loop
 put-requires c κs = filled-room (c .before .before .before .before .before .before .before .before .loop .inv .1) (byte (c .before .before .before))
 
 add-at : tie.Need-add-at Inv-loop μ-loop
-add-at c = omega (arith, c .before .before .put .ensures .0, filled-next (c .before .before .before .before .before .before .before .before .before .before .before .loop .inv .1) (byte (c .before .before .before .before .before .before)))
+add-at c =
+    omega (arith, c .before .before .put .ensures .0, filled-next (c .before .before .before .before .before .before .before .before .before .before .before .loop .inv .1) (byte (c .before .before .before .before .before .before)))
 
 add-i : tie.Need-add-i Inv-loop μ-loop
 add-i c = search needs
@@ -90,7 +110,10 @@ loop-less : tie.Need-loop-less Inv-loop μ-loop
 loop-less c = search needs
 
 loop-again : tie.Need-loop-again Inv-loop μ-loop
-loop-again c = (search needs, filled-put (c .before .before .before .before .before .before .before .before .before .before .before .loop .inv .1) (byte (c .before .before .before .before .before .before)) (c .before .before .put .last .1 .0) (c .before .before .put .result) (c .before .before .put .ensures .0) (c .before .before .put .ensures .1))
+loop-again c =
+    let l = c .before .before .before .before .before .before .before .before .before .before .before .loop in
+    let put = c .before .before .put in
+    (search needs, filled-put (l .inv .1) (byte (c .before .before .before .before .before .before)) (put .last .1 .0) (put .result) (put .ensures .0) (put .ensures .1))
 
 sub-put-found : tie.Need-sub-put-found Inv-loop μ-loop
 sub-put-found c = search needs
@@ -111,10 +134,12 @@ part-put-found-end-2 : tie.Need-part-put-found-end-2 Inv-loop μ-loop
 part-put-found-end-2 c = search needs
 
 put-found-requires : tie.Need-put-found-requires Inv-loop μ-loop
-put-found-requires c κs = (kind (c .before .before .before) .1, filled-room (c .before .before .before .before .before .before .before .before .loop .inv .1) (next (c .before .before .before) _ refl))
+put-found-requires c κs =
+    (kind (c .before .before .before) .1, filled-room (c .before .before .before .before .before .before .before .before .loop .inv .1) (next (c .before .before .before) _ refl))
 
 add-at-2 : tie.Need-add-at-2 Inv-loop μ-loop
-add-at-2 c = omega (arith, c .before .before .put-found .ensures .0, filled-next (c .before .before .before .before .before .before .before .before .before .before .before .loop .inv .1) (next (c .before .before .before .before .before .before) _ refl))
+add-at-2 c =
+    omega (arith, c .before .before .put-found .ensures .0, filled-next (c .before .before .before .before .before .before .before .before .before .before .before .loop .inv .1) (next (c .before .before .before .before .before .before) _ refl))
 
 taken-requires : tie.Need-taken-requires Inv-loop μ-loop
 taken-requires c κs = search needs
@@ -126,14 +151,19 @@ loop-less-2 : tie.Need-loop-less-2 Inv-loop μ-loop
 loop-less-2 c = omega (arith, c .taken .ensures .1)
 
 loop-again-2 : tie.Need-loop-again-2 Inv-loop μ-loop
-loop-again-2 c = (omega (arith, c .taken .ensures .0, ends (c .before .before .before .before .before .before .before)), filled-put (c .before .before .before .before .before .before .before .before .before .before .before .before .loop .inv .1) (next (c .before .before .before .before .before .before .before) (c .taken .result) (c .taken .ensures .0)) (c .before .before .before .put-found .last .1 .1 .1 .0) (c .before .before .before .put-found .result) (c .before .before .before .put-found .ensures .0) (c .before .before .before .put-found .ensures .1))
+loop-again-2 c =
+    let l = c .before .before .before .before .before .before .before .before .before .before .before .before .loop in
+    let put-found = c .before .before .before .put-found in
+    (omega (arith, c .taken .ensures .0, ends (c .before .before .before .before .before .before .before)), filled-put (l .inv .1) (next (c .before .before .before .before .before .before .before) (c .taken .result) (c .taken .ensures .0)) (put-found .last .1 .1 .1 .0) (put-found .result) (put-found .ensures .0) (put-found .ensures .1))
 
 same-length : tie.Need-same-length Inv-loop μ-loop
 same-length c = search needs
 
 returns : tie.Need-returns Inv-loop μ-loop
 returns c =
-    let f = rw (encode-end (stringOf (c .before .before .before .before .args .language) (c .before .before .before .before .args .quotes)) (c .before .before .before .before .args .text .now) (c .before .loop .i) (c .loop-test .left)) at (c .before .loop .inv .1) in
+    let a = c .before .before .before .before .args in
+    let l = c .before .loop in
+    let f = rw (encode-end (stringOf (a .language) (a .quotes)) (a .text .now) (l .i) (c .loop-test .left)) at (l .inv .1) in
     (omega (arith, f .sum), filled-end f)
 
 pub write-bytes-spec : {M : Type 1} → statement M

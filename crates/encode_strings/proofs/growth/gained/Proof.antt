@@ -24,9 +24,14 @@ cast-growth c = search needs
 
 returns : tie.Need-returns
 returns c =
-    let e = rw (c .before .before .before .before .before .before .before .single-key .ensures, c .before .before .before .before .before .before .double-key .ensures) at (c .before .before .before .weigh .ensures .0) in
-    let z = lead-free (c .before .before .before .before .before .before .before .before .before .args .part .now) (sym (c .before .before .before .weigh .ensures .1) ∙ c .if1 .taken) in
-    let g = gained-script (c .before .before .before .before .before .before .before .before .before .args .language) (c .before .before .before .before .before .before .before .before .before .args .quotes) (c .before .before .before .before .before .before .before .before .before .args .part .now) (c .before .before .before .weigh .result .growth) e (c .before .before .before .before .enum-told .given .1) 0 (sym z) in
+    let single-key = c .before .before .before .before .before .before .before .single-key in
+    let double-key = c .before .before .before .before .before .before .double-key in
+    let weigh = c .before .before .before .weigh in
+    let a = c .before .before .before .before .before .before .before .before .before .args in
+    let enum-told = c .before .before .before .before .enum-told in
+    let e = rw (single-key .ensures, double-key .ensures) at (weigh .ensures .0) in
+    let z = lead-free (a .part .now) (sym (weigh .ensures .1) ∙ c .if1 .taken) in
+    let g = gained-script (a .language) (a .quotes) (a .part .now) (weigh .result .growth) e (enum-told .given .1) 0 (sym z) in
     omega arith
 
 separators-requires : tie.Need-separators-requires
@@ -46,8 +51,12 @@ weigh-requires-2 c κs = search needs
 
 sub-result : tie.Need-sub-result
 sub-result c =
-    let e = rw (c .before .before .before .before .before .single-key .ensures, c .before .before .before .before .double-key .ensures) at (c .before .weigh2 .ensures .0) in
-    let g = gained-style (c .before .before .before .before .before .before .before .args .language) (c .before .before .before .before .before .before .before .args .quotes) (c .before .before .before .before .before .before .before .args .part .now) (c .before .weigh2 .result .growth) e (c .before .before .enum-told2 .given .1) (c .before .weigh2 .result .odd) (c .before .weigh2 .ensures .1) in
+    let single-key = c .before .before .before .before .before .single-key in
+    let double-key = c .before .before .before .before .double-key in
+    let weigh2 = c .before .weigh2 in
+    let a = c .before .before .before .before .before .before .before .args in
+    let e = rw (single-key .ensures, double-key .ensures) at (weigh2 .ensures .0) in
+    let g = gained-style (a .language) (a .quotes) (a .part .now) (weigh2 .result .growth) e (c .before .before .enum-told2 .given .1) (weigh2 .result .odd) (weigh2 .ensures .1) in
     g .0
 
 cast-result : tie.Need-cast-result
@@ -55,13 +64,22 @@ cast-result c = search needs
 
 returns-2 : tie.Need-returns-2
 returns-2 c =
-    let e = rw (c .before .before .before .before .before .before .before .before .single-key .ensures, c .before .before .before .before .before .before .before .double-key .ensures) at (c .before .before .before .before .weigh .ensures .0) in
-    gained-script (c .before .before .before .before .before .before .before .before .before .before .args .language) (c .before .before .before .before .before .before .before .before .before .before .args .quotes) (c .before .before .before .before .before .before .before .before .before .before .args .part .now) (c .before .before .before .before .weigh .result .growth) e (c .before .before .before .before .before .enum-told .given .1) (c .separators .result) (c .separators .ensures .0)
+    let single-key = c .before .before .before .before .before .before .before .before .single-key in
+    let double-key = c .before .before .before .before .before .before .before .double-key in
+    let weigh = c .before .before .before .before .weigh in
+    let a = c .before .before .before .before .before .before .before .before .before .before .args in
+    let enum-told = c .before .before .before .before .before .enum-told in
+    let e = rw (single-key .ensures, double-key .ensures) at (weigh .ensures .0) in
+    gained-script (a .language) (a .quotes) (a .part .now) (weigh .result .growth) e (enum-told .given .1) (c .separators .result) (c .separators .ensures .0)
 
 returns-3 : tie.Need-returns-3
 returns-3 c =
-    let e = rw (c .before .before .before .before .before .single-key .ensures, c .before .before .before .before .double-key .ensures) at (c .before .weigh2 .ensures .0) in
-    let g = gained-style (c .before .before .before .before .before .before .before .args .language) (c .before .before .before .before .before .before .before .args .quotes) (c .before .before .before .before .before .before .before .args .part .now) (c .before .weigh2 .result .growth) e (c .before .before .enum-told2 .given .1) (c .before .weigh2 .result .odd) (c .before .weigh2 .ensures .1) in
+    let single-key = c .before .before .before .before .before .single-key in
+    let double-key = c .before .before .before .before .double-key in
+    let weigh2 = c .before .weigh2 in
+    let a = c .before .before .before .before .before .before .before .args in
+    let e = rw (single-key .ensures, double-key .ensures) at (weigh2 .ensures .0) in
+    let g = gained-style (a .language) (a .quotes) (a .part .now) (weigh2 .result .growth) e (c .before .before .enum-told2 .given .1) (weigh2 .result .odd) (weigh2 .ensures .1) in
     g .1
 
 pub gained-spec : {M : Type 1} → statement M

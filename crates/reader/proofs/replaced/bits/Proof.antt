@@ -19,9 +19,12 @@ sub-result c = search needs
 
 add-result : tie.Need-add-result
 add-result c =
-    let e : c .before .bit .result ≡ 2 ^ (c .before .before .args .last % 64) = c .before .bit .ensures in
-    let f : c .bit2 .result ≡ 2 ^ (c .before .before .args .first % 64) = c .bit2 .ensures in
-    omega (arith, e, f, bit-small (c .before .before .args .last) (c .before .before .fits .last .fits), bit-some (c .before .before .args .first) (c .before .before .fits .first .fits))
+    let bit = c .before .bit in
+    let a = c .before .before .args in
+    let fits = c .before .before .fits in
+    let e : bit .result ≡ 2 ^ (a .last % 64) = bit .ensures in
+    let f : c .bit2 .result ≡ 2 ^ (a .first % 64) = c .bit2 .ensures in
+    omega (arith, e, f, bit-small (a .last) (fits .last .fits), bit-some (a .first) (fits .first .fits))
 
 returns : tie.Need-returns
 returns c = search needs

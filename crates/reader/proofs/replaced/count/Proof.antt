@@ -37,7 +37,10 @@ loop-less : tie.Need-loop-less Inv-loop μ-loop
 loop-less c = search needs
 
 loop-again : tie.Need-loop-again Inv-loop μ-loop
-loop-again c = (search needs, omega (arith, c .hit .ensures .0), λ z. let w = sum-zero (c .before .before .before .loop .n) (c .hit .result) z in free-step (beginsAt (c .before .before .before .before .before .args .leads .now) (c .before .before .before .before .before .args .part .now)) 0 (c .before .before .before .loop .j) (c .before .before .before .loop .inv .2 (w .0)) (c .hit .ensures .1 (w .1)))
+loop-again c =
+    let a = c .before .before .before .before .before .args in
+    let l = c .before .before .before .loop in
+    (search needs, omega (arith, c .hit .ensures .0), λ z. let w = sum-zero (l .n) (c .hit .result) z in free-step (beginsAt (a .leads .now) (a .part .now)) 0 (l .j) (l .inv .2 (w .0)) (c .hit .ensures .1 (w .1)))
 
 returns : tie.Need-returns Inv-loop μ-loop
 returns c = λ z k h l. c .before .loop .inv .2 z k h (omega arith)

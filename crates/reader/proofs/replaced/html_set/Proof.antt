@@ -128,26 +128,47 @@ returns c = rw (c .before .before .enum-told .given .1, c .bit2 .ensures, c .bef
 
 returns-2 : tie.Need-returns-2
 unfolding inSet begins
-returns-2 c = rw (c .before .before .before .enum-told2 .given .1, c .bit5 .ensures, c .before .bit4 .ensures, c .before .before .bit3 .ensures) (leads-checked (InHtml Text) _ tt)
+returns-2 c =
+    let enum-told2 = c .before .before .before .enum-told2 in
+    rw (enum-told2 .given .1, c .bit5 .ensures, c .before .bit4 .ensures, c .before .before .bit3 .ensures) (leads-checked (InHtml Text) _ tt)
 
 returns-3 : tie.Need-returns-3
 unfolding inSet begins
-returns-3 c = rw (c .before .before .before .before .enum-told3 .given .1, c .bit9 .ensures, c .before .bit8 .ensures, c .before .before .bit7 .ensures, c .before .before .before .bit6 .ensures) (leads-checked (InHtml DoubleQuoted) _ tt)
+returns-3 c =
+    let enum-told3 = c .before .before .before .before .enum-told3 in
+    let bit6 = c .before .before .before .bit6 in
+    rw (enum-told3 .given .1, c .bit9 .ensures, c .before .bit8 .ensures, c .before .before .bit7 .ensures, bit6 .ensures) (leads-checked (InHtml DoubleQuoted) _ tt)
 
 returns-4 : tie.Need-returns-4
 unfolding inSet begins
-returns-4 c = rw (c .before .before .before .before .enum-told4 .given .1, c .bit13 .ensures, c .before .bit12 .ensures, c .before .before .bit11 .ensures, c .before .before .before .bit10 .ensures) (leads-checked (InHtml SingleQuoted) _ tt)
+returns-4 c =
+    let enum-told4 = c .before .before .before .before .enum-told4 in
+    let bit10 = c .before .before .before .bit10 in
+    rw (enum-told4 .given .1, c .bit13 .ensures, c .before .bit12 .ensures, c .before .before .bit11 .ensures, bit10 .ensures) (leads-checked (InHtml SingleQuoted) _ tt)
 
 returns-5 : tie.Need-returns-5
 unfolding inSet begins
-returns-5 c = rw (c .before .before .before .before .before .enum-told5 .given .1, c .bit18 .ensures, c .before .bit17 .ensures, c .before .before .bit16 .ensures, c .before .before .before .bit15 .ensures, c .before .before .before .before .bit14 .ensures) (leads-checked (InHtml Quoted) _ tt)
+returns-5 c =
+    let enum-told5 = c .before .before .before .before .before .enum-told5 in
+    let bit15 = c .before .before .before .bit15 in
+    let bit14 = c .before .before .before .before .bit14 in
+    rw (enum-told5 .given .1, c .bit18 .ensures, c .before .bit17 .ensures, c .before .before .bit16 .ensures, bit15 .ensures, bit14 .ensures) (leads-checked (InHtml Quoted) _ tt)
 
 returns-6 : tie.Need-returns-6
 unfolding inSet begins
-returns-6 c = rw (c .before .before .before .before .before .before .enum-told6 .given .1, c .bit24 .ensures, c .before .bit23 .ensures, c .before .before .bit22 .ensures, c .before .before .before .bit21 .ensures, c .before .before .before .before .bit20 .ensures, c .before .before .before .before .before .bit19 .ensures) (leads-checked (InHtml Safe) _ tt)
+returns-6 c =
+    let enum-told6 = c .before .before .before .before .before .before .enum-told6 in
+    let bit21 = c .before .before .before .bit21 in
+    let bit20 = c .before .before .before .before .bit20 in
+    let bit19 = c .before .before .before .before .before .bit19 in
+    rw (enum-told6 .given .1, c .bit24 .ensures, c .before .bit23 .ensures, c .before .before .bit22 .ensures, bit21 .ensures, bit20 .ensures, bit19 .ensures) (leads-checked (InHtml Safe) _ tt)
 
 returns-7 : tie.Need-returns-7
-returns-7 c = rw (c .before .before .before .before .before .enum-told7 .given .1, c .bits4 .ensures, c .before .bits3 .ensures, c .before .before .bit25 .ensures, c .before .before .before .bits2 .ensures, c .before .before .before .before .bits .ensures) unquoted
+returns-7 c =
+    let enum-told7 = c .before .before .before .before .before .enum-told7 in
+    let bits2 = c .before .before .before .bits2 in
+    let bits = c .before .before .before .before .bits in
+    rw (enum-told7 .given .1, c .bits4 .ensures, c .before .bits3 .ensures, c .before .before .bit25 .ensures, bits2 .ensures, bits .ensures) unquoted
 
 pub html-set-spec : {M : Type 1} → statement M
 html-set-spec =

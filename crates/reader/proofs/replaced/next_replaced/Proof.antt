@@ -1,12 +1,12 @@
 -- `next_replaced` meets its contract: what has been passed so far has no such byte. The measure is what is left of the text.
 -- Assumes nothing.
-use mathlib.Core.Bool.{true}
+use mathlib.Core.Bool.{true, false}
 use mathlib.Core.Path.{_≡_, sym, _∙_}
 use Prim.Native.Nat.{_+_, _-_, _≤_, _<_}
 use native.Mathlib.Omega.{arith}
 use borrow.Author.Needs.{needs}
-use lib.ListN.{length, getD, length-drop}
-use Rattle.reader.specs.Replaced.{replacedAt, isLead}
+use lib.ListN.{length, drop, getD, length-drop}
+use Rattle.reader.specs.Replaced.{replacedAt, isLead, isWhole}
 use Rattle.base.proofs.Filled.{lent-rest}
 use Rattle.base.specs.First.{Free}
 use Rattle.base.proofs.Firsts.{free-join, free-step}
@@ -39,7 +39,10 @@ is-whole-requires : tie.Need-is-whole-requires Inv-loop μ-loop
 is-whole-requires c κs = rw (lent-rest, length-drop) (search needs)
 
 returns : tie.Need-returns Inv-loop μ-loop
-returns c = record { after = c .before .before .before .before .loop .inv .0; within = c .before .before .before .before .loop .inv .1; none = c .before .before .before .before .loop .inv .2; here = λ h. whole-replaced (c .before .before .before .before .before .before .before .args .leads .now) (c .before .before .before .before .before .before .before .args .text .now) (c .before .before .before .before .loop .i) (c .before .before .before .before .loop .inv .3 h) (rw (← lent-rest (c .before .before .before .before .loop .i) (c .before .before .before .before .before .before .before .args .text .now)) (sym (c .before .is-whole .ensures) ∙ c .if1 .taken)) }
+returns c =
+    let a = c .before .before .before .before .before .before .before .args in
+    let l = c .before .before .before .before .loop in
+    record { after = l .inv .0; within = l .inv .1; none = l .inv .2; here = λ h. whole-replaced (a .leads .now) (a .text .now) (l .i) (l .inv .3 h) (rw (← lent-rest (l .i) (a .text .now)) (sym (c .before .is-whole .ensures) ∙ c .if1 .taken)) }
 
 add-find : tie.Need-add-find Inv-loop μ-loop
 add-find c = search needs
@@ -51,7 +54,18 @@ loop-less : tie.Need-loop-less Inv-loop μ-loop
 loop-less c = search needs
 
 loop-again : tie.Need-loop-again Inv-loop μ-loop
-loop-again c = (search needs, c .find2 .ensures .within, free-join (replacedAt (c .before .before .before .before .before .before .before .before .args .leads .now) (c .before .before .before .before .before .before .before .before .args .text .now)) (c .before .before .before .before .before .before .before .before .args .from) ((c .before .before .before .before .before .loop .i) + 1) (c .find2 .result) (free-step (replacedAt (c .before .before .before .before .before .before .before .before .args .leads .now) (c .before .before .before .before .before .before .before .before .args .text .now)) (c .before .before .before .before .before .before .before .before .args .from) (c .before .before .before .before .before .loop .i) (c .before .before .before .before .before .loop .inv .2) (part-plain (c .before .before .before .before .before .before .before .before .args .leads .now) (c .before .before .before .before .before .before .before .before .args .text .now) (c .before .before .before .before .before .loop .i) (rw (← lent-rest (c .before .before .before .before .before .loop .i) (c .before .before .before .before .before .before .before .before .args .text .now)) (sym (c .before .before .is-whole .ensures) ∙ c .before .if1 .left)))) (out-plain (c .before .before .before .before .before .before .before .before .args .leads .now) (c .before .before .before .before .before .before .before .before .args .text .now) ((c .before .before .before .before .before .loop .i) + 1) (c .find2 .result) (c .find2 .ensures .none)), c .find2 .ensures .here)
+loop-again c =
+    let a = c .before .before .before .before .before .before .before .before .args in
+    let l = c .before .before .before .before .before .loop in
+    let find2 = c .find2 in
+    let test = replacedAt (a .leads .now) (a .text .now) in
+    let part : isWhole (drop (l .i) (a .text .now)) ≡ false = rw (← lent-rest (l .i) (a .text .now)) (sym (c .before .before .is-whole .ensures) ∙ c .before .if1 .left) in (
+      search needs,
+      find2 .ensures .within,
+      free-join test (a .from) (l .i + 1) (find2 .result) (free-step test (a .from) (l .i) (l .inv .2) (part-plain (a .leads .now) (a .text .now) (l .i) part))
+          (out-plain (a .leads .now) (a .text .now) (l .i + 1) (find2 .result) (find2 .ensures .none)),
+      find2 .ensures .here,
+    )
 
 returns-2 : tie.Need-returns-2 Inv-loop μ-loop
 returns-2 c = record { after = c .before .loop .inv .0; within = c .before .loop .inv .1; none = c .before .loop .inv .2; here = λ h. absurd (omega arith) }

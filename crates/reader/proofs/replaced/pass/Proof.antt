@@ -43,7 +43,11 @@ loop-less : tie.Need-loop-less Inv-loop μ-loop
 loop-less c = search needs
 
 loop-again : tie.Need-loop-again Inv-loop μ-loop
-loop-again c = (search needs, search needs, free-join (beginsAt (c .before .before .before .before .before .before .before .args .leads .now) (c .before .before .before .before .before .before .before .args .text .now)) (c .before .before .before .before .before .before .before .args .from) (c .before .before .before .before .before .loop .i) (c .before .before .before .clip .result) (c .before .before .before .before .before .loop .inv .2) (out-part (c .before .before .before .before .before .before .before .args .leads .now) (c .before .before .before .before .before .before .before .args .text .now) (c .before .before .before .before .before .loop .i) (c .before .before .before .clip .result) (omega arith) (omega arith) (c .before .count .ensures (c .if1 .left))))
+loop-again c =
+    let a = c .before .before .before .before .before .before .before .args in
+    let l = c .before .before .before .before .before .loop in
+    let clip = c .before .before .before .clip in
+    (search needs, search needs, free-join (beginsAt (a .leads .now) (a .text .now)) (a .from) (l .i) (clip .result) (l .inv .2) (out-part (a .leads .now) (a .text .now) (l .i) (clip .result) (omega arith) (omega arith) (c .before .count .ensures (c .if1 .left))))
 
 returns-2 : tie.Need-returns-2 Inv-loop μ-loop
 returns-2 c = c .before .loop .inv

@@ -39,13 +39,19 @@ enum-told-3 : tie.Need-enum-told-3
 enum-told-3 c = search needs
 
 returns : tie.Need-returns
-returns c = rw (c .enum-told .given .1, c .before .before .separator-lead .ensures) (single (c .before .before .before .args .language))
+returns c =
+    let a = c .before .before .before .args in
+    rw (c .enum-told .given .1, c .before .before .separator-lead .ensures) (single (a .language))
 
 returns-2 : tie.Need-returns-2
-returns-2 c = rw (c .enum-told2 .given .1, c .before .before .separator-lead .ensures) (double (c .before .before .before .args .language))
+returns-2 c =
+    let a = c .before .before .before .args in
+    rw (c .enum-told2 .given .1, c .before .before .separator-lead .ensures) (double (a .language))
 
 returns-3 : tie.Need-returns-3
-returns-3 c = rw (c .enum-told3 .given .1, c .before .before .separator-lead .ensures) (both (c .before .before .before .args .language))
+returns-3 c =
+    let a = c .before .before .before .args in
+    rw (c .enum-told3 .given .1, c .before .before .separator-lead .ensures) (both (a .language))
 
 pub string-leads-spec : {M : Type 1} → statement M
 string-leads-spec =

@@ -79,13 +79,29 @@ bit-requires-10 : tie.Need-bit-requires-10
 bit-requires-10 c κs = search needs
 
 returns : tie.Need-returns
-returns c = rw (c .before .before .before .before .enum-told .given .1, c .before .before .before .before .before .before .separator-word .ensures, c .bit3 .ensures, c .before .bit2 .ensures, c .before .before .bit .ensures, c .before .before .before .bits .ensures) (single (c .before .before .before .before .before .before .before .args .language))
+returns c =
+    let enum-told = c .before .before .before .before .enum-told in
+    let separator-word = c .before .before .before .before .before .before .separator-word in
+    let bits = c .before .before .before .bits in
+    let a = c .before .before .before .before .before .before .before .args in
+    rw (enum-told .given .1, separator-word .ensures, c .bit3 .ensures, c .before .bit2 .ensures, c .before .before .bit .ensures, bits .ensures) (single (a .language))
 
 returns-2 : tie.Need-returns-2
-returns-2 c = rw (c .before .before .before .before .enum-told2 .given .1, c .before .before .before .before .before .before .separator-word .ensures, c .bit6 .ensures, c .before .bit5 .ensures, c .before .before .bit4 .ensures, c .before .before .before .bits2 .ensures) (double (c .before .before .before .before .before .before .before .args .language))
+returns-2 c =
+    let enum-told2 = c .before .before .before .before .enum-told2 in
+    let separator-word = c .before .before .before .before .before .before .separator-word in
+    let bits2 = c .before .before .before .bits2 in
+    let a = c .before .before .before .before .before .before .before .args in
+    rw (enum-told2 .given .1, separator-word .ensures, c .bit6 .ensures, c .before .bit5 .ensures, c .before .before .bit4 .ensures, bits2 .ensures) (double (a .language))
 
 returns-3 : tie.Need-returns-3
-returns-3 c = rw (c .before .before .before .before .before .enum-told3 .given .1, c .before .before .before .before .before .before .before .separator-word .ensures, c .bit10 .ensures, c .before .bit9 .ensures, c .before .before .bit8 .ensures, c .before .before .before .bit7 .ensures, c .before .before .before .before .bits3 .ensures) (both (c .before .before .before .before .before .before .before .before .args .language))
+returns-3 c =
+    let enum-told3 = c .before .before .before .before .before .enum-told3 in
+    let separator-word = c .before .before .before .before .before .before .before .separator-word in
+    let bit7 = c .before .before .before .bit7 in
+    let bits3 = c .before .before .before .before .bits3 in
+    let a = c .before .before .before .before .before .before .before .before .args in
+    rw (enum-told3 .given .1, separator-word .ensures, c .bit10 .ensures, c .before .bit9 .ensures, c .before .before .bit8 .ensures, bit7 .ensures, bits3 .ensures) (both (a .language))
 
 pub string-set-spec : {M : Type 1} → statement M
 string-set-spec =

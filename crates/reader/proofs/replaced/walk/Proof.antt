@@ -37,7 +37,10 @@ loop-less : tie.Need-loop-less Inv-loop μ-loop
 loop-less c = search needs
 
 loop-again : tie.Need-loop-again Inv-loop μ-loop
-loop-again c = (search needs, search needs, free-step (memberAt (c .before .before .before .before .before .before .args .set .now) (c .before .before .before .before .before .before .args .text .now)) (c .before .before .before .before .before .before .args .from) (c .before .before .before .before .loop .i) (c .before .before .before .before .loop .inv .2) (sym (c .before .is-in .ensures) ∙ c .if1 .left))
+loop-again c =
+    let a = c .before .before .before .before .before .before .args in
+    let l = c .before .before .before .before .loop in
+    (search needs, search needs, free-step (memberAt (a .set .now) (a .text .now)) (a .from) (l .i) (l .inv .2) (sym (c .before .is-in .ensures) ∙ c .if1 .left))
 
 returns-2 : tie.Need-returns-2 Inv-loop μ-loop
 returns-2 c =

@@ -32,10 +32,14 @@ pair-requires : tie.Need-pair-requires
 pair-requires c κs = search needs
 
 returns-2 : tie.Need-returns-2
-returns-2 c = (c .pair .ensures .0 ∙ sym (before-long (c .before .before .before .before .before .before .before .before .before .args .after .now) (c .before .before .before .before .before .before .before .before .before .args .rest .now) (c .before .before .before .before .before .before .if1 .left) ∙ rw (← lent-rest 2 (c .before .before .before .before .before .before .before .before .before .args .rest .now), ← c .before .before .before .before .starts .ensures, c .before .before .before .if2 .taken)), c .pair .ensures .1)
+returns-2 c =
+    let a = c .before .before .before .before .before .before .before .before .before .args in
+    (c .pair .ensures .0 ∙ sym (before-long (a .after .now) (a .rest .now) (c .before .before .before .before .before .before .if1 .left) ∙ rw (← lent-rest 2 (a .rest .now), ← c .before .before .before .before .starts .ensures, c .before .before .before .if2 .taken)), c .pair .ensures .1)
 
 returns-3 : tie.Need-returns-3
-returns-3 c = (sym (before-long (c .before .before .before .before .before .before .args .after .now) (c .before .before .before .before .before .before .args .rest .now) (c .before .before .before .if1 .left) ∙ rw (← lent-rest 2 (c .before .before .before .before .before .before .args .rest .now), ← c .before .starts .ensures, c .if2 .left)), search needs)
+returns-3 c =
+    let a = c .before .before .before .before .before .before .args in
+    (sym (before-long (a .after .now) (a .rest .now) (c .before .before .before .if1 .left) ∙ rw (← lent-rest 2 (a .rest .now), ← c .before .starts .ensures, c .if2 .left)), search needs)
 
 pub hex-before-spec : {M : Type 1} → statement M
 hex-before-spec =

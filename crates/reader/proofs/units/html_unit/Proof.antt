@@ -27,10 +27,18 @@ is-in-requires : tie.Need-is-in-requires
 is-in-requires c κs = search needs
 
 returns : tie.Need-returns
-returns c = html-kept (c .before .before .before .before .before .args .h) (drop (c .before .before .before .before .before .args .at) (c .before .before .before .before .before .args .text .now)) (c .before .before .before .before .before .args .set .now) (c .before .before .before .before .before .pre .0) (c .before .before .reference .result) (c .before .before .reference .ensures .1) (sym (c .before .is-in .ensures) ∙ c .if1 .taken) (rw lent-rest at (c .before .before .reference .ensures .0))
+returns c =
+    let a = c .before .before .before .before .before .args in
+    let pre = c .before .before .before .before .before .pre in
+    let reference = c .before .before .reference in
+    html-kept (a .h) (drop (a .at) (a .text .now)) (a .set .now) (pre .0) (reference .result) (reference .ensures .1) (sym (c .before .is-in .ensures) ∙ c .if1 .taken) (rw lent-rest at (reference .ensures .0))
 
 returns-2 : tie.Need-returns-2
-returns-2 c = html-dropped (c .before .before .before .before .before .args .h) (drop (c .before .before .before .before .before .args .at) (c .before .before .before .before .before .args .text .now)) (c .before .before .before .before .before .args .set .now) (c .before .before .before .before .before .pre .0) (c .before .before .reference .result) (c .before .before .reference .ensures .1) (sym (c .before .is-in .ensures) ∙ c .if1 .left) (rw lent-rest at (c .before .before .reference .ensures .0))
+returns-2 c =
+    let a = c .before .before .before .before .before .args in
+    let pre = c .before .before .before .before .before .pre in
+    let reference = c .before .before .reference in
+    html-dropped (a .h) (drop (a .at) (a .text .now)) (a .set .now) (pre .0) (reference .result) (reference .ensures .1) (sym (c .before .is-in .ensures) ∙ c .if1 .left) (rw lent-rest at (reference .ensures .0))
 
 pub html-unit-spec : {M : Type 1} → statement M
 html-unit-spec =

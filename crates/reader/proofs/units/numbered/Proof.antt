@@ -24,12 +24,17 @@ packed-requires c κs = (search needs, omega (arith, other-small (c .before .bef
 
 returns : tie.Need-returns
 returns c =
-    let v = c .before .before .before .hex-between in
+    let hex-between = c .before .before .before .hex-between in
+    let a = c .before .before .before .before .before .before .before .args in
+    let v = hex-between in
     let e = sym (c .before .before .is-other .ensures) ∙ c .before .if1 .taken in
-    rw (c .packed .ensures) (finds-other (c .before .before .before .before .before .before .before .args .rest .now) (v .result) (v .ensures .0) e, omega (arith, other-small (v .result) e))
+    rw (c .packed .ensures) (finds-other (a .rest .now) (v .result) (v .ensures .0) e, omega (arith, other-small (v .result) e))
 
 returns-2 : tie.Need-returns-2
-returns-2 c = (finds-no-other (c .before .before .before .before .before .before .args .rest .now) (c .before .before .hex-between .result) (c .before .before .hex-between .ensures .0) (sym (c .before .is-other .ensures) ∙ c .if1 .left), omega arith)
+returns-2 c =
+    let a = c .before .before .before .before .before .before .args in
+    let hex-between = c .before .before .hex-between in
+    (finds-no-other (a .rest .now) (hex-between .result) (hex-between .ensures .0) (sym (c .before .is-other .ensures) ∙ c .if1 .left), omega arith)
 
 pub numbered-spec : {M : Type 1} → statement M
 numbered-spec =

@@ -23,27 +23,38 @@ packed-requires c κs = search needs
 
 returns : tie.Need-returns
 returns c =
-    let a = c .before .before .before .before .before .args in
-    rw (c .packed .ensures, escape-packed 2 (c .before .before .before .after-slash .result) (omega arith) (omega arith), c .before .before .before .after-slash .ensures)
-    (finds-slashed (a .language) (a .quotes) (a .rest .now) (ap (oneOf (slashedBytes (a .quotes))) (sym (c .before .before .before .after-slash .ensures)) ∙ sym (c .before .before .is-slashed .ensures) ∙ c .before .if1 .taken))
+    let a′ = c .before .before .before .before .before .args in
+    let after-slash = c .before .before .before .after-slash in
+    let a = a′ in
+    rw (c .packed .ensures, escape-packed 2 (after-slash .result) (omega arith) (omega arith), after-slash .ensures)
+    (finds-slashed (a .language) (a .quotes) (a .rest .now) (ap (oneOf (slashedBytes (a .quotes))) (sym (after-slash .ensures)) ∙ sym (c .before .before .is-slashed .ensures) ∙ c .before .if1 .taken))
 
 hex-row-requires : tie.Need-hex-row-requires
 hex-row-requires c κs = search needs
 
 returns-2 : tie.Need-returns-2
 returns-2 c =
-    let a = c .before .before .before .before .before .before .args in
-    finds-unslashed (a .language) (a .quotes) (a .rest .now) (ap (oneOf (slashedBytes (a .quotes))) (sym (c .before .before .before .before .after-slash .ensures)) ∙ sym (c .before .before .before .is-slashed .ensures) ∙ c .before .before .if1 .left)
-    (finds-told (a .language) (a .rest .now) (c .before .hex-row .result) (c .if2 .taken) (c .before .hex-row .ensures))
+    let a′ = c .before .before .before .before .before .before .args in
+    let after-slash = c .before .before .before .before .after-slash in
+    let is-slashed = c .before .before .before .is-slashed in
+    let hex-row = c .before .hex-row in
+    let a = a′ in
+    finds-unslashed (a .language) (a .quotes) (a .rest .now) (ap (oneOf (slashedBytes (a .quotes))) (sym (after-slash .ensures)) ∙ sym (is-slashed .ensures) ∙ c .before .before .if1 .left)
+    (finds-told (a .language) (a .rest .now) (hex-row .result) (c .if2 .taken) (hex-row .ensures))
 
 separator-requires : tie.Need-separator-requires
 separator-requires c κs = search needs
 
 returns-3 : tie.Need-returns-3
 returns-3 c =
-    let a = c .before .before .before .before .before .before .before .args in
-    finds-unslashed (a .language) (a .quotes) (a .rest .now) (ap (oneOf (slashedBytes (a .quotes))) (sym (c .before .before .before .before .before .after-slash .ensures)) ∙ sym (c .before .before .before .before .is-slashed .ensures) ∙ c .before .before .before .if1 .left)
-    (finds-rest (a .language) (a .rest .now) (c .before .before .hex-row .result) (c .before .if2 .left) (c .before .before .hex-row .ensures) (c .separator .ensures))
+    let a′ = c .before .before .before .before .before .before .before .args in
+    let after-slash = c .before .before .before .before .before .after-slash in
+    let is-slashed = c .before .before .before .before .is-slashed in
+    let if1 = c .before .before .before .if1 in
+    let hex-row = c .before .before .hex-row in
+    let a = a′ in
+    finds-unslashed (a .language) (a .quotes) (a .rest .now) (ap (oneOf (slashedBytes (a .quotes))) (sym (after-slash .ensures)) ∙ sym (is-slashed .ensures) ∙ if1 .left)
+    (finds-rest (a .language) (a .rest .now) (hex-row .result) (c .before .if2 .left) (hex-row .ensures) (c .separator .ensures))
 
 pub row-at-spec : {M : Type 1} → statement M
 row-at-spec =

@@ -1,4 +1,4 @@
--- `plain::put_eight` meets its contract: eight stores one after the other leave the eight bytes over the start.
+-- `put_eight` meets its contract: eight stores one after the other leave the eight bytes over the start.
 -- Assumes nothing.
 use mathlib.Core.Path.{ap, _∙_}
 use mathlib.Core.List.{List, [], _∷_}
@@ -7,9 +7,9 @@ use lib.ListN.{getD, length-set}
 use lib.Seq.{sets-eq}
 use borrow.Author.Needs.{needs}
 use Rattle.rules.specs.Bytes.{over}
-use Rattle.plain.proofs.Eights.{eight-first}
-use Rattle.plain.proofs.put_eight.Statement.{statement}
-use Rattle.plain.proofs.put_eight.Tie as tie
+use Rattle.base.proofs.Eights.{eight-first}
+use Rattle.base.proofs.put_eight.Statement.{statement}
+use Rattle.base.proofs.put_eight.Tie as tie
 
 shared-slice-read-a : tie.Need-shared-slice-read-a
 shared-slice-read-a c = search needs

@@ -1,4 +1,4 @@
--- `plain::put_eights` meets its contract. The invariant: the text is copied up to `done`, and what lies past it is as at the start. The measure is
+-- `put_eights` meets its contract. The invariant: the text is copied up to `done`, and what lies past it is as at the start. The measure is
 -- what is left of the text.
 -- Assumes nothing.
 use borrow.Author.Needs.{needs}
@@ -6,10 +6,10 @@ use mathlib.Core.Path.{_≡_, refl, ap, _∙_}
 use Prim.Native.Nat.{_≤_, _+_, _-_}
 use native.Mathlib.Omega.{arith}
 use lib.ListN.{length, length-drop}
 use Rattle.base.proofs.Filled.{lent-rest}
-use Rattle.plain.proofs.Eights.{copied, copied-length, copied-whole, copied-put}
-use Rattle.plain.proofs.put_eights.Statement.{statement}
-use Rattle.plain.proofs.put_eights.Tie as tie
+use Rattle.base.proofs.Eights.{copied, copied-length, copied-whole, copied-put}
+use Rattle.base.proofs.put_eights.Statement.{statement}
+use Rattle.base.proofs.put_eights.Tie as tie
 
 abbrev Inv-loop : tie.InvT-loop
 Inv-loop text output₀ last done₀ output done =
@@ -24,8 +24,8 @@ sub-last c = search needs
 loop-holds : tie.Need-loop-holds Inv-loop μ-loop
 loop-holds c = (omega arith, search needs, refl, search needs, refl)
 
-next-requires : tie.Need-next-requires Inv-loop μ-loop
-next-requires c κs = search needs
+min-requires : tie.Need-min-requires Inv-loop μ-loop
+min-requires c κs = search needs
 
 sub-put-eight : tie.Need-sub-put-eight Inv-loop μ-loop
 sub-put-eight c = search needs
@@ -47,20 +47,20 @@ part-put-eight-end-2 c = search needs
 
 put-eight-requires : tie.Need-put-eight-requires Inv-loop μ-loop
 put-eight-requires c κs =
-    let n = c .before .before .next .ensures .1 in
+    let n = c .before .before .min .ensures .1 in
     (rw (lent-rest, length-drop) (omega (arith, n)), rw (lent-rest, length-drop) (omega (arith, n)))
 
 add-done : tie.Need-add-done Inv-loop μ-loop
 add-done c = search needs
 
 loop-less : tie.Need-loop-less Inv-loop μ-loop
-loop-less c = omega (arith, c .before .before .before .before .before .next .ensures .2 8 (omega arith) (omega arith))
+loop-less c = omega (arith, c .before .before .before .before .before .min .ensures .2 8 (omega arith) (omega arith))
 
 loop-again : tie.Need-loop-again Inv-loop μ-loop
 loop-again c =
     let a = c .before .before .before .before .before .before .before .before .before .before .args in
     let l = c .before .before .before .before .before .before .before .loop in
-    let n = c .before .before .before .before .before .next in
+    let n = c .before .before .before .before .before .min in
     let w = c .before .before .put-eight in
     let to : n .result + 8 ≤ length (a .text .now) = omega (arith, n .ensures .1) in
     let e = copied-put (a .text .now) (a .output .now) (l .done) (n .result) (n .ensures .0) (omega (arith, n .ensures .2 8 (omega arith) (omega arith))) to (l .output) (w .last .1 .0) (l .inv .4) (w .ensures) in
@@ -84,7 +84,7 @@ put-eights-spec =
     μ-loop
     sub-last
     loop-holds
-    next-requires
+    min-requires
     sub-put-eight
     part-put-eight-start
     part-put-eight-end
