@@ -15,7 +15,8 @@ use lib.Seq.{take-add, drop-drop, drop-cons, set-split, length-take-le, getD-tak
 use Rattle.base.proofs.Part.{part-length}
 use Rattle.base.proofs.Counted.{filled-all}
 use Rattle.base.proofs.Filled.{Filled, Next, filled-start, filled-more, filled-put, filled-end, lent-rest}
-use Rattle.base.specs.Places.{Absent, Nearest, Holds, stretch}
+use Rattle.rules.specs.Bytes.{over}
+use Rattle.base.specs.Places.{Absent, Nearest, Holds, part}
 use Rattle.base.proofs.Places.{near-absent, near-part, nearest-after}
 
 -- ---- there is a first place
@@ -57,7 +58,7 @@ copied-start s byte out h = record {
 
 module _ {s : List ℕ} {byte : ℕ} {out₀ out : List ℕ} {n : ℕ} (c : Copied s byte out₀ out n) where
   -- At the first place all is written.
-  copied-all : n ≡ first byte s → Nearest s 0 byte n × (out ≡ stretch s 0 n out₀)
+  copied-all : n ≡ first byte s → Nearest s 0 byte n × (out ≡ over (part s 0 n) out₀)
   copied-all e =
       let z : n - 0 ≡ n = omega arith in
       let whole : take (first byte s) s ≡ take n s = ap (λ (k : ℕ). take k s) (sym e) in (
@@ -66,11 +67,11 @@ module _ {s : List ℕ} {byte : ℕ} {out₀ out : List ℕ} {n : ℕ} (c : Copi
       )
 
   -- That is where the byte stands,
-  pub copied-here : n < length s → getD s n 0 ≡ byte → Nearest s 0 byte n × (out ≡ stretch s 0 n out₀)
+  pub copied-here : n < length s → getD s n 0 ≡ byte → Nearest s 0 byte n × (out ≡ over (part s 0 n) out₀)
   copied-here h e = copied-all (⊎-elim (λ z. z) (λ l. absurd (near-first byte s .none n (omega arith) l e)) (eq-or-lt-of-le (c .most)))
 
   -- or the end.
-  pub copied-end : length s ≤ n → Nearest s 0 byte n × (out ≡ stretch s 0 n out₀)
+  pub copied-end : length s ≤ n → Nearest s 0 byte n × (out ≡ over (part s 0 n) out₀)
   copied-end h = copied-all (omega (arith, c .most, near-first byte s .within))
 
   module _ (h : n < length s) (f : getD s n 0 ≡ byte → ⊥) where
@@ -123,7 +124,7 @@ module _ (t : List ℕ) (a p byte : ℕ) (h : a ≤ p) (l : p ≤ length t) (non
     pub passed-room : length done ≤ length out₀
     passed-room = omega (arith, part-length t a p h l, holds (p + first byte rest) (lent-near (first byte rest) (near-first byte rest)))
 
-    module _ (out₁ : List ℕ) (n : ℕ) (e : out₁ ≡ stretch t a p out₀) (size : n ≡ length done) where
+    module _ (out₁ : List ℕ) (n : ℕ) (e : out₁ ≡ over (part t a p) out₀) (size : n ≡ length done) where
       pub passed-within : n ≤ length out₁
       passed-within = omega (arith, rw (length-append, length-drop) at (ap length e))
 
@@ -133,9 +134,9 @@ module _ (t : List ℕ) (a p byte : ℕ) (h : a ≤ p) (l : p ≤ length t) (non
           rw (lent-rest, length-drop)
           (omega (arith, rw (length-append, length-drop) at (ap length e), part-length t a p h l, holds (p + k) (lent-near k q), passed-room))
 
-      -- What was passed and then what is left is the stretch.
-      pub both : (k : ℕ) (last : List ℕ) → Nearest rest 0 byte k → last ≡ stretch rest 0 k (take (length out₁ - n) (drop n out₁))
-          → take n out₁ ++ (last ++ drop (length out₁ - n) (drop n out₁)) ≡ stretch t a (p + k) out₀
+      -- What was passed and then what is left is the part up to there.
+      pub both : (k : ℕ) (last : List ℕ) → Nearest rest 0 byte k → last ≡ over (part rest 0 k) (take (length out₁ - n) (drop n out₁))
+          → take n out₁ ++ (last ++ drop (length out₁ - n) (drop n out₁)) ≡ over (part t a (p + k)) out₀
       both k last q w =
           let near = lent-near k q in
           let sum : p + k - a ≡ p - a + k = omega arith in

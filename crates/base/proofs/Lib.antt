@@ -1,3 +1,4 @@
+pub mod Eights
 pub mod Filled
 pub mod Part
 pub mod Counted

@@ -1,16 +1,17 @@
 -- What the loops that compare a text with a pattern, item by item, need; the name of a closing tag; and the terminators by their ranges.
 -- Assumes nothing.
-use mathlib.Core.Bool.{Bool, true, false, not, _&&_, _||_, cond}
+use mathlib.Core.Bool.{Bool, true, false, _&&_, _||_, cond, and-true, and-false}
 use mathlib.Core.Path.{_≡_, refl, sym, ap, _∙_}
 use mathlib.Core.List.{List, [], _∷_, map}
 use Prim.Native.Nat.{ℕ, _+_, _-_, _≤_, _<_}
 use native.Mathlib.Numerals.{add-one}
 use borrow.Author.Tests.{eq-eqb}
-use lib.Dec.{T, eqb, eqb·suc-zero, eqb·suc-suc}
+use lib.Dec.{eqb, eqb·suc-zero, eqb·suc-suc}
 use lib.ListN.{length, drop, getD, drop-of-length-le}
 use lib.Seq.{drop-cons}
 use Rattle.rules.specs.Bytes.{fits, inside, oneOf}
 use Rattle.rules.specs.Encoding.{anyCase, terminators, closes, closesAtEnd}
+use Rattle.rules.proofs.Below.{agree, agrees}
 use Rattle.rules.proofs.EveryByte.{every-byte}
 use Rattle.base.specs.Closing.{named}
 
@@ -44,23 +45,15 @@ same-case a = go (inside (97, 122) a)
     go true = rw (eq-eqb a a refl)
     go false = rw (eq-eqb a a refl)
 
-never : (x : Bool) → false ≡ x && false
-never true = refl
-never false = refl
-
-plain : (x : Bool) → x ≡ x && true
-plain true = refl
-plain false = refl
-
 -- Named is what the rules say: a terminator follows, or the text ends where that counts.
 pub named-closes : (last : Bool) (name s : List ℕ) → named last name s ≡ (closes name s || (last && closesAtEnd name s))
-named-closes last [] [] = plain last
-named-closes last [] (b ∷ s) = go (oneOf terminators b) (never last ∙ ap (λ (x : Bool). last && x) (sym (eqb·suc-zero (length s))))
+named-closes last [] [] = sym (and-true last)
+named-closes last [] (b ∷ s) = go (oneOf terminators b) (sym (and-false last) ∙ ap (λ (x : Bool). last && x) (sym (eqb·suc-zero (length s))))
   where
     go : (x : Bool) {y : Bool} → false ≡ y → x ≡ (x && true) || y
     go true e = refl
     go false e = e
-named-closes last (a ∷ name) [] = never last
+named-closes last (a ∷ name) [] = sym (and-false last)
 named-closes last (a ∷ name) (b ∷ s) =
     ap (λ (x : Bool). oneOf (anyCase a) b && x) (named-closes last name s)
     ∙ go (oneOf (anyCase a) b) (closes name s) (fits oneOf (map anyCase name) s)
@@ -68,7 +61,7 @@ named-closes last (a ∷ name) (b ∷ s) =
   where
     go : (p x f : Bool) → (p && (x || (last && (f && eqb (length s) (length name))))) ≡ ((p && x) || (last && ((p && f) && eqb (length s) (length name))))
     go true x f = refl
-    go false x f = never last
+    go false x f = sym (and-false last)
 
 -- ---- what the loop over the name needs
 
@@ -93,19 +86,9 @@ module _ (last : Bool) (name s : List ℕ) (i : ℕ) where
 
 -- ---- terminators
 
-abbrev pub agree : Bool → Bool → Bool
-agree true y = y
-agree false y = not y
-
-pub agreed : (x y : Bool) → T (agree x y) → x ≡ y
-agreed true true t = refl
-agreed true false t = absurd t
-agreed false true t = absurd t
-agreed false false t = refl
-
 abbrev ranges : ℕ → Bool
 ranges b = eqb b 47 || (eqb b 62 || (inside (9, 13) b || inside (28, 32) b))
 
 -- `/`, `>`, a byte 9 to 13 or 28 to 32.
 pub terminator-ranges : (b : ℕ) → b < 256 → oneOf terminators b ≡ (eqb b 47 || (eqb b 62 || (inside (9, 13) b || inside (28, 32) b)))
-terminator-ranges b h = agreed (oneOf terminators b) (ranges b) (every-byte (λ (b : ℕ). agree (oneOf terminators b) (ranges b)) tt b h)
+terminator-ranges b h = agrees (oneOf terminators b) (ranges b) (every-byte (λ (b : ℕ). agree (oneOf terminators b) (ranges b)) tt b h)

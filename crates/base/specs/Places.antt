@@ -1,7 +1,7 @@
 -- Where a byte stands in a text, said place by place.
 -- Assumes nothing.
 use mathlib.Core.Path.{_≡_}
-use mathlib.Core.List.{List, _++_}
+use mathlib.Core.List.{List}
 use Prim.Native.Nat.{ℕ, _+_, _-_, _≤_, _<_}
 use lib.ListN.{length, take, drop, getD}
 
@@ -20,6 +20,6 @@ pub record Nearest (t : List ℕ) (a byte r : ℕ) : Type 0 where
 abbrev pub Holds : List ℕ → ℕ → ℕ → ℕ → Type 0
 Holds t a byte n = (r : ℕ) → Nearest t a byte r → r ≤ a + n
 
--- The bytes of the text from place a on and before e, over the start of what stood there.
-abbrev pub stretch : List ℕ → ℕ → ℕ → List ℕ → List ℕ
-stretch t a e out = take (e - a) (drop a t) ++ drop (length (take (e - a) (drop a t))) out
+-- The bytes of the text from place a on and before e.
+abbrev pub part : List ℕ → ℕ → ℕ → List ℕ
+part t a e = take (e - a) (drop a t)

@@ -1,11 +1,11 @@
-// The character writer of functions.rs: a character, by its number, as the bytes of UTF-8.
+// UTF-8 encoding of a character by its number, as in html-escape's functions.rs.
 ghost use mathlib.Core.Path.{_≡_};
 ghost use Prim.Native.Nat.{_≤_};
 ghost use lib.ListN.{length};
 ghost use Rattle.rules.specs.Bytes.{over};
 ghost use Rattle.rules.specs.Utf8.{utf8};
 
-// How many bytes the character of a number has.
+// Returns the length of a character in UTF-8.
 pub fn char_length(number: u32) -> usize
     ensures { λ r. ⌜ (r ≡ length (utf8 number)) × (r ≤ 4) ⌝ }
 {
@@ -13,7 +13,7 @@ pub fn char_length(number: u32) -> usize
     1 + crate::reaches(n, 0x80) + crate::reaches(n, 0x800) + crate::reaches(n, 0x10000)
 }
 
-// Writes the character of a number to the start of `output` and returns how many bytes it has; what lies past them keeps its values.
+// Writes a character in UTF-8 to the start of `output`, leaves the bytes after it as they were, and returns its length.
 pub fn put_char(number: u32, output: &mut [u8]) -> usize
     requires { ⌜ (number ≤ 0x10FFFF) × (length (utf8 number) ≤ length (now output)) ⌝ }
     ensures { λ r. ⌜ (r ≡ length (utf8 number)) × (now (output .exit) ≡ over (utf8 number) (now (output .entry))) ⌝ }

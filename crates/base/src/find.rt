@@ -1,13 +1,13 @@
-// The byte search of functions.rs: the next place of a byte from a place on. Sixteen bytes at a time are passed where the byte is not among
-// them, by one test that the compiler turns into vector code; only in the sixteen that have it is the place looked for.
+// The byte search of html-escape's functions.rs. Sixteen bytes at a time are skipped by one test that compiles to vector code; only the sixteen that
+// have the byte are walked.
 ghost use mathlib.Core.Bool.{false};
 ghost use mathlib.Core.Path.{_≡_};
 ghost use Prim.Native.Nat.{_+_, _≤_};
 ghost use lib.ListN.{length};
-ghost use Rattle.base.specs.Places.{Absent, Nearest, Holds, stretch};
+ghost use Rattle.rules.specs.Bytes.{over};
+ghost use Rattle.base.specs.Places.{Absent, Nearest, Holds, part};
 
-// Whether a byte is among the sixteen from a place on: false only where it is not. The loop has no way out but its end, so that the sixteen
-// are one vector.
+// Whether the byte is among the sixteen from offset `at` on. The loop has no early exit, so that the sixteen are one vector.
 fn among(text: &[u8], at: usize, byte: u8) -> bool
     requires { ⌜ at + 16 ≤ length (now text) ⌝ }
     ensures { λ r. ⌜ (r ≡ false → Absent (now (text .entry)) at (at + 16) byte) ⌝ }
@@ -21,7 +21,7 @@ fn among(text: &[u8], at: usize, byte: u8) -> bool
     hit
 }
 
-// Passes sixteen bytes at a time, up to the sixteen that have the byte, or until fewer are left.
+// Skips sixteen bytes at a time, up to the sixteen that have the byte, or until fewer are left.
 fn pass(text: &[u8], from: usize, byte: u8) -> usize
     requires { ⌜ from ≤ length (now text) ⌝ }
     ensures { λ r. ⌜ (from ≤ r) × (r ≤ length (now (text .entry))) × Absent (now (text .entry)) from r byte ⌝ }
@@ -36,7 +36,7 @@ fn pass(text: &[u8], from: usize, byte: u8) -> usize
     i
 }
 
-// The first place of a byte at or after `from`, or the text's length: byte by byte.
+// Returns the first offset of a byte from `from` on, or the text's length, byte by byte.
 fn walk(text: &[u8], from: usize, byte: u8) -> usize
     requires { ⌜ from ≤ length (now text) ⌝ }
     ensures { λ r. ⌜ Nearest (now (text .entry)) from byte r ⌝ }
@@ -51,8 +51,8 @@ fn walk(text: &[u8], from: usize, byte: u8) -> usize
     i
 }
 
-// The first place of a byte at or after `from`, or the text's length. In dense text it is often `from` itself; else sixteen at a time are
-// passed, and the sixteen that have it, or what is left where fewer remain, are gone through byte by byte.
+// Returns the first offset of a byte from `from` on, or the text's length. In dense text it is often `from` itself; else sixteen at a time are
+// skipped, and the sixteen that have it, or the last bytes, are walked.
 pub fn find_byte(text: &[u8], from: usize, byte: u8) -> usize
     requires { ⌜ from ≤ length (now text) ⌝ }
     ensures { λ r. ⌜ Nearest (now (text .entry)) from byte r ⌝ }
@@ -66,11 +66,11 @@ pub fn find_byte(text: &[u8], from: usize, byte: u8) -> usize
     walk(text, pass(text, from, byte), byte)
 }
 
-// Writes what stands before the first place of a byte in `rest`, or all of it, to the start of `output` and returns how many bytes it has; what
-// lies past them keeps its values. It looks and writes in one loop, which is the quicker way where the place is near.
+// Copies `rest` up to the first of a byte, or all of it, to the start of `output`, leaves the bytes after it as they were, and returns how many were
+// copied. It looks and copies in one loop, which is quicker if the byte is near.
 fn put_near(rest: &[u8], byte: u8, output: &mut [u8]) -> usize
     requires { ⌜ Holds (now rest) 0 byte (length (now output)) ⌝ }
-    ensures { λ r. ⌜ Nearest (now (rest .entry)) 0 byte r × (now (output .exit) ≡ stretch (now (rest .entry)) 0 r (now (output .entry))) ⌝ }
+    ensures { λ r. ⌜ Nearest (now (rest .entry)) 0 byte r × (now (output .exit) ≡ over (part (now (rest .entry)) 0 r) (now (output .entry))) ⌝ }
 {
     let mut n: usize = 0;
     while n < rest.len() {
@@ -83,11 +83,11 @@ fn put_near(rest: &[u8], byte: u8, output: &mut [u8]) -> usize
     n
 }
 
-// Writes what stands from `from` on, before the next place of a byte or the end, to the start of `output` and returns that place; what lies past
-// it in the output keeps its values. What is passed by sixteens is copied at once.
+// Copies the text from `from` on up to the next of a byte, or the end, to the start of `output`, leaves the bytes after it as they were, and returns
+// the offset of that byte. What is skipped by sixteens is copied at once.
 pub fn put_until(text: &[u8], from: usize, byte: u8, output: &mut [u8]) -> usize
     requires { ⌜ (from ≤ length (now text)) × Holds (now text) from byte (length (now output)) ⌝ }
-    ensures { λ r. ⌜ Nearest (now (text .entry)) from byte r × (now (output .exit) ≡ stretch (now (text .entry)) from r (now (output .entry))) ⌝ }
+    ensures { λ r. ⌜ Nearest (now (text .entry)) from byte r × (now (output .exit) ≡ over (part (now (text .entry)) from r) (now (output .entry))) ⌝ }
 {
     let p = pass(text, from, byte);
     let n = crate::put(&text[from..p], output);

@@ -1,10 +1,10 @@
-// What stands at the head of a text: given bytes, or the name of a closing tag with what ends it.
+// Tests of what a text starts with: given bytes, or the name of a closing tag with the byte that ends it.
 ghost use mathlib.Core.Bool.{_&&_, _||_};
 ghost use mathlib.Core.Path.{_≡_};
 ghost use Rattle.rules.specs.Bytes.{stands, oneOf};
 ghost use Rattle.rules.specs.Encoding.{anyCase, terminators, closes, closesAtEnd};
 
-// Whether the bytes of `pattern` stand at the head of `rest`.
+// Whether `rest` starts with `pattern`.
 pub fn starts(pattern: &[u8], rest: &[u8]) -> bool
     ensures { λ r. ⌜ r ≡ stands (now (pattern .entry)) (now (rest .entry)) ⌝ }
 {
@@ -21,17 +21,17 @@ pub fn starts(pattern: &[u8], rest: &[u8]) -> bool
     true
 }
 
-// Whether `b` is the byte `a`, or the other case of the lower-case letter `a`.
+// Whether `b` is the byte `a`, or the upper case of the lower-case letter `a`, which is 32 less.
 fn is_either_case(a: u8, b: u8) -> bool
     ensures { λ r. ⌜ r ≡ oneOf (anyCase a) b ⌝ }
 {
     if b == a {
         return true;
     }
-    if a < 97 {
+    if a < b'a' {
         return false;
     }
-    if 122 < a {
+    if b'z' < a {
         return false;
     }
     b == a - 32
@@ -47,14 +47,13 @@ fn is_terminator(b: u8) -> bool
     if b == b'>' {
         return true;
     }
-    if crate::is_within(9, 13, b) {
+    if crate::is_within(b'\t', b'\r', b) {
         return true;
     }
-    crate::is_within(28, 32, b)
+    crate::is_within(28, b' ', b)
 }
 
-// Whether the bytes of `name`, its letters in either case, stand at the head of `rest`, and then a terminator, or the end of the text where
-// `last` says that it counts as one.
+// Whether `rest` starts with `name`, its letters in either case, and then a terminator, or its end if `last` says that the end counts as one.
 pub fn closes_with(name: &[u8], last: bool, rest: &[u8]) -> bool
     ensures { λ r. ⌜ r ≡ (closes (now (name .entry)) (now (rest .entry)) || (last && closesAtEnd (now (name .entry)) (now (rest .entry)))) ⌝ }
 {

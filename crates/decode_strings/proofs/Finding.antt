@@ -45,9 +45,9 @@ finds-second xs ys {s} f g = record { undoes = λ other. undo-second xs ys s oth
 
 -- ---- row by row
 
--- A row whose value is no shorter than its character, which is below U+10000.
+-- A row whose value is no shorter than its character, which is at most U+10FFFF.
 abbrev shortens : Row → ℕ → Bool
-shortens e c = ltb 0 (length (value e)) && (leb (length (utf8 c)) (length (value e)) && ltb c 0x10000)
+shortens e c = ltb 0 (length (value e)) && (leb (length (utf8 c)) (length (value e)) && leb c 0x10FFFF)
 
 -- A row that stands is found.
 pub finds-here : (e : Row) (es : List Row) {s : List ℕ} (c : ℕ) → stands (value e) s ≡ true → key e ≡ utf8 c → T (shortens e c)
@@ -56,15 +56,15 @@ finds-here e es {s} c t k w =
     let (r, q) = stands-split (value e) s (subst T (sym t) tt) in
     let some-byte = ltb 0 (length (value e)) in
     let shorter = leb (length (utf8 c)) (length (value e)) in
-    let w′ = and-right some-byte (shorter && ltb c 0x10000) w in
+    let w′ = and-right some-byte (shorter && leb c 0x10FFFF) w in
     record {
       undoes = λ other. ap (λ (b : Bool). undo (elim b [ true ↦ some e | false ↦ rowAt value es s ]) other) t
           ∙ (λ i. swap (sym (ap (take (length (value e))) q ∙ take-append-seam (value e) r) i) (k i));
       within = (
-        ltb→lt 0 (length (value e)) (and-left some-byte (shorter && ltb c 0x10000) w),
+        ltb→lt 0 (length (value e)) (and-left some-byte (shorter && leb c 0x10FFFF) w),
         omega (arith, ap length q ∙ length-append (value e) r),
-        leb→le (length (utf8 c)) (length (value e)) (and-left shorter (ltb c 0x10000) w′),
-        ltb→lt c 0x10000 (and-right shorter (ltb c 0x10000) w′),
+        leb→le (length (utf8 c)) (length (value e)) (and-left shorter (leb c 0x10FFFF) w′),
+        leb→le c 0x10FFFF (and-right shorter (leb c 0x10FFFF) w′),
       );
     }
 

@@ -13,10 +13,13 @@ use Rattle.rules.specs.Bytes.{ascii, In, all, count, stands, oneOf}
 use Rattle.rules.specs.Answers.{escapeMove}
 use Rattle.rules.specs.Escapes.{afterLess, escapeBy}
 use Rattle.rules.specs.Operations.{decodeStep}
-use Rattle.rules.specs.Tables.{Row, value, slashed, rows}
+use Rattle.rules.specs.Contexts.{stringOf}
+use Rattle.rules.specs.Tables.{Row, value, slashed, hexRow, rows}
 use Rattle.rules.specs.Moves.{keep, swap, before}
 use Rattle.rules.specs.Utf8.{utf8}
 use Rattle.rules.specs.declared.Context.the-variants.{InScript, InStyle}
+use Rattle.rules.specs.declared.Language.{Language}
+use Rattle.rules.specs.declared.Language.the-variants.{Script, Style}
 use Rattle.rules.specs.declared.Quotes.{Quotes}
 use Rattle.rules.specs.declared.Quotes.the-variants.{Single, Double, Both}
 use Rattle.rules.specs.declared.Escape.{Escape}
@@ -30,7 +33,7 @@ use Rattle.base.proofs.Filled.{lent-rest}
 use Rattle.base.specs.Places.{Nearest}
 use Rattle.decode_strings.specs.Finds.{Within, Finds}
 use Rattle.decode_strings.specs.Hex.{hexBetween}
-use Rattle.decode_strings.specs.Strings.{stringOf, nameOf, slashedBytes, plainQuote, afterSlash, hexEscape, isHexed, lineSeparator, paragraphSeparator, separators, hexRow, hexedBytes, hexRows, unslashedRows, escapeOf}
+use Rattle.decode_strings.specs.Strings.{nameOf, slashedBytes, plainQuote, afterSlash, hexEscape, isHexed, lineSeparator, paragraphSeparator, separators, hexedBytes, hexRows, unslashedRows, packOf, escapeOf}
 use Rattle.decode_strings.proofs.Finding.{one-of-in, utf8-ascii, Coded, finds-byte, finds-no-byte, finds-first, finds-second, undo-second, finds-later, finds-end}
 use Rattle.decode_strings.proofs.Hex.{pair-digits, stands-between}
 use Rattle.decode_strings.proofs.Standing.{stands-take}
@@ -99,166 +102,180 @@ slashed-coded q = record { finds = λ b i r. refl; sound = slashed-sound q; keys
 
 -- ---- two hex digits
 
-hexed-small : (style : Bool) → T (all (λ (b : ℕ). ltb b 128) (hexedBytes style))
-hexed-small true = tt
-hexed-small false = tt
+hexed-small : (language : Language) → T (all (λ (b : ℕ). ltb b 128) (hexedBytes language))
+hexed-small Style = tt
+hexed-small Script = tt
 
-small-byte : (style : Bool) (b : ℕ) → In b (hexedBytes style) → b < 256
-small-byte style b i = omega (arith, ltb→lt b 128 (all-in (λ (b : ℕ). ltb b 128) (hexedBytes style) (hexed-small style) b i))
+small-byte : (language : Language) (b : ℕ) → In b (hexedBytes language) → b < 256
+small-byte language b i = omega (arith, ltb→lt b 128 (all-in (λ (b : ℕ). ltb b 128) (hexedBytes language) (hexed-small language) b i))
 
-hex-coded : (style : Bool) → Coded (hexRow style) (hexEscape style) (hexedBytes style) 3
+hex-coded : (language : Language) → Coded (hexRow language) (hexEscape language) (hexedBytes language) 3
 unfolding hexBetween
-hex-coded true = record {
-  finds = λ b i r. pair-digits b (small-byte true b i);
-  sound = λ s i. stands-between (ascii "\\") (ascii " ") s (small-byte true (hexEscape true s) i);
+hex-coded Style = record {
+  finds = λ b i r. pair-digits b (small-byte Style b i);
+  sound = λ s i. stands-between (ascii "\\") (ascii " ") s (small-byte Style (hexEscape Style s) i);
   keys = λ b. refl;
   sizes = λ b. refl;
   small = tt;
 }
-hex-coded false = record {
-  finds = λ b i r. pair-digits b (small-byte false b i);
-  sound = λ s i. stands-between (ascii "\\x") [] s (small-byte false (hexEscape false s) i);
+hex-coded Script = record {
+  finds = λ b i r. pair-digits b (small-byte Script b i);
+  sound = λ s i. stands-between (ascii "\\x") [] s (small-byte Script (hexEscape Script s) i);
   keys = λ b. refl;
   sizes = λ b. refl;
   small = tt;
 }
 
 -- What passes the test is a byte.
-pub hexed-byte : (style : Bool) (v : ℕ) → isHexed style v ≡ true → v < 256
-hexed-byte style v e = ⊎-elim (λ p. omega (arith, eqb-true v 60 p)) (λ p. omega (arith, ltb-true v 32 p)) (small (eqb v 60) (ltb v 32) (not (style && eqb v 0)) e)
+pub hexed-byte : (language : Language) (v : ℕ) → isHexed language v ≡ true → v < 256
+hexed-byte language v e = ⊎-elim (λ p. omega (arith, eqb-true v 60 p)) (λ p. omega (arith, ltb-true v 32 p)) (go language e)
   where
-    small : (p q r : Bool) → (p || (q && r)) ≡ true → (p ≡ true) ⊎ (q ≡ true)
-    small true q r e = inl refl
-    small false true r e = inr refl
-    small false false r e = inr e
+    small : (p q : Bool) → (p || q) ≡ true → (p ≡ true) ⊎ (q ≡ true)
+    small true q e = inl refl
+    small false q e = inr e
+
+    first : (q r : Bool) → (q && r) ≡ true → q ≡ true
+    first true r e = refl
+    first false r e = e
+
+    go : (language : Language) → isHexed language v ≡ true → (eqb v 60 ≡ true) ⊎ (ltb v 32 ≡ true)
+    go Script e = small (eqb v 60) (ltb v 32) e
+    go Style e = ⊎-elim (λ p. inl p) (λ p. inr (first (ltb v 32) (not (eqb v 0)) p)) (small (eqb v 60) (ltb v 32 && not (eqb v 0)) e)
 
 -- These bytes are those that pass the test.
-hexed-in : (style : Bool) (v : ℕ) → isHexed style v ≡ true → In v (hexedBytes style)
-hexed-in style v e =
-    one-of-in (hexedBytes style) v
-    (go (or-cases (not (isHexed style v)) (oneOf (hexedBytes style) v) (every-byte (λ (v : ℕ). not (isHexed style v) || oneOf (hexedBytes style) v) (ok style) v (hexed-byte style v e))))
+hexed-in : (language : Language) (v : ℕ) → isHexed language v ≡ true → In v (hexedBytes language)
+hexed-in language v e =
+    one-of-in (hexedBytes language) v
+    (go (or-cases (not (isHexed language v)) (oneOf (hexedBytes language) v) (every-byte (λ (v : ℕ). not (isHexed language v) || oneOf (hexedBytes language) v) (ok language) v (hexed-byte language v e))))
   where
-    ok : (style : Bool) → T (all (λ (v : ℕ). not (isHexed style v) || oneOf (hexedBytes style) v) (count 0 256))
-    ok true = tt
-    ok false = tt
+    ok : (language : Language) → T (all (λ (v : ℕ). not (isHexed language v) || oneOf (hexedBytes language) v) (count 0 256))
+    ok Style = tt
+    ok Script = tt
 
-    go : T (not (isHexed style v)) ⊎ T (oneOf (hexedBytes style) v) → T (oneOf (hexedBytes style) v)
-    go (inl t) = absurd (T-not (isHexed style v) t (subst T (sym e) tt))
+    go : T (not (isHexed language v)) ⊎ T (oneOf (hexedBytes language) v) → T (oneOf (hexedBytes language) v)
+    go (inl t) = absurd (T-not (isHexed language v) t (subst T (sym e) tt))
     go (inr t) = t
 
-hexed-out : (style : Bool) (v : ℕ) → isHexed style v ≡ false → In v (hexedBytes style) → ⊥
-hexed-out style v e i = subst T e (all-in (isHexed style) (hexedBytes style) (go style) v i)
+hexed-out : (language : Language) (v : ℕ) → isHexed language v ≡ false → In v (hexedBytes language) → ⊥
+hexed-out language v e i = subst T e (all-in (isHexed language) (hexedBytes language) (go language) v i)
   where
-    go : (style : Bool) → T (all (isHexed style) (hexedBytes style))
-    go true = tt
-    go false = tt
+    go : (language : Language) → T (all (isHexed language) (hexedBytes language))
+    go Style = tt
+    go Script = tt
 
 -- ---- the whole table
 
-string-rows : (style : Bool) (q : Quotes) → rows (stringOf style q) ≡ map slashed (slashedBytes q) ++ unslashedRows style
-string-rows true Single = refl
-string-rows true Double = refl
-string-rows true Both = refl
-string-rows false Single = refl
-string-rows false Double = refl
-string-rows false Both = refl
+string-rows : (language : Language) (q : Quotes) → rows (stringOf language q) ≡ map slashed (slashedBytes q) ++ unslashedRows language
+string-rows Style Single = refl
+string-rows Style Double = refl
+string-rows Style Both = refl
+string-rows Script Single = refl
+string-rows Script Double = refl
+string-rows Script Both = refl
 
 -- Two hex digits of a byte that the string writes so.
-pub finds-hexed : (style : Bool) (s : List ℕ) → isHexed style (hexEscape style s) ≡ true → Finds (hexRows style) s (Taken 4 (hexEscape style s))
-finds-hexed style s e = finds-byte (hex-coded style) s (hexed-in style (hexEscape style s) e)
+pub finds-hexed : (language : Language) (s : List ℕ) → isHexed language (hexEscape language s) ≡ true → Finds (hexRows language) s (Taken 4 (hexEscape language s))
+finds-hexed language s e = finds-byte (hex-coded language) s (hexed-in language (hexEscape language s) e)
 
 -- Where they are not, no such row stands.
-pub finds-no-hexed : (style : Bool) (s : List ℕ) → isHexed style (hexEscape style s) ≡ false → Finds (hexRows style) s Nothing
-finds-no-hexed style s e = finds-no-byte (hex-coded style) s (hexed-out style (hexEscape style s) e)
+pub finds-no-hexed : (language : Language) (s : List ℕ) → isHexed language (hexEscape language s) ≡ false → Finds (hexRows language) s Nothing
+finds-no-hexed language s e = finds-no-byte (hex-coded language) s (hexed-out language (hexEscape language s) e)
 
 -- A number that tells one in hex tells the first of all that have no backslash before their byte.
-pub finds-told : (style : Bool) (s : List ℕ) (n : ℕ) → (n ≡ 0 → ⊥) → Finds (hexRows style) s (escapeOf n) → Finds (unslashedRows style) s (escapeOf n)
-finds-told style s zero h f = absurd (h refl)
-finds-told style s (suc n) h f = finds-first (hexRows style) (separators style) f
+pub finds-told : (language : Language) (s : List ℕ) (n : ℕ) → (n ≡ 0 → ⊥) → Finds (hexRows language) s (escapeOf n) → Finds (unslashedRows language) s (escapeOf n)
+finds-told language s zero h f = absurd (h refl)
+finds-told language s (suc n) h f = finds-first (hexRows language) (separators language) f
 
 -- Where it is 0, the separators count.
-pub finds-rest : (style : Bool) (s : List ℕ) (n : ℕ) {r : Escape} → n ≡ 0 → Finds (hexRows style) s (escapeOf n) → Finds (separators style) s r → Finds (unslashedRows style) s r
-finds-rest style s n h f g = finds-second (hexRows style) (separators style) (subst (λ (n : ℕ). Finds (hexRows style) s (escapeOf n)) h f) g
+pub finds-rest : (language : Language) (s : List ℕ) (n : ℕ) {r : Escape} → n ≡ 0 → Finds (hexRows language) s (escapeOf n) → Finds (separators language) s r → Finds (unslashedRows language) s r
+finds-rest language s n h f g = finds-second (hexRows language) (separators language) (subst (λ (n : ℕ). Finds (hexRows language) s (escapeOf n)) h f) g
 
-module _ (style : Bool) (q : Quotes) (s : List ℕ) where
+module _ (language : Language) (q : Quotes) (s : List ℕ) where
   no-slashed : oneOf (slashedBytes q) (afterSlash s) ≡ false → Finds (map slashed (slashedBytes q)) s Nothing
   no-slashed e = finds-no-byte (slashed-coded q) s (λ i. subst T e (any-intro (eqb (afterSlash s)) (slashedBytes q) (afterSlash s) i (eqb-refl (afterSlash s))))
 
   -- A backslash and a byte that the string writes so.
-  pub finds-slashed : oneOf (slashedBytes q) (afterSlash s) ≡ true → Finds (rows (stringOf style q)) s (Taken 2 (afterSlash s))
-  finds-slashed e = rw (string-rows style q) (finds-first (map slashed (slashedBytes q)) (unslashedRows style) (finds-byte (slashed-coded q) s (one-of-in (slashedBytes q) (afterSlash s) (subst T (sym e) tt))))
+  pub finds-slashed : oneOf (slashedBytes q) (afterSlash s) ≡ true → Finds (rows (stringOf language q)) s (Taken 2 (afterSlash s))
+  finds-slashed e = rw (string-rows language q) (finds-first (map slashed (slashedBytes q)) (unslashedRows language) (finds-byte (slashed-coded q) s (one-of-in (slashedBytes q) (afterSlash s) (subst T (sym e) tt))))
 
   -- Where it is none, the other rows count.
-  pub finds-unslashed : {r : Escape} → oneOf (slashedBytes q) (afterSlash s) ≡ false → Finds (unslashedRows style) s r → Finds (rows (stringOf style q)) s r
-  finds-unslashed e f = rw (string-rows style q) (finds-second (map slashed (slashedBytes q)) (unslashedRows style) (no-slashed e) f)
+  pub finds-unslashed : {r : Escape} → oneOf (slashedBytes q) (afterSlash s) ≡ false → Finds (unslashedRows language) s r → Finds (rows (stringOf language q)) s r
+  finds-unslashed e f = rw (string-rows language q) (finds-second (map slashed (slashedBytes q)) (unslashedRows language) (no-slashed e) f)
 
 -- ---- decode
 
-decode-string : (style : Bool) (q : Quotes) (p : ℕ) (s : List ℕ) → decodeStep (stringOf style q) p s ≡ escapeBy (nameOf style) (rows (stringOf style q)) p s
+decode-string : (language : Language) (q : Quotes) (p : ℕ) (s : List ℕ) → decodeStep (stringOf language q) p s ≡ escapeBy (nameOf language) (rows (stringOf language q)) p s
 unfolding decodeStep
-decode-string true q p s = refl
-decode-string false q p s = refl
+decode-string Style q p s = refl
+decode-string Script q p s = refl
 
 -- A backslash and a byte that the string writes so give way to the byte.
-decode-slashed : (style : Bool) (q : Quotes) (p : ℕ) (s : List ℕ) → oneOf (slashedBytes q) (afterSlash s) ≡ true
-    → (decodeStep (stringOf style q) p s ≡ swap (take 2 s) (afterSlash s ∷ [])) × (2 ≤ length s)
-decode-slashed style q p s e =
-    let f = finds-slashed style q s e in
+decode-slashed : (language : Language) (q : Quotes) (p : ℕ) (s : List ℕ) → oneOf (slashedBytes q) (afterSlash s) ≡ true
+    → (decodeStep (stringOf language q) p s ≡ swap (take 2 s) (afterSlash s ∷ [])) × (2 ≤ length s)
+decode-slashed language q p s e =
+    let f = finds-slashed language q s e in
     let small = ltb→lt (afterSlash s) 128 (all-in (λ (b : ℕ). ltb b 128) (slashedBytes q) (slashed-small q) (afterSlash s) (one-of-in (slashedBytes q) (afterSlash s) (subst T (sym e) tt))) in
-    (decode-string style q p s ∙ f .undoes (afterLess (nameOf style) p s) ∙ ap (swap (take 2 s)) (utf8-ascii (afterSlash s) small), f .within .1)
+    (decode-string language q p s ∙ f .undoes (afterLess (nameOf language) p s) ∙ ap (swap (take 2 s)) (utf8-ascii (afterSlash s) small), f .within .1)
 
 -- Where it is none, the other rows and the rules after `<` decide.
-decode-unslashed : (style : Bool) (q : Quotes) (p : ℕ) (s : List ℕ) → oneOf (slashedBytes q) (afterSlash s) ≡ false
-    → escapeBy (nameOf style) (unslashedRows style) p s ≡ decodeStep (stringOf style q) p s
-decode-unslashed style q p s e =
+decode-unslashed : (language : Language) (q : Quotes) (p : ℕ) (s : List ℕ) → oneOf (slashedBytes q) (afterSlash s) ≡ false
+    → escapeBy (nameOf language) (unslashedRows language) p s ≡ decodeStep (stringOf language q) p s
+decode-unslashed language q p s e =
     sym
-    (decode-string style q p s
-    ∙ ap (λ (table : List Row). escapeBy (nameOf style) table p s) (string-rows style q)
-    ∙ undo-second (map slashed (slashedBytes q)) (unslashedRows style) s (afterLess (nameOf style) p s) (no-slashed style q s e))
+    (decode-string language q p s
+    ∙ ap (λ (table : List Row). escapeBy (nameOf language) table p s) (string-rows language q)
+    ∙ undo-second (map slashed (slashedBytes q)) (unslashedRows language) s (afterLess (nameOf language) p s) (no-slashed language q s e))
 
 -- A row that is found is undone.
-pub row-found : (style : Bool) (p : ℕ) (s : List ℕ) (n : ℕ) → (n ≡ 0 → ⊥) → Finds (unslashedRows style) s (escapeOf n)
-    → escapeMove s (escapeOf n) ≡ escapeBy (nameOf style) (unslashedRows style) p s
-row-found style p s zero h f = absurd (h refl)
-row-found style p s (suc n) h f = sym (f .undoes (afterLess (nameOf style) p s))
+pub row-found : (language : Language) (p : ℕ) (s : List ℕ) (n : ℕ) → (n ≡ 0 → ⊥) → Finds (unslashedRows language) s (escapeOf n)
+    → escapeMove s (escapeOf n) ≡ escapeBy (nameOf language) (unslashedRows language) p s
+row-found language p s zero h f = absurd (h refl)
+row-found language p s (suc n) h f = sym (f .undoes (afterLess (nameOf language) p s))
 
 -- Where there is none, the rules after `<` decide.
-pub row-after : (style : Bool) (p : ℕ) (s : List ℕ) → Finds (unslashedRows style) s Nothing
-    → afterLess (nameOf style) p s ≡ escapeBy (nameOf style) (unslashedRows style) p s
-row-after style p s f = sym (f .undoes (afterLess (nameOf style) p s))
+pub row-after : (language : Language) (p : ℕ) (s : List ℕ) → Finds (unslashedRows language) s Nothing
+    → afterLess (nameOf language) p s ≡ escapeBy (nameOf language) (unslashedRows language) p s
+row-after language p s f = sym (f .undoes (afterLess (nameOf language) p s))
 
 -- Between two backslashes each byte is kept.
-pub string-quiet : (style : Bool) (q : Quotes) (t : List ℕ) (i e : ℕ) → Nearest t i 92 e → Keeps (decodeStep (stringOf style q)) t i e
-string-quiet style q t i e near k h l =
-    ap (decodeStep (stringOf style q) (before t k)) (drop-next t k (omega (arith, near .within)))
-    ∙ go style (before t k) (getD t k 0) (drop (k + 1) t) (λ x. near .none k h l (eqb→eq (getD t k 0) 92 x))
+pub string-quiet : (language : Language) (q : Quotes) (t : List ℕ) (i e : ℕ) → Nearest t i 92 e → Keeps (decodeStep (stringOf language q)) t i e
+string-quiet language q t i e near k h l =
+    ap (decodeStep (stringOf language q) (before t k)) (drop-next t k (omega (arith, near .within)))
+    ∙ go language (before t k) (getD t k 0) (drop (k + 1) t) (λ x. near .none k h l (eqb→eq (getD t k 0) 92 x))
   where
-    go : (style : Bool) (p x : ℕ) (s : List ℕ) → (T (eqb x 92) → ⊥) → decodeStep (stringOf style q) p (x ∷ s) ≡ keep (x ∷ [])
-    go true = at-mark (InStyle q)
-    go false = at-mark (InScript q)
+    go : (language : Language) (p x : ℕ) (s : List ℕ) → (T (eqb x 92) → ⊥) → decodeStep (stringOf language q) p (x ∷ s) ≡ keep (x ∷ [])
+    go Style = at-mark (InStyle q)
+    go Script = at-mark (InScript q)
 
--- A byte b that the string writes with a backslash before it, at place e: the two give way to it.
-pub slashed-here : (style : Bool) (q : Quotes) (t : List ℕ) (e b : ℕ) → b ≡ afterSlash (take (length t - e) (drop e t)) → oneOf (slashedBytes q) b ≡ true
-    → (decodeStep (stringOf style q) (before t e) (drop e t) ≡ swap (take 2 (drop e t)) (b ∷ [])) × (e + 2 ≤ length t)
-slashed-here style q t e b h f =
+-- At place e a backslash and the byte b give way to the byte.
+abbrev pub SlashedAt : Language → Quotes → List ℕ → ℕ → ℕ → Type 0
+SlashedAt language q t e b = (decodeStep (stringOf language q) (before t e) (drop e t) ≡ swap (take 2 (drop e t)) (b ∷ [])) × (e + 2 ≤ length t)
+
+-- They do where the string writes b so.
+pub slashed-here : (language : Language) (q : Quotes) (t : List ℕ) (e b : ℕ) → b ≡ afterSlash (take (length t - e) (drop e t)) → oneOf (slashedBytes q) b ≡ true → SlashedAt language q t e b
+slashed-here language q t e b h f =
     let h : b ≡ afterSlash (drop e t) = rw (← lent-rest e t) h in
-    let d = decode-slashed style q (before t e) (drop e t) (ap (oneOf (slashedBytes q)) (sym h) ∙ f) in
+    let d = decode-slashed language q (before t e) (drop e t) (ap (oneOf (slashedBytes q)) (sym h) ∙ f) in
     (rw h (d .0), omega (arith, rw length-drop at (d .1)))
 
--- Where it is not so, what the reader of the others answers there, lent the rest of the text, is the move.
-pub told-here : (style : Bool) (q : Quotes) (t : List ℕ) (e b p : ℕ) (r r′ : Escape) → b ≡ afterSlash (take (length t - e) (drop e t)) → oneOf (slashedBytes q) b ≡ false
-    → p ≡ before t e → r ≡ r′
-    → (escapeMove (take (length t - e) (drop e t)) r′ ≡ escapeBy (nameOf style) (unslashedRows style) p (take (length t - e) (drop e t)))
-    × Within r′ (take (length t - e) (drop e t))
-    → (decodeStep (stringOf style q) (before t e) (drop e t) ≡ escapeMove (drop e t) r) × Within r (take (length t - e) (drop e t))
-told-here style q t e b p r r′ h f k told g =
-    let rest = take (length t - e) (drop e t) in
-    let d = decode-unslashed style q p rest (ap (oneOf (slashedBytes q)) (sym h) ∙ f) in
-    (rw (← k, ← lent-rest e t, told) (sym (g .0 ∙ d)), rw told (g .1))
+-- Where it is not so, what the reader of the others answers there, lent the rest of the text, is the move, and stays within the text.
+pub record Told (language : Language) (q : Quotes) (t : List ℕ) (e : ℕ) (r : Escape) : Type 0 where
+  pub moves : decodeStep (stringOf language q) (before t e) (drop e t) ≡ escapeMove (drop e t) r
+  pub within : Within r (drop e t)
 
--- And it stays within the text.
-pub within-rest : (t : List ℕ) (e n c : ℕ) → Within (Taken n c) (take (length t - e) (drop e t)) → (1 ≤ n) × (e + n ≤ length t) × (length (utf8 c) ≤ n) × (c < 0x10000)
-within-rest t e n c w = (w .0, omega (arith, w .0, rw (lent-rest, length-drop) at (w .1)), w .2, w .3)
+pub told-here : (language : Language) (q : Quotes) (t : List ℕ) (e b p : ℕ) (r r′ : Escape) → b ≡ afterSlash (take (length t - e) (drop e t)) → oneOf (slashedBytes q) b ≡ false
+    → p ≡ before t e
+    → (escapeMove (take (length t - e) (drop e t)) r′ ≡ escapeBy (nameOf language) (unslashedRows language) p (take (length t - e) (drop e t)))
+    × Within r′ (take (length t - e) (drop e t))
+    → r′ ≡ r → Told language q t e r
+told-here language q t e b p r r′ h f k g same =
+    let rest = take (length t - e) (drop e t) in
+    let d = decode-unslashed language q p rest (ap (oneOf (slashedBytes q)) (sym h) ∙ f) in
+    record { moves = rw (← k, ← lent-rest e t, ← same) (sym (g .0 ∙ d)); within = rw (← same, ← lent-rest e t) (g .1) }
+
+-- An escape within the rest of a text ends within the text.
+pub within-rest : (t : List ℕ) (e n c : ℕ) → Within (Taken n c) (drop e t) → (1 ≤ n) × (e + n ≤ length t) × (length (utf8 c) ≤ n) × (c ≤ 0x10FFFF)
+within-rest t e n c w = (w .0, omega (arith, w .0, rw length-drop at (w .1)), w .2, w .3)
 
 -- The byte before a place that is not the start.
 pub before-at : (t : List ℕ) (i : ℕ) → (i ≡ 0 → ⊥) → getD t (i - 1) 0 ≡ before t i
@@ -267,17 +284,17 @@ before-at t (suc i) h = let e : suc i - 1 ≡ i = omega arith in rw e
 
 -- ---- an escape as a number
 
--- A number that is not 0 tells an escape.
-pub escape-some : (n : ℕ) → (n ≡ 0 → ⊥) → escapeOf n ≡ Taken (n / 65536) (n % 65536)
+-- A number that is not 0 is one.
+pub escape-some : (n : ℕ) → (n ≡ 0 → ⊥) → escapeOf n ≡ Taken (n / 0x200000) (n % 0x200000)
 escape-some zero h = absurd (h refl)
 escape-some (suc n) h = refl
 
--- It is made of how many bytes there are and of the character.
-pub escape-told : (n v : ℕ) → 1 ≤ n → v < 65536 → escapeOf (n * 65536 + v) ≡ Taken n v
-escape-told n v h l =
-    let d : (n * 65536 + v) / 65536 ≡ n = omega arith in
-    let m : (n * 65536 + v) % 65536 ≡ v = omega arith in
-    escape-some (n * 65536 + v) (λ z. omega arith) ∙ rw (d, m)
+-- What is packed is taken apart again.
+pub escape-packed : (n v : ℕ) → 1 ≤ n → v < 0x200000 → escapeOf (packOf n v) ≡ Taken n v
+escape-packed n v h l =
+    let d : (n * 0x200000 + v) / 0x200000 ≡ n = omega arith in
+    let m : (n * 0x200000 + v) % 0x200000 ≡ v = omega arith in
+    escape-some (n * 0x200000 + v) (λ z. omega arith) ∙ rw (d, m)
 
 -- The byte after a backslash, by the first two bytes.
 pub slash-taken : (s : List ℕ) (b : ℕ) → take 2 s ≡ 0x5C ∷ b ∷ [] → afterSlash s ≡ b
@@ -289,7 +306,7 @@ slash-taken s b e = two s ∙ ap afterSlash e
     two (x ∷ y ∷ s) = refl
 
 -- Where it is not `u`, neither separator stands.
-pub no-separator : (s : List ℕ) → (afterSlash s ≡ 0x75 → ⊥) → Finds (separators false) s Nothing
+pub no-separator : (s : List ℕ) → (afterSlash s ≡ 0x75 → ⊥) → Finds (separators Script) s Nothing
 no-separator s h = finds-later (none (value lineSeparator) (omega arith) refl) (finds-later (none (value paragraphSeparator) (omega arith) refl) finds-end)
   where
     none : (v : List ℕ) → 2 ≤ length v → take 2 v ≡ 0x5C ∷ 0x75 ∷ [] → stands v s ≡ false

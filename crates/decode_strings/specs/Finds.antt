@@ -2,7 +2,7 @@
 -- Assumes nothing.
 use mathlib.Core.Path.{_≡_}
 use mathlib.Core.List.{List}
-use Prim.Native.Nat.{ℕ, _≤_, _<_}
+use Prim.Native.Nat.{ℕ, _≤_}
 use lib.ListN.{length, take}
 use Rattle.rules.specs.Moves.{Move, swap}
 use Rattle.rules.specs.Utf8.{utf8}
@@ -16,9 +16,9 @@ abbrev pub undone : List ℕ → Escape → Move → Move
 undone s (Taken n c) other = swap (take n s) (utf8 c)
 undone s Nothing other = other
 
--- It takes a byte at least, no more than there are, and no fewer than its character has, which is below U+10000.
+-- It takes a byte at least, no more than there are, and no fewer than its character has, which is at most U+10FFFF.
 abbrev pub Within : Escape → List ℕ → Type 0
-Within (Taken n c) s = (1 ≤ n) × (n ≤ length s) × (length (utf8 c) ≤ n) × (c < 0x10000)
+Within (Taken n c) s = (1 ≤ n) × (n ≤ length s) × (length (utf8 c) ≤ n) × (c ≤ 0x10FFFF)
 Within Nothing s = Unit {0}
 
 -- The answer is the table's first row whose value stands at the head of s.

@@ -1,23 +1,27 @@
 -- Two upper-case hex digits between given bytes.
 -- Assumes nothing.
-use mathlib.Core.Bool.{_&&_, cond}
+use mathlib.Core.Bool.{cond}
+use mathlib.Core.Option.{Option, none, some}
 use mathlib.Core.List.{List, [], _∷_}
-use Prim.Native.Nat.{ℕ, _+_, _-_, _*_}
+use Prim.Native.Nat.{ℕ, _+_, _*_}
 use lib.Dec.{ltb}
 use lib.ListN.{length, drop}
-use Rattle.rules.specs.Bytes.{stands, inside}
+use Rattle.rules.specs.Bytes.{stands}
+use Rattle.rules.specs.References.{hexDigitAt}
 
--- The value of a letter that is an upper-case hex digit, 16 for any other byte.
-abbrev pub letterOf : ℕ → ℕ
-letterOf b = cond (inside (65, 70) b) (b - 55) 16
+-- The value of an upper-case hex digit: a hex digit below `a`.
+unfoldable pub upperDigit : ℕ → Option ℕ
+upperDigit b = cond (ltb b 0x61) (hexDigitAt b) none
 
--- The value of an upper-case hex digit, 16 for any other byte.
-unfoldable pub digitOf : ℕ → ℕ
-digitOf b = cond (inside (48, 57) b) (b - 48) (letterOf b)
+-- The value of two digits, 256 where one is none.
+abbrev pub both : Option ℕ → Option ℕ → ℕ
+both (some x) (some y) = 16 * x + y
+both (some x) none = 256
+both none y = 256
 
--- The value of two of them, 256 where one is none.
+-- The value of two bytes that are upper-case hex digits, 256 where one is none.
 unfoldable pub pairOf : ℕ → ℕ → ℕ
-pairOf a b = cond (ltb (digitOf a) 16 && ltb (digitOf b) 16) (16 * digitOf a + digitOf b) 256
+pairOf a b = both (upperDigit a) (upperDigit b)
 
 -- The value of the two at the head of s, where q follows them; 256 otherwise.
 abbrev pub hexBefore : List ℕ → List ℕ → ℕ

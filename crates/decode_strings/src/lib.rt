@@ -1,55 +1,76 @@
-// decode of the script and style strings: the escapes of decode/element/quoted.rs.
+// decode of script and style strings: the escapes of html-escape's decode/element/quoted.rs.
+ghost use mathlib.Core.List.{_++_};
 ghost use mathlib.Core.Path.{_≡_};
 ghost use Prim.Native.Nat.{_≤_};
-ghost use lib.Dec.{eqb};
 ghost use lib.ListN.{length};
-ghost use Rattle.rules.specs.Bytes.{over};
-ghost use Rattle.rules.specs.Moves.{through, replaced, before};
-ghost use Rattle.rules.specs.Answers.{escapeMove};
+ghost use Rattle.rules.specs.Bytes.{ascii, over};
+ghost use Rattle.rules.specs.Contexts.{stringOf};
+ghost use Rattle.rules.specs.Encoding.{closes};
+ghost use Rattle.rules.specs.Moves.{through, before};
+ghost use Rattle.rules.specs.Answers.{escapeMove, Measures};
 ghost use Rattle.rules.specs.Escapes.{afterLess, escapeBy};
 ghost use Rattle.rules.specs.Operations.{decodeStep, decodeOf};
 ghost use Rattle.decode_strings.specs.Finds.{Within};
-ghost use Rattle.decode_strings.specs.Strings.{stringOf, nameOf, unslashedRows, escapeOf};
+ghost use Rattle.decode_strings.specs.Strings.{nameOf, unslashedRows, escapeOf};
 use rules::Escape;
+use rules::Language;
+use rules::Measured;
 use rules::Quotes;
 
 pub mod digits;
 pub mod rows;
 
-// One of the two escapes of older pages, where the byte before in the input is `<`, as a number that tells an escape, or 0: `\!--` yields `!` for
-// the `\!`, and `\/` yields `/` before the element's name and a terminator.
-fn after_less(style: bool, before: u8, rest: &[u8]) -> u32
-    ensures { λ r. ⌜ (escapeMove (now (rest .entry)) (escapeOf r) ≡ afterLess (nameOf style) before (now (rest .entry))) × Within (escapeOf r) (now (rest .entry)) ⌝ }
+// Whether `rest` starts with `\/`, the name of the element and a terminator.
+fn closes_element(language: Language, rest: &[u8]) -> bool
+    ensures { λ r. ⌜ r ≡ closes (ascii "\\/" ++ nameOf language) (now (rest .entry)) ⌝ }
+{
+    match language {
+        Language::Script => base::prefix::closes_with(b"\\/script", false, rest),
+        Language::Style => base::prefix::closes_with(b"\\/style", false, rest),
+    }
+}
+
+// Reads one of the two escapes of older pages, which count after a `<` in the input: `\!--` yields `!` for the `\!`, and `\/` yields `/` before the
+// element's name and a terminator. Returns it packed, 0 if there is none.
+fn after_less(language: Language, before: u8, rest: &[u8]) -> u32
+    ensures { λ r. ⌜ (escapeMove (now (rest .entry)) (escapeOf r) ≡ afterLess (nameOf language) before (now (rest .entry))) × Within (escapeOf r) (now (rest .entry)) ⌝ }
 {
     if before != b'<' {
         return 0;
     }
     if base::prefix::starts(b"\\!--", rest) {
-        return 0x20021;
+        return rows::packed(2, b'!' as u32);
     }
-    if digits::closes_element(style, rest) {
-        return 0x2002F;
+    if closes_element(language, rest) {
+        return rows::packed(2, b'/' as u32);
     }
     0
 }
 
-// The escape at the backslash that `rest` begins with, where no byte follows that is written with a backslash before it, as a number that tells an
-// escape, or 0: first match counts. `before` is the byte before it in the input.
-fn unslashed(style: bool, before: u8, rest: &[u8]) -> u32
-    ensures { λ r. ⌜ (escapeMove (now (rest .entry)) (escapeOf r) ≡ escapeBy (nameOf style) (unslashedRows style) before (now (rest .entry))) × Within (escapeOf r) (now (rest .entry)) ⌝ }
+// Reads the escape at the backslash that starts `rest`, the first kind that matches, except a backslash before a byte of `is_slashed`. Returns it
+// packed, 0 if there is none. `before` is the byte before the backslash in the input.
+fn unslashed(language: Language, before: u8, rest: &[u8]) -> u32
+    ensures { λ r. ⌜ (escapeMove (now (rest .entry)) (escapeOf r) ≡ escapeBy (nameOf language) (unslashedRows language) before (now (rest .entry))) × Within (escapeOf r) (now (rest .entry)) ⌝ }
 {
-    let hex = rows::hex_row(style, rest);
+    let hex = rows::hex_row(language, rest);
     if hex != 0 {
         return hex;
     }
-    let separator = rows::separator(style, rest);
+    let separator = rows::separator(language, rest);
     if separator != 0 {
         return separator;
     }
-    after_less(style, before, rest)
+    after_less(language, before, rest)
 }
 
-// The byte before place `i` of the text, 0 at its start.
+// Reads the same escape and returns it as an enum.
+fn read_escape(language: Language, before: u8, rest: &[u8]) -> Escape
+    ensures { λ r. ⌜ (escapeMove (now (rest .entry)) r ≡ escapeBy (nameOf language) (unslashedRows language) before (now (rest .entry))) × Within r (now (rest .entry)) ⌝ }
+{
+    rows::escape_of(unslashed(language, before, rest))
+}
+
+// Returns the byte before offset `i` of the text, 0 at its start.
 fn byte_before(text: &[u8], i: usize) -> u8
     requires { ⌜ i ≤ length (now text) ⌝ }
     ensures { λ r. ⌜ r ≡ before (now (text .entry)) i ⌝ }
@@ -60,17 +81,11 @@ fn byte_before(text: &[u8], i: usize) -> u8
     text[i - 1]
 }
 
-// What a pass finds: the length of the result, and whether nothing is replaced.
-pub struct Measured {
-    pub length: usize,
-    pub same: bool,
-}
-
-// Measures what decode makes of a text in a script or style string. What stands between two backslashes counts as it is. A backslash and a byte
-// are looked for before any other escape: that takes two bytes and no call.
-pub fn measure(style: bool, quotes: Quotes, text: &[u8]) -> Measured
+// Measures the result of decode without writing it. A backslash before a byte of `is_slashed`, the most frequent escape, is read first: that takes
+// two bytes and no call.
+pub fn measure(language: Language, quotes: Quotes, text: &[u8]) -> Measured
     requires { ⌜ length (now text) ≤ 65536 ⌝ }
-    ensures { λ r. ⌜ (r .length ≡ length (decodeOf (stringOf style quotes) (now (text .entry)))) × (r .same ≡ eqb (replaced (through (decodeStep (stringOf style quotes)) (now (text .entry)))) 0) ⌝ }
+    ensures { λ r. ⌜ Measures r (through (decodeStep (stringOf language quotes)) (now (text .entry))) ⌝ }
 {
     let mut length: usize = 0;
     let mut escapes: usize = 0;
@@ -82,15 +97,13 @@ pub fn measure(style: bool, quotes: Quotes, text: &[u8]) -> Measured
             i = e;
             continue;
         }
-        let b = rows::after_slash(&text[i..]);
-        if rows::is_slashed(quotes, b) {
+        if rows::is_slashed(quotes, rows::after_slash(&text[i..])) {
             length += 1;
             escapes += 1;
             i += 2;
             continue;
         }
-        let code = unslashed(style, byte_before(text, i), &text[i..]);
-        let Escape::Taken(n, c) = rows::escape_of(code) else {
+        let Escape::Taken(n, c) = read_escape(language, byte_before(text, i), &text[i..]) else {
             length += 1;
             i += 1;
             continue;
@@ -101,14 +114,15 @@ pub fn measure(style: bool, quotes: Quotes, text: &[u8]) -> Measured
     }
     Measured {
         length,
+        place: i,
         same: escapes == 0,
     }
 }
 
-// Writes what decode makes of a text to the start of `output`, and finds what `measure` does; what lies past it keeps its values.
-pub fn write(style: bool, quotes: Quotes, text: &[u8], output: &mut [u8]) -> Measured
-    requires { ⌜ length (decodeOf (stringOf style quotes) (now text)) ≤ length (now output) ⌝ }
-    ensures { λ r. ⌜ (r .length ≡ length (decodeOf (stringOf style quotes) (now (text .entry)))) × (r .same ≡ eqb (replaced (through (decodeStep (stringOf style quotes)) (now (text .entry)))) 0) × (now (output .exit) ≡ over (decodeOf (stringOf style quotes) (now (text .entry))) (now (output .entry))) ⌝ }
+// Writes the result of decode to the start of `output` and leaves the bytes after it as they were. Returns what `measure` does.
+pub fn write(language: Language, quotes: Quotes, text: &[u8], output: &mut [u8]) -> Measured
+    requires { ⌜ length (decodeOf (stringOf language quotes) (now text)) ≤ length (now output) ⌝ }
+    ensures { λ r. ⌜ Measures r (through (decodeStep (stringOf language quotes)) (now (text .entry))) × (now (output .exit) ≡ over (decodeOf (stringOf language quotes) (now (text .entry))) (now (output .entry))) ⌝ }
 {
     let mut at: usize = 0;
     let mut escapes: usize = 0;
@@ -127,8 +141,8 @@ pub fn write(style: bool, quotes: Quotes, text: &[u8], output: &mut [u8]) -> Mea
             i += 2;
             continue;
         }
-        let code = unslashed(style, byte_before(text, i), &text[i..]);
-        let Escape::Taken(n, c) = rows::escape_of(code) else {
+        let before = byte_before(text, i);
+        let Escape::Taken(n, c) = read_escape(language, before, &text[i..]) else {
             let past = i + 1;
             at += base::put(&text[i..past], &mut output[at..]);
             i = past;
@@ -140,6 +154,7 @@ pub fn write(style: bool, quotes: Quotes, text: &[u8], output: &mut [u8]) -> Mea
     }
     Measured {
         length: at,
+        place: i,
         same: escapes == 0,
     }
 }

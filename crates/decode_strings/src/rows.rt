@@ -1,14 +1,15 @@
-// The escapes that a script or style string writes, read from the written side.
+// The escapes that a script or style string is written with.
 ghost use mathlib.Core.Path.{_≡_};
+ghost use Prim.Native.Nat.{_<_};
 ghost use Rattle.rules.specs.Bytes.{ascii, oneOf};
-ghost use Rattle.rules.specs.Tables.{rows};
 ghost use Rattle.decode_strings.specs.Finds.{Finds};
-ghost use Rattle.decode_strings.specs.Strings.{stringOf, slashedBytes, plainQuote, afterSlash, hexEscape, isHexed, separators, hexRows, escapeOf};
+ghost use Rattle.decode_strings.specs.Strings.{slashedBytes, plainQuote, afterSlash, hexEscape, isHexed, separators, hexRows, packOf, escapeOf};
 use crate::digits;
 use rules::Escape;
+use rules::Language;
 use rules::Quotes;
 
-// Whether a byte is the backslash or a quote. As a match on constants it is one test of a set, in which no branch has to guess which of them it is.
+// Whether a byte is the backslash or a quote. A match on constants compiles to one test of a set, without a branch for each.
 fn is_mark(b: u8) -> bool
     ensures { λ r. ⌜ r ≡ oneOf (ascii "\\'\"") b ⌝ }
 {
@@ -20,7 +21,7 @@ fn is_mark(b: u8) -> bool
     }
 }
 
-// The quote that the string does not escape, 0 where it escapes both.
+// Returns the quote that the string does not escape, 0 if it escapes both.
 fn plain_quote(quotes: Quotes) -> u8
     ensures { λ r. ⌜ r ≡ plainQuote quotes ⌝ }
 {
@@ -41,7 +42,7 @@ pub fn is_slashed(quotes: Quotes, b: u8) -> bool
     is_mark(b)
 }
 
-// The byte after a backslash at the head of `rest`, 0 where there is none.
+// Returns the byte after a backslash at the start of `rest`, 0 if there is none.
 pub fn after_slash(rest: &[u8]) -> u8
     ensures { λ r. ⌜ r ≡ afterSlash (now (rest .entry)) ⌝ }
 {
@@ -54,9 +55,9 @@ pub fn after_slash(rest: &[u8]) -> u8
     0
 }
 
-// The value of the hex escape at the head of `rest`, 256 where none stands there.
-fn hex_escape(style: bool, rest: &[u8]) -> u32
-    ensures { λ r. ⌜ r ≡ hexEscape style (now (rest .entry)) ⌝ }
+// Returns the value of the hex escape at the start of `rest`, `\xHH` in a script and `\HH` with a space in a style sheet; 256 if there is none.
+fn hex_escape(language: Language, rest: &[u8]) -> u32
+    ensures { λ r. ⌜ r ≡ hexEscape language (now (rest .entry)) ⌝ }
 {
     if rest.len() < 4 {
         return 256;
@@ -64,21 +65,25 @@ fn hex_escape(style: bool, rest: &[u8]) -> u32
     if rest[0] != b'\\' {
         return 256;
     }
-    if style {
-        if rest[3] == b' ' {
-            return digits::pair(rest[1], rest[2]);
+    match language {
+        Language::Script => {
+            if rest[1] == b'x' {
+                return digits::pair(rest[2], rest[3]);
+            }
+            256
         }
-        return 256;
+        Language::Style => {
+            if rest[3] == b' ' {
+                return digits::pair(rest[1], rest[2]);
+            }
+            256
+        }
     }
-    if rest[1] == b'x' {
-        return digits::pair(rest[2], rest[3]);
-    }
-    256
 }
 
 // Whether the string writes the byte of this value as a hex escape.
-fn is_hexed(style: bool, v: u32) -> bool
-    ensures { λ r. ⌜ r ≡ isHexed style v ⌝ }
+fn is_hexed(language: Language, v: u32) -> bool
+    ensures { λ r. ⌜ r ≡ isHexed language v ⌝ }
 {
     if v == 0x3C {
         return true;
@@ -86,64 +91,57 @@ fn is_hexed(style: bool, v: u32) -> bool
     if 0x20 <= v {
         return false;
     }
-    if style {
-        return v != 0;
+    match language {
+        Language::Script => true,
+        Language::Style => v != 0,
     }
-    true
 }
 
-// The hex escape at the head of `rest`, if the string writes its byte so, as a number that tells an escape (`escape_of`); 0 where there is none.
-// Numbers pass from function to function in place of answers, which would go through memory in each turn of a loop.
-pub fn hex_row(style: bool, rest: &[u8]) -> u32
-    ensures { λ r. ⌜ Finds (hexRows style) (now (rest .entry)) (escapeOf r) ⌝ }
+// Returns an escape as one number that is not 0, by how many bytes it takes and the number of its character (`escape_of` takes it apart). Such a
+// number stays in a register where an enum would pass through memory.
+pub fn packed(taken: u32, character: u32) -> u32
+    requires { ⌜ (taken < 2048) × (character < 0x200000) ⌝ }
+    ensures { λ r. ⌜ r ≡ packOf taken character ⌝ }
 {
-    let v = hex_escape(style, rest);
-    if is_hexed(style, v) {
-        return 0x40000 + v;
-    }
-    0
+    taken * 0x200000 + character
 }
 
-// U+2028 or U+2029, as a script string writes it, at the head of `rest`, as a number that tells an escape; 0 where neither stands there.
-pub fn separator(style: bool, rest: &[u8]) -> u32
-    ensures { λ r. ⌜ Finds (separators style) (now (rest .entry)) (escapeOf r) ⌝ }
-{
-    if style {
-        return 0;
-    }
-    if after_slash(rest) != b'u' {
-        return 0;
-    }
-    if base::prefix::starts(b"\\u2028", rest) {
-        return 0x62028;
-    }
-    if base::prefix::starts(b"\\u2029", rest) {
-        return 0x62029;
-    }
-    0
-}
-
-// The escape that a number tells: its upper half is how many bytes it has, its lower half the number of its character; 0 tells of nothing.
+// Returns the escape of such a number, Nothing for 0.
 pub fn escape_of(code: u32) -> Escape
     ensures { λ r. ⌜ r ≡ escapeOf code ⌝ }
 {
     if code == 0 {
         return Escape::Nothing;
     }
-    Escape::Taken((code / 65536) as usize, code % 65536)
+    Escape::Taken((code / 0x200000) as usize, code % 0x200000)
 }
 
-// The row of the string's table whose value stands at the head of `rest`, as a number that tells an escape; 0 where none does.
-pub fn row_at(style: bool, quotes: Quotes, rest: &[u8]) -> u32
-    ensures { λ r. ⌜ Finds (rows (stringOf style quotes)) (now (rest .entry)) (escapeOf r) ⌝ }
+// Reads the hex escape at the start of `rest`, if the string writes its byte so. Returns it packed, 0 if there is none.
+pub fn hex_row(language: Language, rest: &[u8]) -> u32
+    ensures { λ r. ⌜ Finds (hexRows language) (now (rest .entry)) (escapeOf r) ⌝ }
 {
-    let b = after_slash(rest);
-    if is_slashed(quotes, b) {
-        return 0x20000 + (b as u32);
+    let v = hex_escape(language, rest);
+    if is_hexed(language, v) {
+        return packed(4, v);
     }
-    let hex = hex_row(style, rest);
-    if hex != 0 {
-        return hex;
+    0
+}
+
+// Reads `\u2028` or `\u2029` at the start of `rest`, which script strings have. Returns it packed, 0 if there is none.
+pub fn separator(language: Language, rest: &[u8]) -> u32
+    ensures { λ r. ⌜ Finds (separators language) (now (rest .entry)) (escapeOf r) ⌝ }
+{
+    let Language::Script = language else {
+        return 0;
+    };
+    if after_slash(rest) != b'u' {
+        return 0;
     }
-    separator(style, rest)
+    if base::prefix::starts(b"\\u2028", rest) {
+        return packed(6, 0x2028);
+    }
+    if base::prefix::starts(b"\\u2029", rest) {
+        return packed(6, 0x2029);
+    }
+    0
 }

@@ -21,11 +21,13 @@ use Rattle.rules.proofs.Tests.{is-false}
 use Rattle.rules.proofs.Blind.{Local, Parted, parted-result}
 use Rattle.base.proofs.Part.{part-length, part-at, parted as part-split}
 use Rattle.base.proofs.Filled.{Next}
-use Rattle.encode_strings.specs.declared.Strings.{Strings}
-use Rattle.encode_strings.specs.Strings.{contextIn, endsOf, ended, Apart}
+use Rattle.encode_strings.specs.Strings.{endsOf, ended, Apart}
 use Rattle.encode_strings.proofs.Heads.{kept, lone}
-use Rattle.encode_strings.proofs.Finds.{at, ends-are, lead-kept, separator-sizes, lead-taken, lead-style}
+use Rattle.encode_strings.proofs.Finds.{ends-are, lead-kept, separator-sizes, lead-taken, lead-style}
 use Rattle.encode_strings.proofs.Sums.{encode-blind, grows}
+use Rattle.rules.specs.Contexts.{stringOf}
+use Rattle.rules.specs.declared.Language.{Language}
+use Rattle.rules.specs.declared.Language.the-variants.{Script, Style}
 
 -- Two bytes before a place that are not E2 are all that Apart asks.
 pub two-before : (t : List ℕ) (r : ℕ) → (getD t (r - 1) 0 ≡ 0xE2 → ⊥) → (getD t (r - 2) 0 ≡ 0xE2 → ⊥) → (k : ℕ) → k < r → r ≤ k + 2 → getD t k 0 ≡ 0xE2 → ⊥
@@ -74,10 +76,10 @@ ended-clear (y ∷ []) (w ∷ b) (inr (inr f)) = absurd (f 0 (omega arith) (omeg
 
 -- ---- the moves at the places of a
 
-local-byte : (strings : Strings) (x : ℕ) (a b : List ℕ) → (x ≡ 0xE2 → ⊥) → Local (encodeStep (contextIn strings)) (x ∷ a) b
-local-byte strings x a b ne =
-    let c = contextIn strings in
-    (lone c 0 x (a ++ b) ne ∙ sym (lone c 0 x a ne), 0, ap (λ (m : Move). length (takes m)) (lone c 0 x a ne) ∙ grows strings x ne .0, omega arith)
+local-byte : (language : Language) (quotes : Quotes) (x : ℕ) (a b : List ℕ) → (x ≡ 0xE2 → ⊥) → Local (encodeStep (stringOf language quotes)) (x ∷ a) b
+local-byte language quotes x a b ne =
+    let c = stringOf language quotes in
+    (lone c 0 x (a ++ b) ne ∙ sym (lone c 0 x a ne), 0, ap (λ (m : Move). length (takes m)) (lone c 0 x a ne) ∙ grows language quotes x ne .0, omega arith)
 
 local-kept : (c : Context) (x : ℕ) (a b : List ℕ) → encodeStep c 0 (x ∷ (a ++ b)) ≡ keep (x ∷ []) → encodeStep c 0 (x ∷ a) ≡ keep (x ∷ []) → Local (encodeStep c) (x ∷ a) b
 local-kept c x a b e f = (e ∙ sym f, 0, ap (λ (m : Move). length (takes m)) f, omega arith)
@@ -96,18 +98,18 @@ local-script q (y ∷ z ∷ a) b h = go (endsOf y z) refl
       omega arith,
     )
 
-local-lead : (style : Bool) (q : Quotes) (a b : List ℕ) → Clear (0xE2 ∷ a) b → Local (encodeStep (contextIn (at style q))) (0xE2 ∷ a) b
-local-lead true q a b h = local-kept (InStyle q) 0xE2 a b (kept (InStyle q) 0 0xE2 (a ++ b) (lead-style q)) (kept (InStyle q) 0 0xE2 a (lead-style q))
-local-lead false q a b h = local-script q a b h
+local-lead : (language : Language) (q : Quotes) (a b : List ℕ) → Clear (0xE2 ∷ a) b → Local (encodeStep (stringOf language q)) (0xE2 ∷ a) b
+local-lead Style q a b h = local-kept (InStyle q) 0xE2 a b (kept (InStyle q) 0 0xE2 (a ++ b) (lead-style q)) (kept (InStyle q) 0 0xE2 a (lead-style q))
+local-lead Script q a b h = local-script q a b h
 
-module _ (strings : Strings) where
-  parted : (a b : List ℕ) → Clear a b → Parted (encodeStep (contextIn strings)) a b
+module _ (language : Language) (quotes : Quotes) where
+  parted : (a b : List ℕ) → Clear a b → Parted (encodeStep (stringOf language quotes)) a b
   parted [] b h = tt
   parted (x ∷ a) b h = (go (eqb x 0xE2) refl, parted a b (clear-tail x a b h))
     where
-      go : (t : Bool) → eqb x 0xE2 ≡ t → Local (encodeStep (contextIn strings)) (x ∷ a) b
-      go true e = let u = eqb-true x 0xE2 e in rw u (local-lead (strings .style) (strings .quotes) a b (rw u at h))
-      go false e = local-byte strings x a b (eqb-false x 0xE2 e)
+      go : (t : Bool) → eqb x 0xE2 ≡ t → Local (encodeStep (stringOf language quotes)) (x ∷ a) b
+      go true e = let u = eqb-true x 0xE2 e in rw u (local-lead language quotes a b (rw u at h))
+      go false e = local-byte language quotes x a b (eqb-false x 0xE2 e)
 
   module _ (t : List ℕ) (i e : ℕ) (h : i ≤ e) (l : e ≤ length t) where
     clear-part : Apart t e → Clear (take (e - i) (drop i t)) (drop e t)
@@ -118,15 +120,15 @@ module _ (strings : Strings) where
         inr (inr (λ k u v r. f (i + k) (omega arith) (omega arith) (sym (part-at t i e k (omega arith)) ∙ r)))
 
     -- What is written for it comes first, and then what is written for the rest after it.
-    pub next-part : Apart t e → Next (encodeOf (contextIn strings) (drop i t)) (encodeOf (contextIn strings) (take (e - i) (drop i t))) (encodeOf (contextIn strings) (drop e t))
+    pub next-part : Apart t e → Next (encodeOf (stringOf language quotes) (drop i t)) (encodeOf (stringOf language quotes) (take (e - i) (drop i t))) (encodeOf (stringOf language quotes) (drop e t))
     next-part p =
         record {
           next =
-              ap (encodeOf (contextIn strings)) (sym (part-split t i e h))
-              ∙ parted-result (encodeStep (contextIn strings)) (encode-blind (contextIn strings)) (take (e - i) (drop i t)) (drop e t)
+              ap (encodeOf (stringOf language quotes)) (sym (part-split t i e h))
+              ∙ parted-result (encodeStep (stringOf language quotes)) (encode-blind (stringOf language quotes)) (take (e - i) (drop i t)) (drop e t)
               (parted (take (e - i) (drop i t)) (drop e t) (clear-part p));
         }
 
     pub next-length : Apart t e
-        → length (encodeOf (contextIn strings) (drop i t)) ≡ length (encodeOf (contextIn strings) (take (e - i) (drop i t))) + length (encodeOf (contextIn strings) (drop e t))
-    next-length p = ap length (next-part p .next) ∙ length-append (encodeOf (contextIn strings) (take (e - i) (drop i t))) (encodeOf (contextIn strings) (drop e t))
+        → length (encodeOf (stringOf language quotes) (drop i t)) ≡ length (encodeOf (stringOf language quotes) (take (e - i) (drop i t))) + length (encodeOf (stringOf language quotes) (drop e t))
+    next-length p = ap length (next-part p .next) ∙ length-append (encodeOf (stringOf language quotes) (take (e - i) (drop i t))) (encodeOf (stringOf language quotes) (drop e t))

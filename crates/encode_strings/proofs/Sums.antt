@@ -20,10 +20,12 @@ use Rattle.rules.specs.declared.Replacement.the-variants.{Separator}
 use Rattle.rules.proofs.Blind.{Blind, blind-next}
 use Rattle.rules.proofs.Loops.{drop-next}
 use Rattle.rules.proofs.Growth.{encode-sum}
-use Rattle.encode_strings.specs.declared.Strings.{Strings}
-use Rattle.encode_strings.specs.Strings.{contextIn, singleKey, doubleKey, gainOf, sameOf, total, endsOf, ended, separatorsIn}
+use Rattle.encode_strings.specs.Strings.{singleKey, doubleKey, gainOf, sameOf, total, endsOf, ended, separatorsIn}
 use Rattle.encode_strings.proofs.Heads.{not-ascii, kept, no-start, lone}
-use Rattle.encode_strings.proofs.Finds.{alone, at, Grows, ascii-grows, ends-are, lead-kept, lead-taken, lead-style, separator-sizes}
+use Rattle.encode_strings.proofs.Finds.{less, alone, Grows, ascii-grows, ends-are, lead-kept, lead-taken, lead-style, separator-sizes}
+use Rattle.rules.specs.Contexts.{stringOf}
+use Rattle.rules.specs.declared.Language.{Language}
+use Rattle.rules.specs.declared.Language.the-variants.{Script, Style}
 
 -- ---- the sums as a loop meets them
 
@@ -85,30 +87,30 @@ gain-high q b h =
       l,
     )
 
-module _ (strings : Strings) where
+module _ (language : Language) (quotes : Quotes) where
   -- The other bytes are copied.
-  high-grows : (b : ℕ) → 0x80 ≤ b → (b ≡ 0xE2 → ⊥) → Grows strings b
+  high-grows : (b : ℕ) → 0x80 ≤ b → (b ≡ 0xE2 → ⊥) → Grows language quotes b
   unfolding sameOf
   high-grows b h ne =
       let z : eqb 0 b ≡ false = ne-eqb 0 b (λ e. omega arith) in
-      rw (kept (contextIn strings) 0 b [] (no-start (contextIn strings) b h ne), gain-high (strings .quotes) b h, z) (refl, same (strings .style))
+      rw (kept (stringOf language quotes) 0 b [] (no-start (stringOf language quotes) b h ne), gain-high quotes b h) (refl, same language z)
     where
-      same : (t : Bool) → _≡_ {A = ℕ} (1 + cond t 0 0) 1
-      same true = refl
-      same false = refl
+      same : (language : Language) → eqb 0 b ≡ false → 1 + less language b ≡ 1
+      same Script z = refl
+      same Style z = rw z
 
   -- Every byte but E2 grows by itself.
-  pub grows : (b : ℕ) → (b ≡ 0xE2 → ⊥) → Grows strings b
+  pub grows : (b : ℕ) → (b ≡ 0xE2 → ⊥) → Grows language quotes b
   grows b ne = go (ltb b 0x80) refl
     where
-      go : (t : Bool) → ltb b 0x80 ≡ t → Grows strings b
-      go true e = ascii-grows strings b (ltb-true b 0x80 e)
+      go : (t : Bool) → ltb b 0x80 ≡ t → Grows language quotes b
+      go true e = ascii-grows language quotes b (ltb-true b 0x80 e)
       go false e = high-grows b (ltb-false b 0x80 e) ne
 
   -- What is written for a text that such a byte begins.
-  byte-first : (b : ℕ) (s : List ℕ) → (b ≡ 0xE2 → ⊥) → encodeOf (contextIn strings) (b ∷ s) ≡ gives (alone strings b) ++ encodeOf (contextIn strings) s
+  byte-first : (b : ℕ) (s : List ℕ) → (b ≡ 0xE2 → ⊥) → encodeOf (stringOf language quotes) (b ∷ s) ≡ gives (alone language quotes b) ++ encodeOf (stringOf language quotes) s
   byte-first b s ne =
-      ap result (blind-next (encodeStep (contextIn strings)) (encode-blind (contextIn strings)) b s 0 (alone strings b) (lone (contextIn strings) 0 b s ne) (grows b ne .0))
+      ap result (blind-next (encodeStep (stringOf language quotes)) (encode-blind (stringOf language quotes)) b s 0 (alone language quotes b) (lone (stringOf language quotes) 0 b s ne) (grows b ne .0))
 
 -- What is written where the byte that begins a text is kept.
 kept-first : (c : Context) (b : ℕ) (s : List ℕ) → encodeStep c 0 (b ∷ s) ≡ keep (b ∷ []) → encodeOf c (b ∷ s) ≡ b ∷ encodeOf c s
@@ -131,8 +133,8 @@ grows-style q (b ∷ s) = go (eqb b 0xE2) refl (grows-style q s)
         → length (encodeOf (InStyle q) (b ∷ s)) + total (sameOf 0) (b ∷ s) ≡ length (b ∷ s) + total f (b ∷ s)
     go true e ih = rw (eqb-true b 0xE2 e, kept-first (InStyle q) 0xE2 s (kept (InStyle q) 0 0xE2 s (lead-style q)), gain-high q 0xE2 (omega arith)) (omega arith)
     go false e ih =
-        rw (byte-first (at true q) b s (eqb-false b 0xE2 e), length-append)
-        (sum _ _ _ _ _ _ _ (grows (at true q) b (eqb-false b 0xE2 e) .1) ih)
+        rw (byte-first Style q b s (eqb-false b 0xE2 e), length-append)
+        (sum _ _ _ _ _ _ _ (grows Style q b (eqb-false b 0xE2 e) .1) ih)
 
 -- ---- scripts
 
@@ -158,15 +160,15 @@ module _ (q : Quotes) where
           → length (encodeOf (InScript q) (b ∷ s)) ≡ suc (length s) + (gainOf (singleKey q) (doubleKey q) b + total (gainOf (singleKey q) (doubleKey q)) s) + 3 * (0 + separatorsIn s)
       go true e f = rw (eqb-true b 0xE2 e, kept-first (InScript q) 0xE2 s (lead-kept q s f), gain-high q 0xE2 (omega arith)) (omega arith)
       go false e f =
-          rw (byte-first (at false q) b s (eqb-false b 0xE2 e), length-append)
-          (sum _ _ _ _ _ _ (grows (at false q) b (eqb-false b 0xE2 e) .1) ih)
+          rw (byte-first Script q b s (eqb-false b 0xE2 e), length-append)
+          (sum _ _ _ _ _ _ (grows Script q b (eqb-false b 0xE2 e) .1) ih)
 
   -- A separator.
   grown-separator : (x y : ℕ) (s : List ℕ) → endsOf x y ≡ true → Grown q s → Grown q (0xE2 ∷ x ∷ y ∷ s)
   grown-separator x y s e ih =
       let (g, h, m, n) = ends-none q x y e in
-      let w : encodeOf (InScript q) (0xE2 ∷ x ∷ y ∷ s) ≡ gives (replacementMove false (0xE2 ∷ x ∷ y ∷ s) Separator) ++ encodeOf (InScript q) s =
-      ap result (blind-next (encodeStep (InScript q)) (encode-blind (InScript q)) 0xE2 (x ∷ y ∷ s) 2 (replacementMove false (0xE2 ∷ x ∷ y ∷ s) Separator)
+      let w : encodeOf (InScript q) (0xE2 ∷ x ∷ y ∷ s) ≡ gives (replacementMove Script (0xE2 ∷ x ∷ y ∷ s) Separator) ++ encodeOf (InScript q) s =
+      ap result (blind-next (encodeStep (InScript q)) (encode-blind (InScript q)) 0xE2 (x ∷ y ∷ s) 2 (replacementMove Script (0xE2 ∷ x ∷ y ∷ s) Separator)
       (lead-taken q (x ∷ y ∷ s) e) (separator-sizes (eqb y 0xA8) .0)) in
       rw (w, length-append, separator-sizes (eqb y 0xA8) .1, gain-high q 0xE2 (omega arith), g, h, e, m, n) (omega arith)
 
@@ -193,13 +195,13 @@ lead-free (b ∷ s) h = go (eqb b 0xE2) refl (lead-free s)
     go true e ih = let z : _≡_ {A = ℕ} (cond (eqb 0xE2 b) 1 0) 1 = rw (eqb-true b 0xE2 e) in absurd (omega arith)
     go false e ih = let z : _≡_ {A = ℕ} (cond (eqb 0xE2 b) 1 0) 0 = rw (ne-eqb 0xE2 b (λ q. eqb-false b 0xE2 e (sym q))) in rw (e, ih (omega arith))
 
-module _ (strings : Strings) (s : List ℕ) (g : ℕ) (e : g ≡ total (gainOf (singleKey (strings .quotes)) (doubleKey (strings .quotes))) s) where
-  pub gained-style : strings .style ≡ true → (z : ℕ) → z ≡ total (sameOf 0) s → (z ≤ g) × (length s + (g - z) ≡ length (encodeOf (contextIn strings) s))
+module _ (language : Language) (quotes : Quotes) (s : List ℕ) (g : ℕ) (e : g ≡ total (gainOf (singleKey quotes) (doubleKey quotes)) s) where
+  pub gained-style : language ≡ Style → (z : ℕ) → z ≡ total (sameOf 0) s → (z ≤ g) × (length s + (g - z) ≡ length (encodeOf (stringOf language quotes) s))
   gained-style h z f =
-      let q = strings .quotes in
+      let q = quotes in
       let w = grows-style q s in
       let l = encode-sum (InStyle q) s in
       rw h (omega arith, omega arith)
 
-  pub gained-script : strings .style ≡ false → (n : ℕ) → n ≡ separatorsIn s → length s + (g + 3 * n) ≡ length (encodeOf (contextIn strings) s)
-  gained-script h n f = let w = grows-script (strings .quotes) s in rw h (omega arith)
+  pub gained-script : language ≡ Script → (n : ℕ) → n ≡ separatorsIn s → length s + (g + 3 * n) ≡ length (encodeOf (stringOf language quotes) s)
+  gained-script h n f = let w = grows-script quotes s in rw h (omega arith)

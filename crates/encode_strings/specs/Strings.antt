@@ -1,4 +1,4 @@
--- What the code of the strings speaks of, beside the rules: the one value of a context, the escape flags, and how bytes grow.
+-- The escape flags of the string encoder, what a replacement takes, and how bytes grow.
 -- Assumes nothing.
 use mathlib.Core.Bool.{Bool, true, false, _&&_, _||_, cond}
 use mathlib.Core.Logic.{_⊎_}
@@ -8,18 +8,15 @@ use Prim.Native.Nat.{ℕ, _+_, _≤_, _<_}
 use lib.Dec.{eqb, ltb}
 use lib.ListN.{length, getD}
 use Rattle.rules.specs.Bytes.{ascii, count, any, oneOf}
-use Rattle.rules.specs.Tables.{Row, key, value, scriptHex, styleHex}
+use Rattle.rules.specs.Tables.{Row, key, value, hexRow}
 use Rattle.rules.specs.declared.Quotes.{Quotes}
 use Rattle.rules.specs.declared.Quotes.the-variants.{Single, Double, Both}
-use Rattle.rules.specs.declared.Context.{Context}
-use Rattle.rules.specs.declared.Context.the-variants.{InScript, InStyle}
+use Rattle.rules.specs.declared.Language.{Language}
+use Rattle.rules.specs.declared.Language.the-variants.{Script, Style}
 use Rattle.rules.specs.declared.Replacement.{Replacement}
-use Rattle.rules.specs.declared.Replacement.the-variants.{Slashed, Hex, Separator, Substitute, Nothing}
-use Rattle.encode_strings.specs.declared.Strings.{Strings}
-
--- The context that the value stands for.
-abbrev pub contextIn : Strings → Context
-contextIn strings = cond (strings .style) (InStyle (strings .quotes)) (InScript (strings .quotes))
+use Rattle.rules.specs.declared.Replacement.the-variants.{Slashed, Hex, Separator, Substitute}
+use Rattle.rules.specs.declared.Replaced.{Replaced}
+use Rattle.rules.specs.declared.Replaced.the-variants.{By, Nothing}
 
 -- ---- the escape flags
 
@@ -38,8 +35,9 @@ quoteFlags Double = 4
 quoteFlags Both = 6
 
 -- The flags that count in a string: 1 in every one, 8 in a script.
-abbrev pub maskOf : Strings → ℕ
-maskOf strings = cond (strings .style) (quoteFlags (strings .quotes) + 1) (quoteFlags (strings .quotes) + 9)
+abbrev pub maskOf : Language → Quotes → ℕ
+maskOf Script q = quoteFlags q + 9
+maskOf Style q = quoteFlags q + 1
 
 -- The bytes begin with b, if there are any.
 abbrev pub headed : ℕ → List ℕ → Bool
@@ -52,25 +50,33 @@ starts rows b = any (λ (row : Row). headed b (key row)) rows
 
 -- ---- one replacement
 
--- How many bytes of the text it takes.
+-- How NUL is replaced.
+abbrev pub nulBy : Language → Replacement
+nulBy Script = Hex
+nulBy Style = Substitute
+
+-- How many bytes of the text a replacement takes.
 abbrev pub takenBy : Replacement → ℕ
 takenBy Slashed = 1
 takenBy Hex = 1
 takenBy Separator = 3
 takenBy Substitute = 1
-takenBy Nothing = 1
 
--- What is written for a byte by its hex digits.
-abbrev pub hexIn : Bool → ℕ → List ℕ
-hexIn style b = value (cond style (styleHex b) (scriptHex b))
+-- A byte written in hex.
+abbrev pub hexIn : Language → ℕ → List ℕ
+hexIn language b = value (hexRow language b)
 
--- What its writer needs of the bytes s that it is found at: all that it takes is there, and the last byte of a separator is A8 or A9.
+-- All that it takes is there, and the last byte of a separator is A8 or A9.
 abbrev pub Held : Replacement → List ℕ → Type 0
 Held Slashed s = 1 ≤ length s
 Held Hex s = 1 ≤ length s
 Held Separator s = (3 ≤ length s) × (0xA8 ≤ getD s 2 0) × (getD s 2 0 ≤ 0xA9)
 Held Substitute s = 1 ≤ length s
-Held Nothing s = 1 ≤ length s
+
+-- The same of what is found at the head of s.
+abbrev pub HeldAt : Replaced → List ℕ → Type 0
+HeldAt (By r) s = Held r s
+HeldAt Nothing s = 1 ≤ length s
 
 -- ---- growth
 

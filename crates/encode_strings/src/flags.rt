@@ -1,10 +1,11 @@
 // The escape flags: which bytes an escape can start with, in which strings.
-use crate::Strings;
+use rules::Language;
 use rules::Quotes;
 ghost use mathlib.Core.Path.{_≡_};
 ghost use Prim.Native.Nat.{_≤_};
+ghost use Rattle.rules.specs.Contexts.{stringOf};
 ghost use Rattle.rules.specs.Tables.{table};
-ghost use Rattle.encode_strings.specs.Strings.{contextIn, escapeFlags, quoteFlags, maskOf, starts};
+ghost use Rattle.encode_strings.specs.Strings.{escapeFlags, quoteFlags, maskOf, starts};
 
 // The escape flags of each byte: 1 where every string escapes it, 2 where it is the single quote, 4 the double quote, 8 where it starts a line
 // separator, which script strings escape.
@@ -278,22 +279,21 @@ fn quote_flags(quotes: Quotes) -> u8
     }
 }
 
-// The flags that count in a string.
-fn mask_of(strings: Strings) -> u8
-    ensures { λ r. ⌜ r ≡ maskOf strings ⌝ }
+// Returns the flags that count in a string: 1 in every one, those of its quotes, and 8 in a script.
+fn mask_of(language: Language, quotes: Quotes) -> u8
+    ensures { λ r. ⌜ r ≡ maskOf language quotes ⌝ }
 {
-    let quotes = strings.quotes;
     let flags = quote_flags(quotes);
-    if strings.style {
-        return flags + 1;
+    match language {
+        Language::Script => flags + 9,
+        Language::Style => flags + 1,
     }
-    flags + 9
 }
 
 // Whether an escape can start with the byte.
-pub fn needs_escape(strings: Strings, flags: &[u8; 256], b: u8) -> bool
+pub fn needs_escape(language: Language, quotes: Quotes, flags: &[u8; 256], b: u8) -> bool
     requires { ⌜ now flags ≡ escapeFlags ⌝ }
-    ensures { λ r. ⌜ r ≡ starts (table (contextIn strings)) b ⌝ }
+    ensures { λ r. ⌜ r ≡ starts (table (stringOf language quotes)) b ⌝ }
 {
-    flags[b as usize] & mask_of(strings) != 0
+    flags[b as usize] & mask_of(language, quotes) != 0
 }

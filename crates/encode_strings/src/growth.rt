@@ -1,56 +1,57 @@
-// By how much a part of a text grows in a string.
-use crate::Strings;
+// How much longer a part of a text becomes when it is escaped.
 use crate::escapes;
+use rules::Language;
 use rules::Quotes;
 ghost use mathlib.Core.Path.{_≡_};
 ghost use Prim.Native.Nat.{_+_, _*_, _≤_};
 ghost use lib.ListN.{length};
+ghost use Rattle.rules.specs.Contexts.{stringOf};
 ghost use Rattle.rules.specs.Operations.{encodeOf};
-ghost use Rattle.encode_strings.specs.Strings.{contextIn, singleKey, doubleKey, gainOf, sameOf, total, separatorsIn};
+ghost use Rattle.encode_strings.specs.Strings.{singleKey, doubleKey, gainOf, sameOf, total, separatorsIn};
 
-// The growth of the bytes of a part, and how often the one byte stands in it that does not grow by itself alone.
+// The growth of the bytes of a part, and how often it has the one byte that does not grow by itself alone.
 pub struct Tally {
     pub growth: u8,
     pub odd: u8,
 }
 
-// The single quote where it grows, else the backslash.
+// Returns the single quote if the string escapes it, else the backslash.
 fn single_key(quotes: Quotes) -> u8
     ensures { λ r. ⌜ r ≡ singleKey quotes ⌝ }
 {
     match quotes {
-        Quotes::Single => 39,
-        Quotes::Double => 92,
-        Quotes::Both => 39,
+        Quotes::Single => b'\'',
+        Quotes::Double => b'\\',
+        Quotes::Both => b'\'',
     }
 }
 
-// The double quote where it grows, else the backslash.
+// Returns the double quote if the string escapes it, else the backslash.
 fn double_key(quotes: Quotes) -> u8
     ensures { λ r. ⌜ r ≡ doubleKey quotes ⌝ }
 {
     match quotes {
-        Quotes::Single => 92,
-        Quotes::Double => 34,
-        Quotes::Both => 34,
+        Quotes::Single => b'\\',
+        Quotes::Double => b'"',
+        Quotes::Both => b'"',
     }
 }
 
-// By how much a byte grows.
+// Returns by how much a byte grows.
 fn gain(single: u8, double: u8, b: u8) -> u8
     ensures { λ r. ⌜ (r ≡ gainOf single double b) × (r ≤ 3) ⌝ }
 {
-    if (b == 92) | (b == single) | (b == double) {
+    if (b == b'\\') | (b == single) | (b == double) {
         return 1;
     }
-    if (b == 60) | (b < 32) {
+    if (b == b'<') | (b < b' ') {
         return 3;
     }
     0
 }
 
-// The growth of the bytes of a part, and how often the byte `odd` stands in it. Short parts keep the sums in a byte, and the loop has no branch, so
-// that it is made vector code.
+// Sums the growth of the bytes of a part and counts the byte `odd`. Short parts keep the sums in a byte, and the loop has no branch, so that it
+// compiles to vector code.
 fn weigh(single: u8, double: u8, odd: u8, part: &[u8]) -> Tally
     requires { ⌜ length (now part) ≤ 64 ⌝ }
     ensures { λ r. ⌜ (r .growth ≡ total (gainOf single double) (now (part .entry))) × (r .odd ≡ total (sameOf odd) (now (part .entry))) × (r .growth ≤ 3 * length (now (part .entry))) ⌝ }
@@ -67,7 +68,7 @@ fn weigh(single: u8, double: u8, odd: u8, part: &[u8]) -> Tally
     Tally { growth, odd: n }
 }
 
-// How many line separators stand in a part.
+// Counts the line separators of a part.
 fn separators(part: &[u8]) -> usize
     requires { ⌜ length (now part) ≤ 64 ⌝ }
     ensures { λ r. ⌜ (r ≡ separatorsIn (now (part .entry))) × (r ≤ length (now (part .entry))) ⌝ }
@@ -75,7 +76,7 @@ fn separators(part: &[u8]) -> usize
     let mut n: usize = 0;
     let mut i: usize = 0;
     while i + 2 < part.len() {
-        if part[i] == 226 {
+        if part[i] == 0xE2 {
             if escapes::ends_separator(part[i + 1], part[i + 2]) {
                 n += 1;
             }
@@ -85,22 +86,25 @@ fn separators(part: &[u8]) -> usize
     n
 }
 
-// By how much a part grows: in a style sheet NUL grows by two only, in a script each line separator by three.
-pub fn gained(strings: Strings, part: &[u8]) -> usize
+// Returns by how much a part grows: in a style sheet NUL grows by two only, in a script each line separator by three.
+pub fn gained(language: Language, quotes: Quotes, part: &[u8]) -> usize
     requires { ⌜ length (now part) ≤ 64 ⌝ }
-    ensures { λ r. ⌜ length (now (part .entry)) + r ≡ length (encodeOf (contextIn strings) (now (part .entry))) ⌝ }
+    ensures { λ r. ⌜ length (now (part .entry)) + r ≡ length (encodeOf (stringOf language quotes) (now (part .entry))) ⌝ }
 {
-    let quotes = strings.quotes;
     let single = single_key(quotes);
     let double = double_key(quotes);
-    if strings.style {
-        let found = weigh(single, double, 0, part);
-        return (found.growth - found.odd) as usize;
+    match language {
+        Language::Script => {
+            let found = weigh(single, double, 0xE2, part);
+            let growth = found.growth as usize;
+            if found.odd == 0 {
+                return growth;
+            }
+            growth + 3 * separators(part)
+        }
+        Language::Style => {
+            let found = weigh(single, double, 0, part);
+            (found.growth - found.odd) as usize
+        }
     }
-    let found = weigh(single, double, 226, part);
-    let growth = found.growth as usize;
-    if found.odd == 0 {
-        return growth;
-    }
-    growth + 3 * separators(part)
 }

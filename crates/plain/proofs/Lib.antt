@@ -1,3 +1,2 @@
 -- The laws of plain texts.
 pub mod Kept
-pub mod Eights

@@ -1,9 +1,8 @@
-// Plain texts, which no operation changes, as most names are: they are found many bytes at a time, and copied.
+// Plain texts, which no operation changes, as most names are: they are found many bytes at a time.
 ghost use mathlib.Core.Bool.{true, false, not};
 ghost use mathlib.Core.Path.{_≡_};
-ghost use Prim.Native.Nat.{ℕ, _+_, _≤_, _<_};
-ghost use lib.ListN.{length, take};
-ghost use Rattle.rules.specs.Bytes.{over};
+ghost use Prim.Native.Nat.{_+_, _≤_, _<_};
+ghost use lib.ListN.{length};
 ghost use Rattle.base.specs.First.{Free};
 ghost use Rattle.plain.specs.Plain.{plain, specialAt};
 
@@ -46,14 +45,7 @@ fn has_special(unquoted: bool, text: &[u8], at: usize, size: usize) -> bool
     hit
 }
 
-// Returns the start of the next block: `done`, or `last` if less than a block is left. That last block overlaps the one before.
-fn next(done: usize, last: usize) -> usize
-    ensures { λ r. ⌜ (r ≤ done) × (r ≤ last) × ((n : ℕ) → 0 < n → done < last + n → done < r + n) ⌝ }
-{
-    if done < last { done } else { last }
-}
-
-// Reports whether every byte of a text is plain, by blocks of `size` bytes.
+// Reports whether every byte of a text is plain, by blocks of `size` bytes; the last block may overlap the one before.
 fn all_plain(unquoted: bool, text: &[u8], size: usize) -> bool
     requires { ⌜ (0 < size) × (size ≤ length (now text)) ⌝ }
     ensures { λ r. ⌜ (r ≡ true → Free (specialAt unquoted (now (text .entry))) 0 (length (now (text .entry)))) ⌝ }
@@ -61,7 +53,7 @@ fn all_plain(unquoted: bool, text: &[u8], size: usize) -> bool
     let last = text.len() - size;
     let mut done: usize = 0;
     while done < text.len() {
-        let at = next(done, last);
+        let at = base::min(done, last);
         if has_special(unquoted, text, at, size) {
             return false;
         }
@@ -96,53 +88,5 @@ pub fn is_plain(unquoted: bool, text: &[u8]) -> bool
     }
     false
 }
-
-// Writes the first eight bytes of a text to the start of `output`. All are read before the first is written, so that it is one load and one store.
-fn put_eight(text: &[u8], output: &mut [u8])
-    requires { ⌜ (8 ≤ length (now text)) × (8 ≤ length (now output)) ⌝ }
-    ensures { λ _. ⌜ now (output .exit) ≡ over (take 8 (now (text .entry))) (now (output .entry)) ⌝ }
-{
-    let a = text[0];
-    let b = text[1];
-    let c = text[2];
-    let d = text[3];
-    let e = text[4];
-    let f = text[5];
-    let g = text[6];
-    let h = text[7];
-    output[0] = a;
-    output[1] = b;
-    output[2] = c;
-    output[3] = d;
-    output[4] = e;
-    output[5] = f;
-    output[6] = g;
-    output[7] = h;
-}
-
-// Writes a text of eight bytes or more in blocks of eight; the last block may overlap the one before.
-fn put_eights(text: &[u8], output: &mut [u8]) -> usize
-    requires { ⌜ (8 ≤ length (now text)) × (length (now text) ≤ length (now output)) ⌝ }
-    ensures { λ r. ⌜ (r ≡ length (now (text .entry))) × (now (output .exit) ≡ over (now (text .entry)) (now (output .entry))) ⌝ }
-{
-    let last = text.len() - 8;
-    let mut done: usize = 0;
-    while done < text.len() {
-        let at = next(done, last);
-        put_eight(&text[at..], &mut output[at..]);
-        done = at + 8;
-    }
-    done
-}
-
-// Writes a text of eight bytes or more to the start of `output` and returns its length; what lies past it keeps its values. Quicker than
-// `base::put` for short texts.
-pub fn put(text: &[u8], output: &mut [u8]) -> usize
-    requires { ⌜ (8 ≤ length (now text)) × (length (now text) ≤ length (now output)) ⌝ }
-    ensures { λ r. ⌜ (r ≡ length (now (text .entry))) × (now (output .exit) ≡ over (now (text .entry)) (now (output .entry))) ⌝ }
-{
-    if LARGE < text.len() {
-        return base::put(text, output);
-    }
-    put_eights(text, output)
-}
+        let at = base::min(done, last);
+        if has_special(unquoted, text, at, size) {

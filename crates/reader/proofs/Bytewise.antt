@@ -17,6 +17,7 @@ use Rattle.rules.specs.Utf8.{IsChar, IsText, sequenceAt, keepChar, validTo}
 use Rattle.rules.specs.Tables.{Row, rowAt, value, rows, replacedChars}
 use Rattle.rules.specs.Units.{IsUnit}
 use Rattle.rules.specs.Encoding.{keepByte}
+use Rattle.rules.specs.Answers.{Measures}
 use Rattle.rules.specs.Reading.{undo, unless, readStep}
 use Rattle.rules.specs.Operations.{readOf, readTo}
 use Rattle.rules.specs.declared.Context.{Context}
@@ -31,7 +32,7 @@ use Rattle.rules.proofs.Every.{every, values-code}
 use Rattle.rules.proofs.Encoder.{run-text}
 use Rattle.base.proofs.Counted.{Counted, counted-end}
 use Rattle.reader.specs.Units.{byteStep}
-use Rattle.reader.proofs.Barred.{keeps-plain}
+use Rattle.reader.proofs.Characters.{keeps-plain}
 
 -- ---- what is left of a text after some of its characters is a text
 
@@ -130,9 +131,9 @@ module _ (c : Context) where
   byte-replaced : (t : List ℕ) → validTo t ≡ length t → replaced (through (byteStep c) t) ≡ replaced (through (readStep c) t)
   byte-replaced t h = ap replaced (byte-moves t h) ∙ replaced-cut (through (readStep c) t)
 
-  -- A loop that has counted all of the one reader's moves has the numbers of the other.
-  pub read-counted : (t : List ℕ) (i n k : ℕ) → validTo t ≡ length t → Counted (byteStep c) t i n k → from (byteStep c) t i ≡ []
-      → (n ≡ length (readOf c t)) × (i ≡ readTo c t) × (eqb k 0 ≡ eqb (replaced (through (readStep c) t)) 0)
-  read-counted t i n k h f e =
+  -- A loop that has counted all of the one reader's moves has found what a pass of the other finds.
+  pub read-measures : (t : List ℕ) (i n k : ℕ) → validTo t ≡ length t → Counted (byteStep c) t i n k → from (byteStep c) t i ≡ []
+      → Measures (record { length = n; place = i; same = eqb k 0 }) (through (readStep c) t)
+  read-measures t i n k h f e =
       let (long, many, far) = counted-end f e in
-      (long ∙ ap length (byte-result t h), far ∙ byte-place t h, ap (λ (k : ℕ). eqb k 0) (many ∙ byte-replaced t h))
+      record { long = long ∙ ap length (byte-result t h); reach = far ∙ byte-place t h; kept = ap (λ (k : ℕ). eqb k 0) (many ∙ byte-replaced t h) }

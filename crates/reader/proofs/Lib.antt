@@ -1,4 +1,4 @@
-pub mod Barred
+pub mod Characters
 pub mod Bytewise
 pub mod Narrow
 pub mod Placed

@@ -24,14 +24,14 @@ use Rattle.rules.proofs.Tables.{unlike}
 use Rattle.rules.proofs.EveryByte.{every-byte}
 use Rattle.decode_strings.specs.Finds.{Finds}
 use Rattle.decode_strings.specs.Hex.{hexBetween}
-use Rattle.decode_strings.specs.Strings.{escapeOf}
+use Rattle.decode_strings.specs.Strings.{packOf, escapeOf}
 use Rattle.decode_strings.proofs.Finding.{Coded, finds-byte, finds-no-byte, utf8-ascii, one-of-in}
-use Rattle.base.proofs.Standing.{agree, agreed}
+use Rattle.rules.proofs.Below.{agree, agrees}
 use Rattle.decode_strings.proofs.Hex.{pair-digits, stands-between}
-use Rattle.decode_strings.proofs.Strings.{escape-told}
-use Rattle.reader.specs.Bars.{htmlSet, inSet}
+use Rattle.decode_strings.proofs.Strings.{escape-packed}
+use Rattle.reader.specs.Replaced.{Leads, inSet}
 use Rattle.reader.specs.Units.{isOther}
-use Rattle.reader.proofs.Barred.{set-same, bar-alone}
+use Rattle.reader.proofs.Characters.{begins-alone}
 use Rattle.reader.proofs.Placed.{finds-none}
 
 -- ---- a table with some of the rows of another
@@ -119,19 +119,19 @@ html-rows Quoted = refl
 html-rows Safe = refl
 html-rows Unquoted = refl
 
-module _ (h : Html) (s : List ℕ) where
-  replaced-byte : (b : ℕ) (r : Bool) → b < 128 → inSet (htmlSet h) b ≡ r → replaces h (utf8 b) ≡ r
-  replaced-byte b r l e = ap (replaces h) (utf8-ascii b l) ∙ sym (bar-alone h b (omega arith)) ∙ sym (set-same (InHtml h) b (omega arith)) ∙ e
+module _ (h : Html) (s set : List ℕ) (right : Leads (InHtml h) (inSet set)) where
+  replaced-byte : (b : ℕ) (r : Bool) → b < 128 → inSet set b ≡ r → replaces h (utf8 b) ≡ r
+  replaced-byte b r l e = ap (replaces h) (utf8-ascii b l) ∙ sym (begins-alone h b (omega arith)) ∙ sym (right b (omega arith)) ∙ e
 
-  -- What a number tells of the larger table holds of the smaller one where its character is in the set,
-  pub html-kept : (code : ℕ) → code % 65536 < 128 → inSet (htmlSet h) (code % 65536) ≡ true → Finds (htmlRows Unquoted) s (escapeOf code) → Finds (htmlRows h) s (escapeOf code)
+  -- What a packed number is in the larger table it is in the smaller one, where its character is in the set,
+  pub html-kept : (code : ℕ) → code % 0x200000 < 128 → inSet set (code % 0x200000) ≡ true → Finds (htmlRows Unquoted) s (escapeOf code) → Finds (htmlRows h) s (escapeOf code)
   html-kept zero l e f = rw (html-rows h) (finds-neither (replaces h) (htmlRows Unquoted) tt s f)
-  html-kept (suc k) l e f = rw (html-rows h) (finds-kept (replaces h) (htmlRows Unquoted) tt s (suc k / 65536) (suc k % 65536) f (replaced-byte (suc k % 65536) true l e))
+  html-kept (suc k) l e f = rw (html-rows h) (finds-kept (replaces h) (htmlRows Unquoted) tt s (suc k / 0x200000) (suc k % 0x200000) f (replaced-byte (suc k % 0x200000) true l e))
 
   -- and else nothing is found there.
-  pub html-dropped : (code : ℕ) → code % 65536 < 128 → inSet (htmlSet h) (code % 65536) ≡ false → Finds (htmlRows Unquoted) s (escapeOf code) → Finds (htmlRows h) s Nothing
+  pub html-dropped : (code : ℕ) → code % 0x200000 < 128 → inSet set (code % 0x200000) ≡ false → Finds (htmlRows Unquoted) s (escapeOf code) → Finds (htmlRows h) s Nothing
   html-dropped zero l e f = rw (html-rows h) (finds-neither (replaces h) (htmlRows Unquoted) tt s f)
-  html-dropped (suc k) l e f = rw (html-rows h) (finds-dropped (replaces h) (htmlRows Unquoted) tt s (suc k / 65536) (suc k % 65536) f (replaced-byte (suc k % 65536) false l e))
+  html-dropped (suc k) l e f = rw (html-rows h) (finds-dropped (replaces h) (htmlRows Unquoted) tt s (suc k / 0x200000) (suc k % 0x200000) f (replaced-byte (suc k % 0x200000) false l e))
 
 -- ---- `&#xHH;`
 
@@ -158,15 +158,15 @@ other-small v e = ltb→lt v 128 (and-left (ltb v 128) (not (letterOrDigit v || 
 other-in : (v : ℕ) → isOther v ≡ true → In v others
 other-in v e =
     one-of-in others v
-    (subst T (agreed (isOther v) (oneOf others v) (every-byte (λ (v : ℕ). agree (isOther v) (oneOf others v)) tt v (omega (arith, other-small v e)))) (subst T (sym e) tt))
+    (subst T (agrees (isOther v) (oneOf others v) (every-byte (λ (v : ℕ). agree (isOther v) (oneOf others v)) tt v (omega (arith, other-small v e)))) (subst T (sym e) tt))
 
 other-out : (v : ℕ) → isOther v ≡ false → In v others → ⊥
 other-out v e i = subst T e (all-in isOther others tt v i)
 
 -- So where the two digits are those of such a byte, its unit is found,
-pub finds-other : (s : List ℕ) (v : ℕ) → v ≡ hexBetween (ascii "&#x") (ascii ";") s → isOther v ≡ true → Finds (map reference others) s (escapeOf (0x60000 + v))
+pub finds-other : (s : List ℕ) (v : ℕ) → v ≡ hexBetween (ascii "&#x") (ascii ";") s → isOther v ≡ true → Finds (map reference others) s (escapeOf (packOf 6 v))
 finds-other s v e t =
-    rw (escape-told 6 v (omega arith) (omega (arith, other-small v t)))
+    rw (escape-packed 6 v (omega arith) (omega (arith, other-small v t)))
     (subst (λ (v : ℕ). Finds (map reference others) s (Taken 6 v)) (sym e)
     (finds-byte reference-coded s (other-in (hexBetween (ascii "&#x") (ascii ";") s) (subst (λ (v : ℕ). isOther v ≡ true) e t))))
 

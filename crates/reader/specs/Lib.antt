@@ -1,3 +1,3 @@
 -- What the contracts of the functions inside cite.
-pub mod Bars
+pub mod Replaced
 pub mod Units

@@ -1,42 +1,35 @@
 // read, the strict reader: a text that is a run of the context's units, read back.
 ghost use mathlib.Core.Path.{_≡_};
 ghost use Prim.Native.Nat.{_≤_};
-ghost use lib.Dec.{eqb};
 ghost use lib.ListN.{length};
 ghost use Rattle.rules.specs.Bytes.{over};
-ghost use Rattle.rules.specs.Moves.{through, replaced};
+ghost use Rattle.rules.specs.Moves.{through};
 ghost use Rattle.rules.specs.Utf8.{validTo};
+ghost use Rattle.rules.specs.Answers.{Measures};
 ghost use Rattle.rules.specs.Reading.{readStep};
-ghost use Rattle.rules.specs.Operations.{readOf, readTo};
-use decode_strings::rows;
+ghost use Rattle.rules.specs.Operations.{readOf};
 use rules::Context;
 use rules::Escape;
+use rules::Measured;
 
-pub mod bars;
+pub mod replaced;
 pub mod units;
 
-// What a measuring pass finds: the length of the result, the place where the reader stops, and whether nothing is replaced.
-pub struct Measured {
-    pub length: usize,
-    pub place: usize,
-    pub same: bool,
-}
-
-// Measures what read makes of a valid text. A unit has to stand at the byte that units begin with. At any other all is plain up to the next replaced
-// character, and where that stands there itself, nothing can be read.
+// Measures the result of read of a valid text without writing it. At the byte that units start with there must be one. From any other byte on the text
+// is plain up to the next replaced character; if that is the byte itself, the reader stops there.
 pub fn measure(c: Context, text: &[u8]) -> Measured
     requires { ⌜ (length (now text) ≤ 65536) × (validTo (now text) ≡ length (now text)) ⌝ }
-    ensures { λ r. ⌜ (r .length ≡ length (readOf c (now (text .entry)))) × (r .place ≡ readTo c (now (text .entry))) × (r .same ≡ eqb (replaced (through (readStep c) (now (text .entry)))) 0) ⌝ }
+    ensures { λ r. ⌜ Measures r (through (readStep c) (now (text .entry))) ⌝ }
 {
-    let bars = bars::bars_of(c);
-    let set = bars::set_of(c);
+    let leads = replaced::leads_of(c);
+    let set = replaced::set_of(c);
     let mark = units::mark_of(c);
     let mut length: usize = 0;
     let mut units: usize = 0;
     let mut i: usize = 0;
     while i < text.len() {
         if text[i] != mark {
-            let e = bars::next_bar(&bars, &set, text, i);
+            let e = replaced::next_replaced(&leads, &set, text, i);
             if e == i {
                 return Measured {
                     length,
@@ -48,8 +41,7 @@ pub fn measure(c: Context, text: &[u8]) -> Measured
             i = e;
             continue;
         }
-        let code = units::unit(c, &set, text, i);
-        let Escape::Taken(n, ch) = rows::escape_of(code) else {
+        let Escape::Taken(n, ch) = units::read_unit(c, &set, text, i) else {
             return Measured {
                 length,
                 place: i,
@@ -67,20 +59,20 @@ pub fn measure(c: Context, text: &[u8]) -> Measured
     }
 }
 
-// Writes what read makes of a valid text to the start of `output` and returns its length; what lies past it keeps its values. It goes as `measure`
-// does.
+// Writes the result of read of a valid text to the start of `output`, leaves the bytes after it as they were, and returns its length. It goes through
+// the text as `measure` does.
 pub fn write(c: Context, text: &[u8], output: &mut [u8]) -> usize
     requires { ⌜ (validTo (now text) ≡ length (now text)) × (length (readOf c (now text)) ≤ length (now output)) ⌝ }
     ensures { λ r. ⌜ (r ≡ length (readOf c (now (text .entry)))) × (now (output .exit) ≡ over (readOf c (now (text .entry))) (now (output .entry))) ⌝ }
 {
-    let bars = bars::bars_of(c);
-    let set = bars::set_of(c);
+    let leads = replaced::leads_of(c);
+    let set = replaced::set_of(c);
     let mark = units::mark_of(c);
     let mut at: usize = 0;
     let mut i: usize = 0;
     while i < text.len() {
         if text[i] != mark {
-            let e = bars::next_bar(&bars, &set, text, i);
+            let e = replaced::next_replaced(&leads, &set, text, i);
             if e == i {
                 return at;
             }
@@ -88,8 +80,7 @@ pub fn write(c: Context, text: &[u8], output: &mut [u8]) -> usize
             i = e;
             continue;
         }
-        let code = units::unit(c, &set, text, i);
-        let Escape::Taken(n, ch) = rows::escape_of(code) else {
+        let Escape::Taken(n, ch) = units::read_unit(c, &set, text, i) else {
             return at;
         };
         at += base::chars::put_char(ch, &mut output[at..]);

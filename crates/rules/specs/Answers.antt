@@ -1,7 +1,7 @@
 -- 14. "For every answer that is an enum": what each case is on paper, and what a pass over a text measures. Contexts and operations are in (4), the
 -- cases of the refusal table in (13); enums that one crate alone uses have theirs in its own specs.
 -- Assumes nothing.
-use mathlib.Core.Bool.{Bool, cond}
+use mathlib.Core.Bool.{cond}
 use mathlib.Core.Option.{Option, none, some}
 use mathlib.Core.Path.{_≡_}
 use mathlib.Core.List.{List, [], _∷_}
@@ -10,8 +10,9 @@ use lib.Dec.{eqb}
 use lib.ListN.{length as size, take, drop, getD}
 use Rattle.rules.specs.Moves.{Move, swap, result, replaced, place as placeOf}
 use Rattle.rules.specs.Utf8.{utf8, substitute}
-use Rattle.rules.specs.Tables.{Row, key, value, slashed, scriptHex, styleHex, lineSeparator, paragraphSeparator}
+use Rattle.rules.specs.Tables.{Row, key, value, slashed, hexRow, lineSeparator, paragraphSeparator}
 use Rattle.rules.specs.Encoding.{keepByte}
+use Rattle.rules.specs.declared.Language.{Language}
 use Rattle.rules.specs.declared.Measured.{Measured}
 use Rattle.rules.specs.declared.DecodedEntityValue.{DecodedEntityValue}
 use Rattle.rules.specs.declared.DecodedEntityValue.the-variants.{Named, Character}
@@ -22,7 +23,9 @@ use Rattle.rules.specs.declared.Reference.the-variants.{Found, Nothing a
 use Rattle.rules.specs.declared.Escape.{Escape}
 use Rattle.rules.specs.declared.Escape.the-variants.{Taken, Nothing as NoEscape}
 use Rattle.rules.specs.declared.Replacement.{Replacement}
-use Rattle.rules.specs.declared.Replacement.the-variants.{Slashed, Hex, Separator, Substitute, Nothing as NoReplacement}
+use Rattle.rules.specs.declared.Replacement.the-variants.{Slashed, Hex, Separator, Substitute}
+use Rattle.rules.specs.declared.Replaced.{Replaced}
+use Rattle.rules.specs.declared.Replaced.the-variants.{By, Nothing as NoReplacement}
 
 -- The bytes that are packed into a number, at most k, the first lowest; none of them is 0.
 abbrev pub unpackTo : ℕ → ℕ → List ℕ
@@ -53,14 +56,18 @@ escapeMove s NoEscape = keepByte s
 abbrev pub writeRow : Row → Move
 writeRow row = swap (key row) (value row)
 
--- The move at the head of s, where the writer of strings was asked, in a style string or a script string.
+-- The move of a replacement at the head of s, in a string of a language.
 -- U+2028 ends in A8, U+2029 in A9.
-abbrev pub replacementMove : Bool → List ℕ → Replacement → Move
-replacementMove style s Slashed = writeRow (slashed (getD s 0 0))
-replacementMove style s Hex = writeRow (cond style (styleHex (getD s 0 0)) (scriptHex (getD s 0 0)))
-replacementMove style s Separator = writeRow (cond (eqb (getD s 2 0) 0xA8) lineSeparator paragraphSeparator)
-replacementMove style s Substitute = swap (take 1 s) substitute
-replacementMove style s NoReplacement = keepByte s
+abbrev pub replacementMove : Language → List ℕ → Replacement → Move
+replacementMove language s Slashed = writeRow (slashed (getD s 0 0))
+replacementMove language s Hex = writeRow (hexRow language (getD s 0 0))
+replacementMove language s Separator = writeRow (cond (eqb (getD s 2 0) 0xA8) lineSeparator paragraphSeparator)
+replacementMove language s Substitute = swap (take 1 s) substitute
+
+-- The move at the head of s, where the encoder of strings was asked.
+abbrev pub replacedMove : Language → List ℕ → Replaced → Move
+replacedMove language s (By r) = replacementMove language s r
+replacedMove language s NoReplacement = keepByte s
 
 -- What a pass over a text finds is read off the moves through it.
 pub record Measures (found : Measured) (ms : List Move) : Type 0 where

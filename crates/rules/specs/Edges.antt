@@ -14,7 +14,7 @@ use Rattle.rules.specs.Contexts.{contextOf}
 use Rattle.rules.specs.Tables.{Row, key, value}
 use Rattle.rules.specs.Encoding.{closes}
 use Rattle.rules.specs.Refusals.{answer}
-use Rattle.rules.specs.Answers.{referenceMove, escapeMove, replacementMove}
+use Rattle.rules.specs.Answers.{referenceMove, escapeMove, replacedMove}
 use Rattle.rules.specs.Program.{printed, entityOf}
 use Rattle.rules.specs.Examples.{Example, passesIn, example, stays, refusedIn, refused, holds}
 use Rattle.rules.specs.declared.Html.the-variants.{TextMinimal, Text, Quoted, Safe, Unquoted}
@@ -26,7 +26,9 @@ use Rattle.rules.specs.declared.Operation.the-variants.{Encode, Decode, 
 use Rattle.rules.specs.declared.DecodedEntityValue.the-variants.{Named as NamedText, Character}
 use Rattle.rules.specs.declared.Reference.the-variants.{Found, Nothing as NoReference}
 use Rattle.rules.specs.declared.Escape.the-variants.{Taken, Nothing as NoEscape}
-use Rattle.rules.specs.declared.Replacement.the-variants.{Slashed, Hex, Separator, Substitute, Nothing as NoReplacement}
+use Rattle.rules.specs.declared.Language.the-variants.{Script, Style}
+use Rattle.rules.specs.declared.Replacement.the-variants.{Slashed, Hex, Separator, Substitute}
+use Rattle.rules.specs.declared.Replaced.the-variants.{By, Nothing as NoReplacement}
 
 -- ---- characters
 
@@ -410,13 +412,13 @@ sameMove stop stop = true
 -- A case of an enum, read on paper, and the move that it is.
 abbrev pub papers : List (Move × Move)
 papers =
-    (replacementMove false (ascii "'a") Slashed, swap (ascii "'") (ascii "\\'"))
-    ∷ (replacementMove false (0x1F ∷ []) Hex, swap (0x1F ∷ []) (ascii "\\x1F"))
-    ∷ (replacementMove true (0x1F ∷ []) Hex, swap (0x1F ∷ []) (ascii "\\1F "))
-    ∷ (replacementMove false (0xE2 ∷ 0x80 ∷ 0xA8 ∷ ascii "a") Separator, swap (0xE2 ∷ 0x80 ∷ 0xA8 ∷ []) (ascii "\\u2028"))
-    ∷ (replacementMove false (0xE2 ∷ 0x80 ∷ 0xA9 ∷ ascii "a") Separator, swap (0xE2 ∷ 0x80 ∷ 0xA9 ∷ []) (ascii "\\u2029"))
-    ∷ (replacementMove true (0x00 ∷ ascii "a") Substitute, swap (0x00 ∷ []) (0xEF ∷ 0xBF ∷ 0xBD ∷ []))
-    ∷ (replacementMove true (ascii "ab") NoReplacement, keep (ascii "a"))
+    (replacedMove Script (ascii "'a") (By Slashed), swap (ascii "'") (ascii "\\'"))
+    ∷ (replacedMove Script (0x1F ∷ []) (By Hex), swap (0x1F ∷ []) (ascii "\\x1F"))
+    ∷ (replacedMove Style (0x1F ∷ []) (By Hex), swap (0x1F ∷ []) (ascii "\\1F "))
+    ∷ (replacedMove Script (0xE2 ∷ 0x80 ∷ 0xA8 ∷ ascii "a") (By Separator), swap (0xE2 ∷ 0x80 ∷ 0xA8 ∷ []) (ascii "\\u2028"))
+    ∷ (replacedMove Script (0xE2 ∷ 0x80 ∷ 0xA9 ∷ ascii "a") (By Separator), swap (0xE2 ∷ 0x80 ∷ 0xA9 ∷ []) (ascii "\\u2029"))
+    ∷ (replacedMove Style (0x00 ∷ ascii "a") (By Substitute), swap (0x00 ∷ []) (0xEF ∷ 0xBF ∷ 0xBD ∷ []))
+    ∷ (replacedMove Style (ascii "ab") NoReplacement, keep (ascii "a"))
     ∷ (escapeMove (ascii "\\u2028a") (Taken 6 0x2028), swap (ascii "\\u2028") (0xE2 ∷ 0x80 ∷ 0xA8 ∷ []))
     ∷ (escapeMove (ascii "\\a") NoEscape, keep (ascii "\\"))
     ∷ (

@@ -12,6 +12,8 @@ use Rattle.rules.specs.declared.Html.{Html}
 use Rattle.rules.specs.declared.Html.the-variants.{TextMinimal, Text, DoubleQuoted, SingleQuoted, Quoted, Safe, Unquoted}
 use Rattle.rules.specs.declared.Quotes.{Quotes}
 use Rattle.rules.specs.declared.Quotes.the-variants.{Single, Double, Both}
+use Rattle.rules.specs.declared.Language.{Language}
+use Rattle.rules.specs.declared.Language.the-variants.{Script, Style}
 use Rattle.rules.specs.declared.Context.{Context}
 use Rattle.rules.specs.declared.Context.the-variants.{InHtml, InScript, InStyle}
 
@@ -118,6 +120,11 @@ scriptRows = map scriptHex (bytes 0 31 ++ ascii "<") ++ lineSeparator ∷ paragr
 -- A byte →`\HH` and a space.
 abbrev pub styleHex : ℕ → Row
 styleHex b = (b ∷ [], ascii "\\" ++ hexPair b ++ ascii " ")
+
+-- The row of a byte that a string of a language writes in hex.
+abbrev pub hexRow : Language → ℕ → Row
+hexRow Script b = scriptHex b
+hexRow Style b = styleHex b
 
 -- Bytes 1 to 31 and `<` in a style string.
 abbrev pub styleRows : List Row

@@ -142,12 +142,17 @@ pub enum Escape {
     Nothing,
 }
 
-// How the writer of strings replaces what stands at a place.
+// How a string encoder escapes a character: a backslash before it, its two hex digits, `\u2028` or `\u2029`, or U+FFFD in place of NUL.
 pub enum Replacement {
     Slashed,
     Hex,
     Separator,
     Substitute,
+}
+
+// What a string encoder finds at a place.
+pub enum Replaced {
+    By(Replacement),
     Nothing,
 }
 

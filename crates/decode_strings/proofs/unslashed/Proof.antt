@@ -10,19 +10,29 @@ hex-row-requires : tie.Need-hex-row-requires
 hex-row-requires c κs = search needs
 
 returns : tie.Need-returns
-returns c = let f = finds-told (c .before .before .before .args .style) (c .before .before .before .args .rest .now) (c .before .hex-row .result) (c .if1 .taken) (c .before .hex-row .ensures) in (row-found (c .before .before .before .args .style) (c .before .before .before .args .before) (c .before .before .before .args .rest .now) (c .before .hex-row .result) (c .if1 .taken) f, f .within)
+returns c =
+    let a = c .before .before .before .args in
+    let hex-row = c .before .hex-row in
+    let f = finds-told (a .language) (a .rest .now) (hex-row .result) (c .if1 .taken) (hex-row .ensures) in (row-found (a .language) (a .before) (a .rest .now) (hex-row .result) (c .if1 .taken) f, f .within)
 
 separator-requires : tie.Need-separator-requires
 separator-requires c κs = search needs
 
 returns-2 : tie.Need-returns-2
-returns-2 c = let f = finds-rest (c .before .before .before .before .before .args .style) (c .before .before .before .before .before .args .rest .now) (c .before .before .before .hex-row .result) (c .before .before .if1 .left) (c .before .before .before .hex-row .ensures) (c .before .separator .ensures) in (row-found (c .before .before .before .before .before .args .style) (c .before .before .before .before .before .args .before) (c .before .before .before .before .before .args .rest .now) (c .before .separator .result) (c .if2 .taken) f, f .within)
+returns-2 c =
+    let a = c .before .before .before .before .before .args in
+    let hex-row = c .before .before .before .hex-row in
+    let separator = c .before .separator in
+    let f = finds-rest (a .language) (a .rest .now) (hex-row .result) (c .before .before .if1 .left) (hex-row .ensures) (separator .ensures) in (row-found (a .language) (a .before) (a .rest .now) (separator .result) (c .if2 .taken) f, f .within)
 
 after-less-requires : tie.Need-after-less-requires
 after-less-requires c κs = search needs
 
 returns-3 : tie.Need-returns-3
-returns-3 c = (c .after-less .ensures .0 ∙ row-after (c .before .before .before .before .before .before .args .style) (c .before .before .before .before .before .before .args .before) (c .before .before .before .before .before .before .args .rest .now) (finds-rest (c .before .before .before .before .before .before .args .style) (c .before .before .before .before .before .before .args .rest .now) (c .before .before .before .before .hex-row .result) (c .before .before .before .if1 .left) (c .before .before .before .before .hex-row .ensures) (rw (c .before .if2 .left) at (c .before .before .separator .ensures))), c .after-less .ensures .1)
+returns-3 c =
+    let a = c .before .before .before .before .before .before .args in
+    let hex-row = c .before .before .before .before .hex-row in
+    (c .after-less .ensures .0 ∙ row-after (a .language) (a .before) (a .rest .now) (finds-rest (a .language) (a .rest .now) (hex-row .result) (c .before .before .before .if1 .left) (hex-row .ensures) (rw (c .before .if2 .left) at (c .before .before .separator .ensures))), c .after-less .ensures .1)
 
 pub unslashed-spec : {M : Type 1} → statement M
 unslashed-spec =

@@ -1,36 +1,145 @@
--- `write` meets its contract: what is written and counted so far, with what the rest of the text gives, is the result of the whole. The measure is what is left of the text.
+-- `write` meets its contract: what is written and counted so far, with what the rest of the text gives, is the result of the whole. The measure is
+-- what is left of the text.
 -- Assumes nothing.
-use mathlib.Core.List.{[], _∷_}
+use mathlib.Core.List.{List, [], _∷_}
 use mathlib.Core.Path.{_≡_, sym, ap, _∙_}
-use Prim.Native.Nat.{ℕ, _+_, _-_}
 use native.Mathlib.Omega.{arith}
 use borrow.Author.Needs.{needs}
-use lib.ListN.{length}
-use lib.Dec.{eqb}
 use Rattle.rules.proofs.Loops.{from-end}
+use Rattle.rules.proofs.Quiet.{Keeps}
+use Rattle.rules.specs.declared.Escape.{Escape}
 use Rattle.rules.specs.declared.Escape.the-variants.{Taken, Nothing}
-use Rattle.rules.specs.Operations.{decodeStep, decodeOf}
+use Rattle.rules.specs.Contexts.{stringOf}
 use Rattle.rules.specs.Utf8.{utf8}
-use Rattle.rules.specs.Moves.{result, from}
 use Rattle.base.proofs.Places.{nearest-past}
+use Rattle.decode_strings.proofs.Strings.{string-quiet, SlashedAt, slashed-here, Told, told-here, within-rest}
+use Prim.Native.Nat.{ℕ, _+_, _-_, _≤_}
+use lib.ListN.{length, take, drop}
+use Rattle.rules.specs.declared.Language.{Language}
+use Rattle.rules.specs.declared.Quotes.{Quotes}
+use Rattle.rules.specs.Operations.{decodeStep, decodeOf}
+use Rattle.rules.specs.Moves.{result, from}
 use Rattle.base.proofs.Part.{part-length}
-use Rattle.base.proofs.Counted.{Counted, counted-start, counted-quiet, counted-keep, counted-swap, counted-end, next-quiet, next-keep, next-swap, filled-all}
-use Rattle.base.proofs.Filled.{Filled, filled-start, filled-room, filled-next, filled-put}
-use Rattle.decode_strings.specs.Strings.{stringOf}
-use Rattle.decode_strings.proofs.Strings.{string-quiet, slashed-here, told-here, within-rest}
+use Rattle.base.proofs.Counted.{Counted, counted-start, counted-quiet, counted-keep, counted-swap, counted-measures, next-quiet, next-keep, next-swap, filled-all}
+use Rattle.base.proofs.Filled.{Filled, Next, filled-start, filled-room, filled-next, filled-put}
 use Rattle.decode_strings.proofs.write.Statement.{statement}
 use Rattle.decode_strings.proofs.write.Tie as tie
 
+-- What the rest of the text from place i on gives.
+abbrev Rest : Language → Quotes → List ℕ → ℕ → List ℕ
+Rest language quotes t i = result (from (decodeStep (stringOf language quotes)) t i)
+
 abbrev Inv-loop : tie.InvT-loop
-Inv-loop style quotes text output₀ at₀ k₀ i₀ output at k i =
-    Counted (decodeStep (stringOf style quotes)) text i at k
-    × Filled (decodeOf (stringOf style quotes) text) (result (from (decodeStep (stringOf style quotes)) text i)) output₀ output at
+Inv-loop language quotes text output₀ at₀ k₀ i₀ output at k i =
+    Counted (decodeStep (stringOf language quotes)) text i at k × Filled (decodeOf (stringOf language quotes) text) (Rest language quotes text i) output₀ output at
 
 abbrev μ-loop : tie.MeasureT-loop
-μ-loop style quotes text output₀ at₀ k₀ i₀ output at k i = length text - i
+μ-loop language quotes text output₀ at₀ k₀ i₀ output at k i = length text - i
+
+quiet : (c : tie.After-put-until Inv-loop μ-loop)
+    → let a = c .before .before .before .before .before .before .before .before .args in
+    let l = c .before .before .before .before .before .loop in
+    Keeps (decodeStep (stringOf (a .language) (a .quotes))) (a .text .now) (l .i) (c .put-until .result)
+quiet c =
+    let a = c .before .before .before .before .before .before .before .before .args in
+    let l = c .before .before .before .before .before .loop in
+    string-quiet (a .language) (a .quotes) (a .text .now) (l .i) (c .put-until .result) (c .put-until .ensures .0)
+
+next-part : (c : tie.After-put-until Inv-loop μ-loop)
+    → let a = c .before .before .before .before .before .before .before .before .args in
+    let l = c .before .before .before .before .before .loop in
+    Next (Rest (a .language) (a .quotes) (a .text .now) (l .i)) (take (c .put-until .result - l .i) (drop (l .i) (a .text .now))) (Rest (a .language) (a .quotes) (a .text .now) (c .put-until .result))
+next-part c =
+    let a = c .before .before .before .before .before .before .before .before .args in
+    let l = c .before .before .before .before .before .loop in
+    next-quiet (decodeStep (stringOf (a .language) (a .quotes))) (a .text .now) (l .i) (c .put-until .result) (c .put-until .ensures .0 .after) (c .put-until .ensures .0 .within) (quiet c)
+
+size : (c : tie.After-put-until Inv-loop μ-loop)
+    → let l = c .before .before .before .before .before .loop in
+    let a = c .before .before .before .before .before .before .before .before .args in
+    length (take (c .put-until .result - l .i) (drop (l .i) (a .text .now))) ≡ c .put-until .result - l .i
+size c =
+    let a = c .before .before .before .before .before .before .before .before .args in
+    let l = c .before .before .before .before .before .loop in
+    part-length (a .text .now) (l .i) (c .put-until .result) (c .put-until .ensures .0 .after) (c .put-until .ensures .0 .within)
+
+two : (c : tie.Then2 Inv-loop μ-loop)
+    → let a = c .before .before .before .before .before .before .before .before .before .before .args in
+    let l = c .before .before .before .before .before .before .before .loop in
+    SlashedAt (a .language) (a .quotes) (a .text .now) (l .i) (c .before .before .after-slash .result)
+two c =
+    let a = c .before .before .before .before .before .before .before .before .before .before .args in
+    let l = c .before .before .before .before .before .before .before .loop in
+    let after-slash = c .before .before .after-slash in
+    slashed-here (a .language) (a .quotes) (a .text .now) (l .i) (after-slash .result) (after-slash .ensures) (sym (c .before .is-slashed .ensures) ∙ c .if2 .taken)
+
+next-two : (c : tie.Then2 Inv-loop μ-loop)
+    → let a = c .before .before .before .before .before .before .before .before .before .before .args in
+    let l = c .before .before .before .before .before .before .before .loop in
+    Next (Rest (a .language) (a .quotes) (a .text .now) (l .i)) (c .before .before .after-slash .result ∷ []) (Rest (a .language) (a .quotes) (a .text .now) (l .i + 2))
+next-two c =
+    let a = c .before .before .before .before .before .before .before .before .before .before .args in
+    let l = c .before .before .before .before .before .before .before .loop in
+    next-swap (decodeStep (stringOf (a .language) (a .quotes))) (a .text .now) (l .i) 2 (c .before .before .after-slash .result ∷ []) (omega arith) (two c .1) (two c .0)
+
+-- What was read at this place is the move here.
+told : (c : tie.After-read-escape Inv-loop μ-loop)
+    → let a = c .before .before .before .before .before .before .before .before .before .before .before .before .before .args in
+    let l = c .before .before .before .before .before .before .before .before .before .before .loop in
+    (r : Escape) → c .read-escape .result ≡ r → Told (a .language) (a .quotes) (a .text .now) (l .i) r
+told c r =
+    let a = c .before .before .before .before .before .before .before .before .before .before .before .before .before .args in
+    let l = c .before .before .before .before .before .before .before .before .before .before .loop in
+    let after-slash = c .before .before .before .before .before .after-slash in
+    let byte-before = c .before .before .byte-before in
+    let is-slashed = c .before .before .before .before .is-slashed in
+    let if2 = c .before .before .before .if2 in
+    told-here (a .language) (a .quotes) (a .text .now) (l .i) (after-slash .result) (byte-before .result) r (c .read-escape .result)
+    (after-slash .ensures) (sym (is-slashed .ensures) ∙ if2 .left) (byte-before .ensures) (c .read-escape .ensures)
+
+none : (c : tie.After-enum-told Inv-loop μ-loop)
+    → let a = c .before .before .before .before .before .before .before .before .before .before .before .before .before .before .before .args in
+    let l = c .before .before .before .before .before .before .before .before .before .before .before .before .loop in
+    Told (a .language) (a .quotes) (a .text .now) (l .i) Nothing
+none c = told (c .before .before) _ (c .enum-told .given .1)
+
+next-one : (c : tie.After-enum-told Inv-loop μ-loop)
+    → let a = c .before .before .before .before .before .before .before .before .before .before .before .before .before .before .before .args in
+    let l = c .before .before .before .before .before .before .before .before .before .before .before .before .loop in
+    Next (Rest (a .language) (a .quotes) (a .text .now) (l .i)) (take (l .i + 1 - l .i) (drop (l .i) (a .text .now))) (Rest (a .language) (a .quotes) (a .text .now) (l .i + 1))
+next-one c =
+    let a = c .before .before .before .before .before .before .before .before .before .before .before .before .before .before .before .args in
+    let l = c .before .before .before .before .before .before .before .before .before .before .before .before .loop in
+    next-keep (decodeStep (stringOf (a .language) (a .quotes))) (a .text .now) (l .i) (search needs) (none c .moves)
+
+taken : (c : tie.After-n Inv-loop μ-loop)
+    → let a = c .before .before .before .before .before .before .before .before .before .before .before .before .before .before .before .args in
+    let l = c .before .before .before .before .before .before .before .before .before .before .before .before .loop in
+    Told (a .language) (a .quotes) (a .text .now) (l .i) (Taken (c .n .given .0 .0) (c .n .given .0 .1 .0))
+taken c = told (c .before .before) _ (c .n .given .1)
+
+fits : (c : tie.After-n Inv-loop μ-loop)
+    → let l = c .before .before .before .before .before .before .before .before .before .before .before .before .loop in
+    let a = c .before .before .before .before .before .before .before .before .before .before .before .before .before .before .before .args in
+    (1 ≤ c .n .given .0 .0) × (l .i + c .n .given .0 .0 ≤ length (a .text .now)) × (length (utf8 (c .n .given .0 .1 .0)) ≤ c .n .given .0 .0) × (c .n .given .0 .1 .0 ≤ 0x10FFFF)
+fits c =
+    let a = c .before .before .before .before .before .before .before .before .before .before .before .before .before .before .before .args in
+    let l = c .before .before .before .before .before .before .before .before .before .before .before .before .loop in
+    within-rest (a .text .now) (l .i) (c .n .given .0 .0) (c .n .given .0 .1 .0) (taken c .within)
+
+next-char : (c : tie.After-n Inv-loop μ-loop)
+    → let a = c .before .before .before .before .before .before .before .before .before .before .before .before .before .before .before .args in
+    let l = c .before .before .before .before .before .before .before .before .before .before .before .before .loop in
+    Next (Rest (a .language) (a .quotes) (a .text .now) (l .i)) (utf8 (c .n .given .0 .1 .0)) (Rest (a .language) (a .quotes) (a .text .now) (l .i + c .n .given .0 .0))
+next-char c =
+    let a = c .before .before .before .before .before .before .before .before .before .before .before .before .before .before .before .args in
+    let l = c .before .before .before .before .before .before .before .before .before .before .before .before .loop in
+    next-swap (decodeStep (stringOf (a .language) (a .quotes))) (a .text .now) (l .i) (c .n .given .0 .0) (utf8 (c .n .given .0 .1 .0)) (fits c .0) (fits c .1) (taken c .moves)
 
 loop-holds : tie.Need-loop-holds Inv-loop μ-loop
-loop-holds c = (counted-start (decodeStep (stringOf (c .before .before .args .style) (c .before .before .args .quotes))) (c .before .before .args .text .now), filled-start _ _ (c .before .before .pre))
+loop-holds c =
+    let a = c .before .before .args in
+    (counted-start (decodeStep (stringOf (a .language) (a .quotes))) (a .text .now), filled-start _ _ (c .before .before .pre))
 
 shared-slice-read-if1 : tie.Need-shared-slice-read-if1 Inv-loop μ-loop
 shared-slice-read-if1 c = search needs
@@ -47,12 +156,13 @@ part-put-until-end c = search needs
 put-until-requires : tie.Need-put-until-requires Inv-loop μ-loop
 put-until-requires c κs =
     let a = c .before .before .before .before .before .before .before .args in
+    let l = c .before .before .before .before .loop in
     let t = a .text .now in
-    let l = c .before .before .before .before .loop in (
+    let i = l .i in (
       search needs,
       λ r near.
-          let next = next-quiet (decodeStep (stringOf (a .style) (a .quotes))) t (l .i) r (near .after) (near .within) (string-quiet (a .style) (a .quotes) t (l .i) r near) in
-          omega (arith, near .after, part-length t (l .i) r (near .after) (near .within), filled-room (l .inv .1) next),
+          let next = next-quiet (decodeStep (stringOf (a .language) (a .quotes))) t i r (near .after) (near .within) (string-quiet (a .language) (a .quotes) t i r near) in
+          omega (arith, near .after, part-length t i r (near .after) (near .within), filled-room (l .inv .1) next),
     )
 
 sub-at : tie.Need-sub-at Inv-loop μ-loop
@@ -60,36 +170,24 @@ sub-at c = omega (arith, c .before .before .put-until .ensures .0 .after)
 
 add-at : tie.Need-add-at Inv-loop μ-loop
 add-at c =
-    let a = c .before .before .before .before .before .before .before .before .before .before .args in
-    let t = a .text .now in
-    let l = c .before .before .before .before .before .before .before .loop in
-    let e = c .before .before .put-until .result in
-    let near = c .before .before .put-until .ensures .0 in
-    let quiet = string-quiet (a .style) (a .quotes) t (l .i) e near in
-    let next = next-quiet (decodeStep (stringOf (a .style) (a .quotes))) t (l .i) e (near .after) (near .within) quiet in
-    let size = part-length t (l .i) e (near .after) (near .within) in
-    omega (arith, size, filled-next (l .inv .1) next)
+    omega (arith, size (c .before .before), filled-next (c .before .before .before .before .before .before .before .loop .inv .1) (next-part (c .before .before)))
 
 loop-less : tie.Need-loop-less Inv-loop μ-loop
 loop-less c =
     let a = c .before .before .before .before .before .before .before .before .before .before .args in
-    let t = a .text .now in
     let l = c .before .before .before .before .before .before .before .loop in
-    let e = c .before .before .put-until .result in
-    let near = c .before .before .put-until .ensures .0 in
-    omega (arith, nearest-past t (l .i) 92 e (search needs) (c .before .before .before .before .if1 .taken) near, near .within)
+    let put-until = c .before .before .put-until in
+    let if1 = c .before .before .before .before .if1 in
+    omega (arith, nearest-past (a .text .now) (l .i) 92 (put-until .result) (search needs) (if1 .taken) (put-until .ensures .0), put-until .ensures .0 .within)
 
 loop-again : tie.Need-loop-again Inv-loop μ-loop
 loop-again c =
-    let a = c .before .before .before .before .before .before .before .before .before .before .args in
-    let t = a .text .now in
     let l = c .before .before .before .before .before .before .before .loop in
-    let e = c .before .before .put-until .result in
-    let near = c .before .before .put-until .ensures .0 in
-    let quiet = string-quiet (a .style) (a .quotes) t (l .i) e near in
-    let next = next-quiet (decodeStep (stringOf (a .style) (a .quotes))) t (l .i) e (near .after) (near .within) quiet in
-    let size = part-length t (l .i) e (near .after) (near .within) in
-    (counted-quiet (l .inv .0) e (near .after) (near .within) quiet, filled-put (l .inv .1) next (c .before .before .put-until .last .1 .1 .1 .0) (e - l .i) (sym size) (c .before .before .put-until .ensures .1))
+    let put-until = c .before .before .put-until in
+    let p = (c .before .before) in (
+      counted-quiet (l .inv .0) (put-until .result) (put-until .ensures .0 .after) (put-until .ensures .0 .within) (quiet p),
+      filled-put (l .inv .1) (next-part p) (put-until .last .1 .1 .1 .0) (put-until .result - l .i) (sym (size p)) (put-until .ensures .1),
+    )
 
 sub-after-slash : tie.Need-sub-after-slash Inv-loop μ-loop
 sub-after-slash c = search needs
@@ -119,68 +217,45 @@ part-put-end : tie.Need-part-put-end Inv-loop μ-loop
 part-put-end c = search needs
 
 put-requires : tie.Need-put-requires Inv-loop μ-loop
-put-requires c κs =
-    let a = c .before .before .before .before .before .before .before .before .before .before .before .before .args in
-    let t = a .text .now in
-    let l = c .before .before .before .before .before .before .before .before .before .loop in
-    let two = slashed-here (a .style) (a .quotes) t (l .i) (c .before .before .before .before .after-slash .result) (c .before .before .before .before .after-slash .ensures) (sym (c .before .before .before .is-slashed .ensures) ∙ c .before .before .if2 .taken) in
-    let next = next-swap (decodeStep (stringOf (a .style) (a .quotes))) t (l .i) 2 (c .before .before .before .before .after-slash .result ∷ []) (omega arith) (two .1) (two .0) in
-    filled-room (l .inv .1) next
+put-requires c κs = filled-room (c .before .before .before .before .before .before .before .before .before .loop .inv .1) (next-two (c .before .before))
 
 add-at-2 : tie.Need-add-at-2 Inv-loop μ-loop
 add-at-2 c =
-    let a = c .before .before .before .before .before .before .before .before .before .before .before .before .before .before .before .args in
-    let t = a .text .now in
-    let l = c .before .before .before .before .before .before .before .before .before .before .before .before .loop in
-    let two = slashed-here (a .style) (a .quotes) t (l .i) (c .before .before .before .before .before .before .before .after-slash .result) (c .before .before .before .before .before .before .before .after-slash .ensures) (sym (c .before .before .before .before .before .before .is-slashed .ensures) ∙ c .before .before .before .before .before .if2 .taken) in
-    let next = next-swap (decodeStep (stringOf (a .style) (a .quotes))) t (l .i) 2 (c .before .before .before .before .before .before .before .after-slash .result ∷ []) (omega arith) (two .1) (two .0) in
-    omega (arith, c .before .before .put .ensures .0, filled-next (l .inv .1) next)
+    omega (arith, c .before .before .put .ensures .0, filled-next (c .before .before .before .before .before .before .before .before .before .before .before .before .loop .inv .1) (next-two (c .before .before .before .before .before)))
 
 add-escapes : tie.Need-add-escapes Inv-loop μ-loop
 add-escapes c = search needs
 
 add-i : tie.Need-add-i Inv-loop μ-loop
-add-i c =
-    let a = c .before .before .before .before .before .before .before .before .before .before .before .before .before .before .before .args in
-    let t = a .text .now in
-    let l = c .before .before .before .before .before .before .before .before .before .before .before .before .loop in
-    let two = slashed-here (a .style) (a .quotes) t (l .i) (c .before .before .before .before .before .before .before .after-slash .result) (c .before .before .before .before .before .before .before .after-slash .ensures) (sym (c .before .before .before .before .before .before .is-slashed .ensures) ∙ c .before .before .before .before .before .if2 .taken) in
-    omega (arith, two .1)
+add-i c = omega (arith, two (c .before .before .before .before .before) .1)
 
 loop-less-2 : tie.Need-loop-less-2 Inv-loop μ-loop
-loop-less-2 c =
-    let a = c .before .before .before .before .before .before .before .before .before .before .before .before .before .before .before .args in
-    let t = a .text .now in
-    let l = c .before .before .before .before .before .before .before .before .before .before .before .before .loop in
-    let two = slashed-here (a .style) (a .quotes) t (l .i) (c .before .before .before .before .before .before .before .after-slash .result) (c .before .before .before .before .before .before .before .after-slash .ensures) (sym (c .before .before .before .before .before .before .is-slashed .ensures) ∙ c .before .before .before .before .before .if2 .taken) in
-    omega (arith, two .1)
+loop-less-2 c = omega (arith, two (c .before .before .before .before .before) .1)
 
 loop-again-2 : tie.Need-loop-again-2 Inv-loop μ-loop
 loop-again-2 c =
-    let a = c .before .before .before .before .before .before .before .before .before .before .before .before .before .before .before .args in
-    let t = a .text .now in
+    let put = c .before .before .put in
     let l = c .before .before .before .before .before .before .before .before .before .before .before .before .loop in
-    let two = slashed-here (a .style) (a .quotes) t (l .i) (c .before .before .before .before .before .before .before .after-slash .result) (c .before .before .before .before .before .before .before .after-slash .ensures) (sym (c .before .before .before .before .before .before .is-slashed .ensures) ∙ c .before .before .before .before .before .if2 .taken) in
-    let next = next-swap (decodeStep (stringOf (a .style) (a .quotes))) t (l .i) 2 (c .before .before .before .before .before .before .before .after-slash .result ∷ []) (omega arith) (two .1) (two .0) in
-    (rw (c .before .before .put .ensures .0) (counted-swap (l .inv .0) 2 (c .before .before .before .before .before .before .before .after-slash .result ∷ []) (omega arith) (two .1) (omega arith) (two .0)), filled-put (l .inv .1) next (c .before .before .put .last .1 .0) (c .before .before .put .result) (c .before .before .put .ensures .0) (c .before .before .put .ensures .1))
+    let after-slash = c .before .before .before .before .before .before .before .after-slash in
+    let p = (c .before .before .before .before .before) in (
+      rw (put .ensures .0) (counted-swap (l .inv .0) 2 (after-slash .result ∷ []) (omega arith) (two p .1) (omega arith) (two p .0)),
+      filled-put (l .inv .1) (next-two p) (put .last .1 .0) (put .result) (put .ensures .0) (put .ensures .1),
+    )
 
 byte-before-requires : tie.Need-byte-before-requires Inv-loop μ-loop
 byte-before-requires c κs = search needs
 
-sub-unslashed : tie.Need-sub-unslashed Inv-loop μ-loop
-sub-unslashed c = search needs
+sub-read-escape : tie.Need-sub-read-escape Inv-loop μ-loop
+sub-read-escape c = search needs
 
-part-unslashed-start : tie.Need-part-unslashed-start Inv-loop μ-loop
-part-unslashed-start c = search needs
+part-read-escape-start : tie.Need-part-read-escape-start Inv-loop μ-loop
+part-read-escape-start c = search needs
 
-part-unslashed-end : tie.Need-part-unslashed-end Inv-loop μ-loop
-part-unslashed-end c = search needs
+part-read-escape-end : tie.Need-part-read-escape-end Inv-loop μ-loop
+part-read-escape-end c = search needs
 
-unslashed-requires : tie.Need-unslashed-requires Inv-loop μ-loop
-unslashed-requires c κs = search needs
-
-escape-of-requires : tie.Need-escape-of-requires Inv-loop μ-loop
-escape-of-requires c κs = search needs
+read-escape-requires : tie.Need-read-escape-requires Inv-loop μ-loop
+read-escape-requires c κs = search needs
 
 enum-known-n : tie.Need-enum-known-n Inv-loop μ-loop
 enum-known-n c = search needs
@@ -211,34 +286,23 @@ part-put-end-3 c = search needs
 
 put-requires-2 : tie.Need-put-requires-2 Inv-loop μ-loop
 put-requires-2 c κs =
-    let a = c .before .before .before .before .before .before .before .before .before .before .before .before .before .before .before .before .before .before .args in
-    let t = a .text .now in
-    let l = c .before .before .before .before .before .before .before .before .before .before .before .before .before .before .before .loop in
-    let told = told-here (a .style) (a .quotes) t (l .i) (c .before .before .before .before .before .before .before .before .before .before .after-slash .result) (c .before .before .before .before .before .before .before .byte-before .result) (Nothing) _ (c .before .before .before .before .before .before .before .before .before .before .after-slash .ensures) (sym (c .before .before .before .before .before .before .before .before .before .is-slashed .ensures) ∙ c .before .before .before .before .before .before .before .before .if2 .left) (c .before .before .before .before .before .before .before .byte-before .ensures) (sym (c .before .before .enum-told .given .1) ∙ c .before .before .before .before .escape-of .ensures) (c .before .before .before .before .before .unslashed .ensures) in
-    let next = next-keep (decodeStep (stringOf (a .style) (a .quotes))) t (l .i) (search needs) (told .0) in
-    filled-room (l .inv .1) next
+    filled-room (c .before .before .before .before .before .before .before .before .before .before .before .before .before .before .loop .inv .1) (next-one (c .before .before))
 
 add-at-3 : tie.Need-add-at-3 Inv-loop μ-loop
 add-at-3 c =
-    let a = c .before .before .before .before .before .before .before .before .before .before .before .before .before .before .before .before .before .before .before .before .before .args in
-    let t = a .text .now in
-    let l = c .before .before .before .before .before .before .before .before .before .before .before .before .before .before .before .before .before .before .loop in
-    let told = told-here (a .style) (a .quotes) t (l .i) (c .before .before .before .before .before .before .before .before .before .before .before .before .before .after-slash .result) (c .before .before .before .before .before .before .before .before .before .before .byte-before .result) (Nothing) _ (c .before .before .before .before .before .before .before .before .before .before .before .before .before .after-slash .ensures) (sym (c .before .before .before .before .before .before .before .before .before .before .before .before .is-slashed .ensures) ∙ c .before .before .before .before .before .before .before .before .before .before .before .if2 .left) (c .before .before .before .before .before .before .before .before .before .before .byte-before .ensures) (sym (c .before .before .before .before .before .enum-told .given .1) ∙ c .before .before .before .before .before .before .before .escape-of .ensures) (c .before .before .before .before .before .before .before .before .unslashed .ensures) in
-    let next = next-keep (decodeStep (stringOf (a .style) (a .quotes))) t (l .i) (search needs) (told .0) in
-    omega (arith, c .before .before .put2 .ensures .0, filled-next (l .inv .1) next)
+    omega (arith, c .before .before .put2 .ensures .0, filled-next (c .before .before .before .before .before .before .before .before .before .before .before .before .before .before .before .before .before .loop .inv .1) (next-one (c .before .before .before .before .before)))
 
 loop-less-3 : tie.Need-loop-less-3 Inv-loop μ-loop
 loop-less-3 c = search needs
 
 loop-again-3 : tie.Need-loop-again-3 Inv-loop μ-loop
 loop-again-3 c =
-    let a = c .before .before .before .before .before .before .before .before .before .before .before .before .before .before .before .before .before .before .before .before .before .args in
-    let t = a .text .now in
-    let l = c .before .before .before .before .before .before .before .before .before .before .before .before .before .before .before .before .before .before .loop in
-    let told = told-here (a .style) (a .quotes) t (l .i) (c .before .before .before .before .before .before .before .before .before .before .before .before .before .after-slash .result) (c .before .before .before .before .before .before .before .before .before .before .byte-before .result) (Nothing) _ (c .before .before .before .before .before .before .before .before .before .before .before .before .before .after-slash .ensures) (sym (c .before .before .before .before .before .before .before .before .before .before .before .before .is-slashed .ensures) ∙ c .before .before .before .before .before .before .before .before .before .before .before .if2 .left) (c .before .before .before .before .before .before .before .before .before .before .byte-before .ensures) (sym (c .before .before .before .before .before .enum-told .given .1) ∙ c .before .before .before .before .before .before .before .escape-of .ensures) (c .before .before .before .before .before .before .before .before .unslashed .ensures) in
-    let next = next-keep (decodeStep (stringOf (a .style) (a .quotes))) t (l .i) (search needs) (told .0) in
-    let one : c .before .before .put2 .result ≡ 1 = omega (arith, c .before .before .put2 .ensures .0, part-length t (l .i) (l .i + 1) (omega arith) (search needs)) in
-    (rw one (counted-keep (l .inv .0) (search needs) (told .0)), filled-put (l .inv .1) next (c .before .before .put2 .last .1 .0) (c .before .before .put2 .result) (c .before .before .put2 .ensures .0) (c .before .before .put2 .ensures .1))
+    let put2 = c .before .before .put2 in
+    let a = c .before .before .before .before .before .before .before .before .before .before .before .before .before .before .before .before .before .before .before .before .args in
+    let l = c .before .before .before .before .before .before .before .before .before .before .before .before .before .before .before .before .before .loop in
+    let p = (c .before .before .before .before .before) in
+    let one : put2 .result ≡ 1 = omega (arith, put2 .ensures .0, part-length (a .text .now) (l .i) (l .i + 1) (omega arith) (search needs)) in
+    (rw one (counted-keep (l .inv .0) (search needs) (none p .moves)), filled-put (l .inv .1) (next-one p) (put2 .last .1 .0) (put2 .result) (put2 .ensures .0) (put2 .ensures .1))
 
 sub-put-char : tie.Need-sub-put-char Inv-loop μ-loop
 sub-put-char c = search needs
@@ -251,64 +315,31 @@ part-put-char-end c = search needs
 
 put-char-requires : tie.Need-put-char-requires Inv-loop μ-loop
 put-char-requires c κs =
-    let a = c .before .before .before .before .before .before .before .before .before .before .before .before .before .before .before .before .before .before .args in
-    let t = a .text .now in
-    let l = c .before .before .before .before .before .before .before .before .before .before .before .before .before .before .before .loop in
-    let n = c .before .before .n .given .0 .0 in
-    let b = c .before .before .n .given .0 .1 .0 in
-    let told = told-here (a .style) (a .quotes) t (l .i) (c .before .before .before .before .before .before .before .before .before .before .after-slash .result) (c .before .before .before .before .before .before .before .byte-before .result) (Taken n b) _ (c .before .before .before .before .before .before .before .before .before .before .after-slash .ensures) (sym (c .before .before .before .before .before .before .before .before .before .is-slashed .ensures) ∙ c .before .before .before .before .before .before .before .before .if2 .left) (c .before .before .before .before .before .before .before .byte-before .ensures) (sym (c .before .before .n .given .1) ∙ c .before .before .before .before .escape-of .ensures) (c .before .before .before .before .before .unslashed .ensures) in
-    let w = within-rest t (l .i) n b (told .1) in
-    let next = next-swap (decodeStep (stringOf (a .style) (a .quotes))) t (l .i) n (utf8 b) (w .0) (w .1) (told .0) in
-    (omega (arith, w .3), filled-room (l .inv .1) next)
+    (fits (c .before .before) .3, filled-room (c .before .before .before .before .before .before .before .before .before .before .before .before .before .before .loop .inv .1) (next-char (c .before .before)))
 
 add-at-4 : tie.Need-add-at-4 Inv-loop μ-loop
 add-at-4 c =
-    let a = c .before .before .before .before .before .before .before .before .before .before .before .before .before .before .before .before .before .before .before .before .before .args in
-    let t = a .text .now in
-    let l = c .before .before .before .before .before .before .before .before .before .before .before .before .before .before .before .before .before .before .loop in
-    let n = c .before .before .before .before .before .n .given .0 .0 in
-    let b = c .before .before .before .before .before .n .given .0 .1 .0 in
-    let told = told-here (a .style) (a .quotes) t (l .i) (c .before .before .before .before .before .before .before .before .before .before .before .before .before .after-slash .result) (c .before .before .before .before .before .before .before .before .before .before .byte-before .result) (Taken n b) _ (c .before .before .before .before .before .before .before .before .before .before .before .before .before .after-slash .ensures) (sym (c .before .before .before .before .before .before .before .before .before .before .before .before .is-slashed .ensures) ∙ c .before .before .before .before .before .before .before .before .before .before .before .if2 .left) (c .before .before .before .before .before .before .before .before .before .before .byte-before .ensures) (sym (c .before .before .before .before .before .n .given .1) ∙ c .before .before .before .before .before .before .before .escape-of .ensures) (c .before .before .before .before .before .before .before .before .unslashed .ensures) in
-    let w = within-rest t (l .i) n b (told .1) in
-    let next = next-swap (decodeStep (stringOf (a .style) (a .quotes))) t (l .i) n (utf8 b) (w .0) (w .1) (told .0) in
-    omega (arith, c .before .before .put-char .ensures .0, filled-next (l .inv .1) next)
+    omega (arith, c .before .before .put-char .ensures .0, filled-next (c .before .before .before .before .before .before .before .before .before .before .before .before .before .before .before .before .before .loop .inv .1) (next-char (c .before .before .before .before .before)))
 
 add-escapes-2 : tie.Need-add-escapes-2 Inv-loop μ-loop
 add-escapes-2 c = search needs
 
 add-i-2 : tie.Need-add-i-2 Inv-loop μ-loop
-add-i-2 c =
-    let a = c .before .before .before .before .before .before .before .before .before .before .before .before .before .before .before .before .before .before .before .before .before .args in
-    let t = a .text .now in
-    let l = c .before .before .before .before .before .before .before .before .before .before .before .before .before .before .before .before .before .before .loop in
-    let n = c .before .before .before .before .before .n .given .0 .0 in
-    let b = c .before .before .before .before .before .n .given .0 .1 .0 in
-    let told = told-here (a .style) (a .quotes) t (l .i) (c .before .before .before .before .before .before .before .before .before .before .before .before .before .after-slash .result) (c .before .before .before .before .before .before .before .before .before .before .byte-before .result) (Taken n b) _ (c .before .before .before .before .before .before .before .before .before .before .before .before .before .after-slash .ensures) (sym (c .before .before .before .before .before .before .before .before .before .before .before .before .is-slashed .ensures) ∙ c .before .before .before .before .before .before .before .before .before .before .before .if2 .left) (c .before .before .before .before .before .before .before .before .before .before .byte-before .ensures) (sym (c .before .before .before .before .before .n .given .1) ∙ c .before .before .before .before .before .before .before .escape-of .ensures) (c .before .before .before .before .before .before .before .before .unslashed .ensures) in
-    let w = within-rest t (l .i) n b (told .1) in
-    omega (arith, w .1)
+add-i-2 c = omega (arith, fits (c .before .before .before .before .before) .1)
 
 loop-less-4 : tie.Need-loop-less-4 Inv-loop μ-loop
-loop-less-4 c =
-    let a = c .before .before .before .before .before .before .before .before .before .before .before .before .before .before .before .before .before .before .before .before .before .args in
-    let t = a .text .now in
-    let l = c .before .before .before .before .before .before .before .before .before .before .before .before .before .before .before .before .before .before .loop in
-    let n = c .before .before .before .before .before .n .given .0 .0 in
-    let b = c .before .before .before .before .before .n .given .0 .1 .0 in
-    let told = told-here (a .style) (a .quotes) t (l .i) (c .before .before .before .before .before .before .before .before .before .before .before .before .before .after-slash .result) (c .before .before .before .before .before .before .before .before .before .before .byte-before .result) (Taken n b) _ (c .before .before .before .before .before .before .before .before .before .before .before .before .before .after-slash .ensures) (sym (c .before .before .before .before .before .before .before .before .before .before .before .before .is-slashed .ensures) ∙ c .before .before .before .before .before .before .before .before .before .before .before .if2 .left) (c .before .before .before .before .before .before .before .before .before .before .byte-before .ensures) (sym (c .before .before .before .before .before .n .given .1) ∙ c .before .before .before .before .before .before .before .escape-of .ensures) (c .before .before .before .before .before .before .before .before .unslashed .ensures) in
-    let w = within-rest t (l .i) n b (told .1) in
-    omega (arith, w .0, w .1)
+loop-less-4 c = let w = fits (c .before .before .before .before .before) in omega (arith, w .0, w .1)
 
 loop-again-4 : tie.Need-loop-again-4 Inv-loop μ-loop
 loop-again-4 c =
-    let a = c .before .before .before .before .before .before .before .before .before .before .before .before .before .before .before .before .before .before .before .before .before .args in
-    let t = a .text .now in
-    let l = c .before .before .before .before .before .before .before .before .before .before .before .before .before .before .before .before .before .before .loop in
-    let n = c .before .before .before .before .before .n .given .0 .0 in
-    let b = c .before .before .before .before .before .n .given .0 .1 .0 in
-    let told = told-here (a .style) (a .quotes) t (l .i) (c .before .before .before .before .before .before .before .before .before .before .before .before .before .after-slash .result) (c .before .before .before .before .before .before .before .before .before .before .byte-before .result) (Taken n b) _ (c .before .before .before .before .before .before .before .before .before .before .before .before .before .after-slash .ensures) (sym (c .before .before .before .before .before .before .before .before .before .before .before .before .is-slashed .ensures) ∙ c .before .before .before .before .before .before .before .before .before .before .before .if2 .left) (c .before .before .before .before .before .before .before .before .before .before .byte-before .ensures) (sym (c .before .before .before .before .before .n .given .1) ∙ c .before .before .before .before .before .before .before .escape-of .ensures) (c .before .before .before .before .before .before .before .before .unslashed .ensures) in
-    let w = within-rest t (l .i) n b (told .1) in
-    let next = next-swap (decodeStep (stringOf (a .style) (a .quotes))) t (l .i) n (utf8 b) (w .0) (w .1) (told .0) in
-    (rw (c .before .before .put-char .ensures .0) (counted-swap (l .inv .0) n (utf8 b) (w .0) (w .1) (w .2) (told .0)), filled-put (l .inv .1) next (c .before .before .put-char .last .1 .0) (c .before .before .put-char .result) (c .before .before .put-char .ensures .0) (c .before .before .put-char .ensures .1))
+    let put-char = c .before .before .put-char in
+    let l = c .before .before .before .before .before .before .before .before .before .before .before .before .before .before .before .before .before .loop in
+    let n = c .before .before .before .before .before .n in
+    let p = (c .before .before .before .before .before) in
+    let w = fits p in (
+      rw (put-char .ensures .0) (counted-swap (l .inv .0) (n .given .0 .0) (utf8 (n .given .0 .1 .0)) (w .0) (w .1) (w .2) (taken p .moves)),
+      filled-put (l .inv .1) (next-char p) (put-char .last .1 .0) (put-char .result) (put-char .ensures .0) (put-char .ensures .1),
+    )
 
 same-length : tie.Need-same-length Inv-loop μ-loop
 same-length c = search needs
@@ -316,11 +347,9 @@ same-length c = search needs
 returns : tie.Need-returns Inv-loop μ-loop
 returns c =
     let a = c .before .before .before .before .args in
-    let t = a .text .now in
     let l = c .before .loop in
-    let none = from-end (decodeStep (stringOf (a .style) (a .quotes))) t (l .i) (omega arith) in
-    let f = filled-all (l .inv .1) (ap result none) in
-    (f .0, ap (λ (k : ℕ). eqb k 0) (counted-end (l .inv .0) none .1), f .1)
+    let none = from-end (decodeStep (stringOf (a .language) (a .quotes))) (a .text .now) (l .i) (omega arith) in
+    (counted-measures (l .inv .0) none, filled-all (l .inv .1) (ap result none) .1)
 
 pub write-spec : {M : Type 1} → statement M
 write-spec =
@@ -354,11 +383,10 @@ write-spec =
     loop-less-2
     loop-again-2
     byte-before-requires
-    sub-unslashed
-    part-unslashed-start
-    part-unslashed-end
-    unslashed-requires
-    escape-of-requires
+    sub-read-escape
+    part-read-escape-start
+    part-read-escape-end
+    read-escape-requires
     enum-known-n
     enum-told
     add-past

@@ -9,18 +9,18 @@ use lib.ListN.{length, drop}
 use Rattle.rules.specs.Operations.{encodeOf}
 use Rattle.rules.proofs.Growth.{encode-six}
 use Rattle.base.proofs.Part.{part-length}
-use Rattle.encode_strings.specs.Strings.{contextIn}
+use Rattle.rules.specs.Contexts.{stringOf}
 use Rattle.encode_strings.proofs.Steps.{encode-end}
 use Rattle.encode_strings.proofs.Cuts.{next-length}
 use Rattle.encode_strings.proofs.measure.Statement.{statement}
 use Rattle.encode_strings.proofs.measure.Tie as tie
 
 abbrev Inv-loop : tie.InvT-loop
-Inv-loop strings text n₀ i₀ n i =
-    (i ≤ length text) × (n + length (encodeOf (contextIn strings) (drop i text)) ≡ length (encodeOf (contextIn strings) text))
+Inv-loop language quotes text n₀ i₀ n i =
+    (i ≤ length text) × (n + length (encodeOf (stringOf language quotes) (drop i text)) ≡ length (encodeOf (stringOf language quotes) text))
 
 abbrev μ-loop : tie.MeasureT-loop
-μ-loop strings text n₀ i₀ n i = length text - i
+μ-loop language quotes text n₀ i₀ n i = length text - i
 
 loop-holds : tie.Need-loop-holds Inv-loop μ-loop
 loop-holds c = (search needs, omega arith)
@@ -58,8 +58,8 @@ add-n c =
     let l = c₁ .loop in
     let e = c .before .before .cut .ensures in
     let p = part-length t (l .i) (c .before .before .cut .result) (search needs) (e .1) in
-    let s = next-length (a .strings) t (l .i) (c .before .before .cut .result) (search needs) (e .1) (e .3) in
-    let m = encode-six (contextIn (a .strings)) t in
+    let s = next-length (a .language) (a .quotes) t (l .i) (c .before .before .cut .result) (search needs) (e .1) (e .3) in
+    let m = encode-six (stringOf (a .language) (a .quotes)) t in
     omega (arith, c .gained .ensures)
 
 add-n-2 : tie.Need-add-n-2 Inv-loop μ-loop
@@ -70,8 +70,8 @@ add-n-2 c =
     let l = c₁ .loop in
     let e = c .before .before .cut .ensures in
     let p = part-length t (l .i) (c .before .before .cut .result) (search needs) (e .1) in
-    let s = next-length (a .strings) t (l .i) (c .before .before .cut .result) (search needs) (e .1) (e .3) in
-    let m = encode-six (contextIn (a .strings)) t in
+    let s = next-length (a .language) (a .quotes) t (l .i) (c .before .before .cut .result) (search needs) (e .1) (e .3) in
+    let m = encode-six (stringOf (a .language) (a .quotes)) t in
     omega (arith, c .gained .ensures)
 
 loop-less : tie.Need-loop-less Inv-loop μ-loop
@@ -85,15 +85,15 @@ loop-again c =
     let l = c₁ .loop in
     let e = c .before .before .cut .ensures in
     let p = part-length t (l .i) (c .before .before .cut .result) (search needs) (e .1) in
-    let s = next-length (a .strings) t (l .i) (c .before .before .cut .result) (search needs) (e .1) (e .3) in
-    let m = encode-six (contextIn (a .strings)) t in
+    let s = next-length (a .language) (a .quotes) t (l .i) (c .before .before .cut .result) (search needs) (e .1) (e .3) in
+    let m = encode-six (stringOf (a .language) (a .quotes)) t in
     (e .1, omega (arith, c .gained .ensures))
 
 returns : tie.Need-returns Inv-loop μ-loop
 returns c =
     let a = c .before .before .before .args in
-    let m = encode-six (contextIn (a .strings)) (a .text .now) in
-    let z = rw (encode-end (contextIn (a .strings)) (a .text .now) (c .before .loop .i) (c .loop-test .left)) at (c .before .loop .inv .1) in
+    let m = encode-six (stringOf (a .language) (a .quotes)) (a .text .now) in
+    let z = rw (encode-end (stringOf (a .language) (a .quotes)) (a .text .now) (c .before .loop .i) (c .loop-test .left)) at (c .before .loop .inv .1) in
     (omega (arith, z), omega (arith, z))
 
 pub measure-spec : {M : Type 1} → statement M

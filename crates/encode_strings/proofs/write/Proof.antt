@@ -9,18 +9,19 @@ use lib.ListN.{length, drop}
 use Rattle.rules.specs.Operations.{encodeOf}
 use Rattle.base.proofs.Part.{part-length}
 use Rattle.base.proofs.Filled.{Filled, filled-start, filled-next, filled-room, filled-put, filled-end}
-use Rattle.encode_strings.specs.Strings.{contextIn, escapeFlags}
+use Rattle.encode_strings.specs.Strings.{escapeFlags}
+use Rattle.rules.specs.Contexts.{stringOf}
 use Rattle.encode_strings.proofs.Steps.{encode-end}
 use Rattle.encode_strings.proofs.Cuts.{next-part}
 use Rattle.encode_strings.proofs.write.Statement.{statement}
 use Rattle.encode_strings.proofs.write.Tie as tie
 
 abbrev Inv-loop : tie.InvT-loop
-Inv-loop strings text output₀ flags at₀ i₀ output at i =
-    (i ≤ length text) × Filled (encodeOf (contextIn strings) text) (encodeOf (contextIn strings) (drop i text)) output₀ output at
+Inv-loop language quotes text output₀ flags at₀ i₀ output at i =
+    (i ≤ length text) × Filled (encodeOf (stringOf language quotes) text) (encodeOf (stringOf language quotes) (drop i text)) output₀ output at
 
 abbrev μ-loop : tie.MeasureT-loop
-μ-loop strings text output₀ flags at₀ i₀ output at i = length text - i
+μ-loop language quotes text output₀ flags at₀ i₀ output at i = length text - i
 
 loop-holds : tie.Need-loop-holds Inv-loop μ-loop
 loop-holds c = (search needs, filled-start _ _ (c .before .before .pre))
@@ -55,7 +56,7 @@ write-part-requires c κs =
     let t = a .text .now in
     let l = c₁ .before .before .loop in
     let e = c₁ .cut .ensures in
-    let x = next-part (a .strings) t (l .i) (c₁ .cut .result) (search needs) (e .1) (e .3) in
+    let x = next-part (a .language) (a .quotes) t (l .i) (c₁ .cut .result) (search needs) (e .1) (e .3) in
     (omega (arith, part-length t (l .i) (c₁ .cut .result) (search needs) (e .1), e .2), refl, filled-room (l .inv .1) x)
 
 add-at : tie.Need-add-at Inv-loop μ-loop
@@ -66,7 +67,7 @@ add-at c =
     let t = a .text .now in
     let l = c₁ .before .before .loop in
     let e = c₁ .cut .ensures in
-    let x = next-part (a .strings) t (l .i) (c₁ .cut .result) (search needs) (e .1) (e .3) in
+    let x = next-part (a .language) (a .quotes) t (l .i) (c₁ .cut .result) (search needs) (e .1) (e .3) in
     omega (arith, c .before .before .write-part .ensures .0, filled-next (l .inv .1) x)
 
 loop-less : tie.Need-loop-less Inv-loop μ-loop
@@ -82,9 +83,9 @@ loop-again c =
     let t = a .text .now in
     let l = c₁ .before .before .loop in
     let e = c₁ .cut .ensures in
-    let x = next-part (a .strings) t (l .i) (c₁ .cut .result) (search needs) (e .1) (e .3) in
+    let x = next-part (a .language) (a .quotes) t (l .i) (c₁ .cut .result) (search needs) (e .1) (e .3) in
     let p = c .before .before .write-part in
-    (e .1, filled-put (l .inv .1) x (p .last .1 .1 .1 .0) (p .result) (p .ensures .0) (p .ensures .1))
+    (e .1, filled-put (l .inv .1) x (p .last .1 .1 .1 .1 .0) (p .result) (p .ensures .0) (p .ensures .1))
 
 same-length : tie.Need-same-length Inv-loop μ-loop
 same-length c = search needs
@@ -93,7 +94,7 @@ returns : tie.Need-returns Inv-loop μ-loop
 returns c =
     let c₁ = c .before .before .before .before in
     let a = c₁ .args in
-    let f = rw (encode-end (contextIn (a .strings)) (a .text .now) (c .before .loop .i) (c .loop-test .left)) at (c .before .loop .inv .1) in
+    let f = rw (encode-end (stringOf (a .language) (a .quotes)) (a .text .now) (c .before .loop .i) (c .loop-test .left)) at (c .before .loop .inv .1) in
     (omega (arith, f .sum), filled-end f)
 
 pub write-spec : {M : Type 1} → statement M

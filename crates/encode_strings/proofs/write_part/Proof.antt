@@ -2,7 +2,7 @@
 -- Assumes nothing.
 use native.Mathlib.Omega.{arith}
 use borrow.Author.Needs.{needs}
-use Rattle.encode_strings.specs.Strings.{contextIn}
+use Rattle.rules.specs.Contexts.{stringOf}
 use Rattle.encode_strings.proofs.Steps.{no-growth}
 use Rattle.encode_strings.proofs.write_part.Statement.{statement}
 use Rattle.encode_strings.proofs.write_part.Tie as tie
@@ -23,7 +23,7 @@ returns c =
     let c₁ = c .before .before .before .before in
     let c₂ = c₁ .before .before .before .before in
     let a = c₂ .args in
-    let w = no-growth (contextIn (a .strings)) (a .part .now) (c₁ .before .gained .result) (c₁ .before .gained .ensures) (c₁ .if1 .taken) in
+    let w = no-growth (stringOf (a .language) (a .quotes)) (a .part .now) (c₁ .before .gained .result) (c₁ .before .gained .ensures) (c₁ .if1 .taken) in
     rw w (c .before .before .put .ensures)
 
 write-bytes-requires : tie.Need-write-bytes-requires

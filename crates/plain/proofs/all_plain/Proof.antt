@@ -23,8 +23,8 @@ sub-last c = search needs
 loop-holds : tie.Need-loop-holds Inv-loop μ-loop
 loop-holds c = (omega arith, search needs, free-start _ 0)
 
-next-requires : tie.Need-next-requires Inv-loop μ-loop
-next-requires c κs = search needs
+min-requires : tie.Need-min-requires Inv-loop μ-loop
+min-requires c κs = search needs
 
 has-special-requires : tie.Need-has-special-requires Inv-loop μ-loop
 has-special-requires c κs = search needs
@@ -37,7 +37,7 @@ add-done c = search needs
 
 loop-less : tie.Need-loop-less Inv-loop μ-loop
 loop-less c =
-    let n = c .before .before .next in
+    let n = c .before .before .min in
     let size = c .before .before .before .before .before .before .args .size in
     omega (arith, n .ensures .2 size (omega arith) (omega arith))
 
@@ -45,7 +45,7 @@ loop-again : tie.Need-loop-again Inv-loop μ-loop
 loop-again c =
     let a = c .before .before .before .before .before .before .args in
     let l = c .before .before .before .before .loop in
-    let n = c .before .before .next in
+    let n = c .before .before .min in
     (search needs, omega (arith, n .ensures .1), free-join (specialAt (a .unquoted) (a .text .now)) 0 (l .done) (n .result + a .size) (l .inv .2) (λ k h m. c .before .has-special .ensures (c .if1 .left) k (omega (arith, n .ensures .0)) m))
 
 returns-2 : tie.Need-returns-2 Inv-loop μ-loop
@@ -59,7 +59,7 @@ all-plain-spec =
     μ-loop
     sub-last
     loop-holds
-    next-requires
+    min-requires
     has-special-requires
     returns
     add-done

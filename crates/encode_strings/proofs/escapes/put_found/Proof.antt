@@ -1,15 +1,17 @@
--- `encode_strings::escapes::put_found` meets its contract: one case for each replacement, each a copy of the bytes that it gives.
+-- `put_found` meets its contract: one case for each replacement, each a copy of the bytes that it gives.
 -- Assumes nothing.
 use borrow.Author.Needs.{needs}
 use native.Mathlib.Omega.{arith}
 use lib.ListN.{getD}
-use Rattle.encode_strings.proofs.Finds.{held-some, kept-gives, separator-value}
+use Rattle.encode_strings.proofs.Finds.{held-some, separator-value}
 use Rattle.encode_strings.proofs.escapes.put_found.Statement.{statement}
 use Rattle.encode_strings.proofs.escapes.put_found.Tie as tie
 
 shared-slice-read-b : tie.Need-shared-slice-read-b
 shared-slice-read-b c =
-    let a = c .before .before .before .args in held-some (a .found) (a .rest .now) (c .before .before .before .pre .0)
+    let a = c .before .before .before .args in
+    let pre = c .before .before .before .pre in
+    held-some (a .found) (a .rest .now) (pre .0)
 
 enum-told : tie.Need-enum-told
 enum-told c = search needs
@@ -18,30 +20,22 @@ slice-aggregate-put : tie.Need-slice-aggregate-put
 slice-aggregate-put c = search needs
 
 put-requires : tie.Need-put-requires
-put-requires c κs =
-    let c₁ = c .before .before .before .before .before .before .before in
-    rw (c .before .before .enum-told .given .1) at (c₁ .pre .1)
+put-requires c κs = rw (c .before .before .enum-told .given .1) at (c .before .before .before .before .before .before .before .pre .1)
 
 enum-told-2 : tie.Need-enum-told-2
 enum-told-2 c = search needs
 
 put-hex-requires : tie.Need-put-hex-requires
-put-hex-requires c κs =
-    let c₁ = c .before .before .before .before .before .before in
-    rw (c .before .enum-told2 .given .1) at (c₁ .pre .1)
+put-hex-requires c κs = rw (c .before .enum-told2 .given .1) at (c .before .before .before .before .before .before .pre .1)
 
 enum-told-3 : tie.Need-enum-told-3
 enum-told-3 c = search needs
 
 shared-slice-read-t19 : tie.Need-shared-slice-read-t19
-shared-slice-read-t19 c =
-    let c₁ = c .before .before .before .before .before .before in
-    let h = rw (c .before .enum-told3 .given .1) at (c₁ .pre .0) in search needs
+shared-slice-read-t19 c = let h = rw (c .before .enum-told3 .given .1) at (c .before .before .before .before .before .before .pre .0) in search needs
 
 sub-t20 : tie.Need-sub-t20
-sub-t20 c =
-    let c₁ = c .before .before .before .before .before .before in
-    let h = rw (c .before .enum-told3 .given .1) at (c₁ .pre .0) in omega (arith, h .1)
+sub-t20 c = let h = rw (c .before .enum-told3 .given .1) at (c .before .before .before .before .before .before .pre .0) in omega (arith, h .1)
 
 slice-aggregate-put-2 : tie.Need-slice-aggregate-put-2
 slice-aggregate-put-2 c = search needs
@@ -60,37 +54,19 @@ slice-aggregate-put-3 : tie.Need-slice-aggregate-put-3
 slice-aggregate-put-3 c = search needs
 
 put-requires-3 : tie.Need-put-requires-3
-put-requires-3 c κs =
-    let c₁ = c .before .before .before .before .before .before .before in
-    rw (c .before .before .enum-told4 .given .1) at (c₁ .pre .1)
-
-enum-told-5 : tie.Need-enum-told-5
-enum-told-5 c = search needs
-
-slice-aggregate-put-4 : tie.Need-slice-aggregate-put-4
-slice-aggregate-put-4 c = search needs
-
-put-requires-4 : tie.Need-put-requires-4
-put-requires-4 c κs =
-    let c₁ = c .before .before .before .before .before .before .before in
-    let a = c₁ .args in
-    rw (c .before .before .enum-told5 .given .1, kept-gives (a .rest .now) (held-some (a .found) (a .rest .now) (c₁ .pre .0))) at (c₁ .pre .1)
+put-requires-3 c κs = rw (c .before .before .enum-told4 .given .1) at (c .before .before .before .before .before .before .before .pre .1)
 
 same-length : tie.Need-same-length
 same-length c = search needs
 
 returns : tie.Need-returns
-returns c =
-    let c₁ = c .before .before .before .before .before in
-    rw (c₁ .enum-told .given .1) (c .before .before .put .ensures)
+returns c = rw (c .before .before .before .before .before .enum-told .given .1) (c .before .before .put .ensures)
 
 same-length-2 : tie.Need-same-length-2
 same-length-2 c = search needs
 
 returns-2 : tie.Need-returns-2
-returns-2 c =
-    let c₁ = c .before .before .before .before in
-    rw (c₁ .enum-told2 .given .1) (c .before .before .put-hex .ensures)
+returns-2 c = rw (c .before .before .before .before .enum-told2 .given .1) (c .before .before .put-hex .ensures)
 
 same-length-3 : tie.Need-same-length-3
 same-length-3 c = search needs
@@ -106,19 +82,7 @@ same-length-4 : tie.Need-same-length-4
 same-length-4 c = search needs
 
 returns-4 : tie.Need-returns-4
-returns-4 c =
-    let c₁ = c .before .before .before .before .before in
-    rw (c₁ .enum-told4 .given .1) (c .before .before .put3 .ensures)
-
-same-length-5 : tie.Need-same-length-5
-same-length-5 c = search needs
-
-returns-5 : tie.Need-returns-5
-returns-5 c =
-    let c₁ = c .before .before .before .before .before in
-    let c₂ = c₁ .before .before .before .before .before in
-    let a = c₂ .args in
-    rw (c₁ .enum-told5 .given .1, kept-gives (a .rest .now) (held-some (a .found) (a .rest .now) (c₂ .pre .0))) (c .before .before .put4 .ensures)
+returns-4 c = rw (c .before .before .before .before .before .enum-told4 .given .1) (c .before .before .put3 .ensures)
 
 pub put-found-spec : {M : Type 1} → statement M
 put-found-spec =
@@ -138,9 +102,6 @@ put-found-spec =
     enum-told-4
     slice-aggregate-put-3
     put-requires-3
-    enum-told-5
-    slice-aggregate-put-4
-    put-requires-4
     same-length
     returns
     same-length-2
@@ -148,6 +109,4 @@ put-found-spec =
     same-length-3
     returns-3
     same-length-4
-    returns-4
-    same-length-5
-    returns-5)
+    returns-4)

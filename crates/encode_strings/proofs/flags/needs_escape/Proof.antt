@@ -14,7 +14,7 @@ mask-of-requires c κs = search needs
 returns : tie.Need-returns
 returns c =
     let a = c .before .before .args in
-    rw (c .before .before .pre, c .mask-of .ensures) (flags-right (a .strings) (a .b) (c .before .before .fits .b .fits))
+    rw (c .before .before .pre, c .mask-of .ensures) (flags-right (a .language) (a .quotes) (a .b) (c .before .before .fits .b .fits))
 
 pub needs-escape-spec : {M : Type 1} → statement M
 needs-escape-spec = tie.close (tie.spec element-copy-out-result mask-of-requires returns)

@@ -2,9 +2,9 @@
 -- Assumes nothing.
 use mathlib.Core.Path.{sym, _∙_}
 use lib.ListN.{drop}
+use borrow.Author.Needs.{needs}
 use Rattle.base.proofs.Filled.{lent-rest}
 use Rattle.reader.proofs.Narrow.{html-kept, html-dropped}
-use borrow.Author.Needs.{needs}
 use Rattle.reader.proofs.units.html_unit.Statement.{statement}
 use Rattle.reader.proofs.units.html_unit.Tie as tie
 
@@ -29,14 +29,16 @@ is-in-requires c κs = search needs
 returns : tie.Need-returns
 returns c =
     let a = c .before .before .before .before .before .args in
-    let r = c .before .before .reference in
-    html-kept (a .h) (drop (a .at) (a .text .now)) (r .result) (r .ensures .1) (rw (← c .before .before .before .before .before .pre .0) (sym (c .before .is-in .ensures) ∙ c .if1 .taken)) (rw lent-rest at (r .ensures .0))
+    let pre = c .before .before .before .before .before .pre in
+    let reference = c .before .before .reference in
+    html-kept (a .h) (drop (a .at) (a .text .now)) (a .set .now) (pre .0) (reference .result) (reference .ensures .1) (sym (c .before .is-in .ensures) ∙ c .if1 .taken) (rw lent-rest at (reference .ensures .0))
 
 returns-2 : tie.Need-returns-2
 returns-2 c =
     let a = c .before .before .before .before .before .args in
-    let r = c .before .before .reference in
-    html-dropped (a .h) (drop (a .at) (a .text .now)) (r .result) (r .ensures .1) (rw (← c .before .before .before .before .before .pre .0) (sym (c .before .is-in .ensures) ∙ c .if1 .left)) (rw lent-rest at (r .ensures .0))
+    let pre = c .before .before .before .before .before .pre in
+    let reference = c .before .before .reference in
+    html-dropped (a .h) (drop (a .at) (a .text .now)) (a .set .now) (pre .0) (reference .result) (reference .ensures .1) (sym (c .before .is-in .ensures) ∙ c .if1 .left) (rw lent-rest at (reference .ensures .0))
 
 pub html-unit-spec : {M : Type 1} → statement M
 html-unit-spec =

@@ -2,8 +2,8 @@
 -- Assumes nothing.
 use mathlib.Core.Path.{sym, _∙_}
 use native.Mathlib.Omega.{arith}
-use Rattle.reader.proofs.Narrow.{other-small, finds-other, finds-no-other}
 use borrow.Author.Needs.{needs}
+use Rattle.reader.proofs.Narrow.{other-small, finds-other, finds-no-other}
 use Rattle.reader.proofs.units.numbered.Statement.{statement}
 use Rattle.reader.proofs.units.numbered.Tie as tie
 
@@ -19,17 +19,22 @@ hex-between-requires c κs = search needs
 is-other-requires : tie.Need-is-other-requires
 is-other-requires c κs = search needs
 
-add-result : tie.Need-add-result
-add-result c = omega (arith, other-small (c .before .before .hex-between .result) (sym (c .before .is-other .ensures) ∙ c .if1 .taken))
+packed-requires : tie.Need-packed-requires
+packed-requires c κs = (search needs, omega (arith, other-small (c .before .before .hex-between .result) (sym (c .before .is-other .ensures) ∙ c .if1 .taken)))
 
 returns : tie.Need-returns
 returns c =
-    let v = c .before .before .hex-between in
-    let e = sym (c .before .is-other .ensures) ∙ c .if1 .taken in
-    (finds-other (c .before .before .before .before .before .before .args .rest .now) (v .result) (v .ensures .0) e, omega (arith, other-small (v .result) e))
+    let hex-between = c .before .before .before .hex-between in
+    let a = c .before .before .before .before .before .before .before .args in
+    let v = hex-between in
+    let e = sym (c .before .before .is-other .ensures) ∙ c .before .if1 .taken in
+    rw (c .packed .ensures) (finds-other (a .rest .now) (v .result) (v .ensures .0) e, omega (arith, other-small (v .result) e))
 
 returns-2 : tie.Need-returns-2
-returns-2 c = (finds-no-other (c .before .before .before .before .before .before .args .rest .now) (c .before .before .hex-between .result) (c .before .before .hex-between .ensures .0) (sym (c .before .is-other .ensures) ∙ c .if1 .left), omega arith)
+returns-2 c =
+    let a = c .before .before .before .before .before .before .args in
+    let hex-between = c .before .before .hex-between in
+    (finds-no-other (a .rest .now) (hex-between .result) (hex-between .ensures .0) (sym (c .before .is-other .ensures) ∙ c .if1 .left), omega arith)
 
 pub numbered-spec : {M : Type 1} → statement M
 numbered-spec =
@@ -39,6 +44,6 @@ numbered-spec =
     slice-aggregate-hex-between-2
     hex-between-requires
     is-other-requires
-    add-result
+    packed-requires
     returns
     returns-2)

@@ -1,4 +1,4 @@
--- `unit` meets its contract: each return by the tests that led there.
+-- `unit` meets its contract: each context by its kind.
 -- Assumes nothing.
 use borrow.Author.Needs.{needs}
 use Rattle.reader.proofs.units.unit.Statement.{statement}
@@ -8,7 +8,9 @@ enum-known-c : tie.Need-enum-known-c
 enum-known-c c = search needs
 
 html-unit-requires : tie.Need-html-unit-requires
-html-unit-requires c κs = (rw (c .before .c .given .1) at (c .before .before .before .before .pre .0), c .before .before .before .before .pre .1)
+html-unit-requires c κs =
+    let pre = c .before .before .before .before .pre in
+    (rw (c .before .c .given .1) at (pre .0), pre .1)
 
 enum-known-c-2 : tie.Need-enum-known-c-2
 enum-known-c-2 c = search needs

@@ -1,0 +1,46 @@
+-- `set_of` meets its contract: each context by its kind.
+-- Assumes nothing.
+use borrow.Author.Needs.{needs}
+use Rattle.reader.proofs.replaced.set_of.Statement.{statement}
+use Rattle.reader.proofs.replaced.set_of.Tie as tie
+
+enum-known-c : tie.Need-enum-known-c
+enum-known-c c = search needs
+
+html-set-requires : tie.Need-html-set-requires
+html-set-requires c κs = search needs
+
+enum-known-c-2 : tie.Need-enum-known-c-2
+enum-known-c-2 c = search needs
+
+string-set-requires : tie.Need-string-set-requires
+string-set-requires c κs = search needs
+
+enum-known-c-3 : tie.Need-enum-known-c-3
+enum-known-c-3 c = search needs
+
+string-set-requires-2 : tie.Need-string-set-requires-2
+string-set-requires-2 c κs = search needs
+
+returns : tie.Need-returns
+returns c = rw (c .before .before .c .given .1) (c .html-set .ensures)
+
+returns-2 : tie.Need-returns-2
+returns-2 c = rw (c .before .before .c2 .given .1) (c .string-set .ensures)
+
+returns-3 : tie.Need-returns-3
+returns-3 c = rw (c .before .before .c3 .given .1) (c .string-set2 .ensures)
+
+pub set-of-spec : {M : Type 1} → statement M
+set-of-spec =
+    tie.close
+    (tie.spec
+    enum-known-c
+    html-set-requires
+    enum-known-c-2
+    string-set-requires
+    enum-known-c-3
+    string-set-requires-2
+    returns
+    returns-2
+    returns-3)
