@@ -2,7 +2,7 @@
 // status, length, same and place of the two calls, and what view gives of each, in hex.
 use libc::STDOUT_FILENO;
 use lintelrye::Answer;
-use rules::Operation;
+use lintelrye::Operation;
 
 // Prints a number and a blank.
 fn print_number(n: usize) {
@@ -36,11 +36,11 @@ fn print_bytes(bytes: &[u8]) {
 // Runs one example with an output that is lent whole, and prints both calls.
 fn show(example: usize, operation: Operation, context: u32, text: &[u8], output: &mut [u8]) {
     print_number(example);
-    let lent = calls::borrowing(operation, context, text, output);
+    let lent = lintelrye::call(operation, context, true, text, output);
     print_answer(lent);
     print_bytes(lintelrye::view(text, output, lent));
     print_number(example);
-    let copied = calls::copying(operation, context, text, output);
+    let copied = lintelrye::call(operation, context, false, text, output);
     print_answer(copied);
     print_bytes(lintelrye::view(text, output, copied));
 }

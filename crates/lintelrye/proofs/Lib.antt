@@ -1,2 +1,3 @@
 -- The laws of the public calls.
 pub mod RoundTrip
+pub mod Determined

@@ -1,36 +1,49 @@
-// Lintelrye: HTML escaping with proofs. No call allocates, panics or fails to end, and no caller has to check anything first.
+// Lintelrye: HTML escaping and unescaping with proofs. No call allocates, panics or fails to end, and no caller has to check anything first.
 //
-// Each call takes a context by its number, a text, and an output that the caller lends, and answers with four numbers:
+// Each call takes a context by its number, a text, and an output buffer that the caller lends, and returns four numbers:
 //   status  0, or the first refusal of the table below that applies;
-//   length  the result's length (after NO_ROOM: the length needed; after any other refusal 0);
+//   length  the length of the result (after NO_ROOM the length needed, after any other refusal 0);
 //   same    1 exactly if nothing was replaced, so that the result is the text;
-//   place   after NOT_UTF8 and NOT_A_FORM, how far the text is right; else 0.
-// After status 0 the first `length` bytes of the output are the result and the others keep their values; after a refusal all keep them.
-// A borrowing call leaves the output alone, and needs no room, where nothing is replaced: `view` then gives the text itself.
+//   place   after NOT_UTF8 and NOT_A_FORM the length of the longest correct prefix of the text, else 0.
+// After status 0 the first `length` bytes of the output are the result and the other bytes keep their values; after a refusal all keep them.
+// A borrowing call does not write, and needs no room, where nothing is replaced: `view` then returns the text itself.
 //
 // The refusals, in the order in which they are checked:
 //   BAD_CONTEXT  the operation has no such context: encode has all fourteen, decode and read have 0 to 12, browse has 0 to 6;
 //   TOO_LONG     the text is longer than 65,536 bytes;
 //   NOT_UTF8     the text is not valid UTF-8; `place` is the length of its longest valid prefix;
-//   NOT_A_FORM   read only: the text is no run of the context's units; `place` is the length of the longest prefix that is one;
+//   NOT_A_FORM   read only: encode writes no such text; `place` is the length of its longest prefix that is a sequence of the context's units;
 //   NO_ROOM      the output is shorter than the result; `length` is the length needed.
 //
-// The contracts cite the definitions of crates/rules/specs: `answerOf` and `outOf` (Refusals.antt) say status, length, same, place and every byte
-// of the output, for the rule of the operation in the context (Operations.antt).
-ghost use mathlib.Core.Bool.{true, false};
-ghost use mathlib.Core.Path.{_≡_};
-ghost use Rattle.rules.specs.Contexts.{contextOf};
-ghost use Rattle.rules.specs.Refusals.{Allowed, viewOf};
-ghost use Rattle.rules.specs.declared.Operation.the-variants.{Encode, Decode, Read, Browse};
-use rules::Operation;
+// Choosing a context. What is escaped for one context is not safe in another:
+//   - `safe` replaces what `quoted` replaces, and `/`. It is no sanitizer: its result is safe in text and between the quotes of an attribute, and not
+//     in scripts, styles, URLs, comments, or names of tags and attributes. No context is for those.
+//   - the script and style string contexts are for text between quotes, inside a script or style element. In an event handler or style attribute the
+//     result has to be escaped once more, for the attribute.
+//   - `script_raw` is for the whole text of a script element, in one call: parts that are escaped one by one can still close the element. It is no JSON
+//     encoder: it keeps the text from closing the element, and does not make a string or a value of it.
+//
+// The contracts cite the definitions of crates/rules/specs: `Allowed` (Refusals.antt) fixes status, length, same, place and every byte of the output,
+// by the rule of the operation in the context (Operations.antt).
+pub mod labels;
 
-// The answer record, the contexts and the statuses.
+ghost use mathlib.Core.Bool.{true, false};
+ghost use Rattle.rules.specs.Contexts.{contextOf};
+ghost use Rattle.rules.specs.Refusals.{Allowed};
+ghost use Rattle.rules.specs.declared.Operation.the-variants.{Encode, Decode, Read, Browse};
+ghost use Rattle.lintelrye.specs.Viewed.{Viewed};
+
+// The call of an operation that is a value: `call(operation, context, borrows, text, output)`. Each call below is one of these.
+pub use frame::call;
+
+// The operations, the answer record, the contexts and the statuses.
 pub use rules::Answer;
 pub use rules::BAD_CONTEXT;
 pub use rules::DOUBLE_QUOTED;
 pub use rules::NO_ROOM;
 pub use rules::NOT_A_FORM;
 pub use rules::NOT_UTF8;
+pub use rules::Operation;
 pub use rules::PASSED;
 pub use rules::QUOTED;
 pub use rules::SAFE;
@@ -48,67 +61,69 @@ pub use rules::TEXT_MINIMAL;
 pub use rules::TOO_LONG;
 pub use rules::UNQUOTED;
 
-// Writes the text so that it stands for itself in the context: what the context replaces is replaced, the rest is copied.
+// Escapes `text` for `context`: every character that the context replaces is replaced, everything else is copied.
+// A result is at most six times as long as its text.
 pub fn encode(context: u32, text: &[u8], output: &mut [u8]) -> Answer
     ensures { λ r. ⌜ Allowed Encode (contextOf context) false (now (text .entry)) (now (output .entry)) r (now (output .exit)) ⌝ }
 {
-    frame::call(Operation::Encode, context, false, text, output)
+    call(Operation::Encode, context, false, text, output)
 }
 
 // encode as a borrowing call.
 pub fn encode_borrowing(context: u32, text: &[u8], output: &mut [u8]) -> Answer
     ensures { λ r. ⌜ Allowed Encode (contextOf context) true (now (text .entry)) (now (output .entry)) r (now (output .exit)) ⌝ }
 {
-    frame::call(Operation::Encode, context, true, text, output)
+    call(Operation::Encode, context, true, text, output)
 }
 
-// Takes replacements back, as html-escape does: references in the HTML seven, escapes in the strings; whatever is none stays as it is.
-// What is decoded is never decoded again. A result can be longer than its text, by a fifth at most (`&nGt;`).
+// Undoes the replacements exactly as html-escape does: character references in the seven HTML contexts, backslash escapes in strings. Anything else is
+// copied, and nothing is decoded twice. A result can be longer than its text, by a fifth at most (`&nGt;`).
 pub fn decode(context: u32, text: &[u8], output: &mut [u8]) -> Answer
     ensures { λ r. ⌜ Allowed Decode (contextOf context) false (now (text .entry)) (now (output .entry)) r (now (output .exit)) ⌝ }
 {
-    frame::call(Operation::Decode, context, false, text, output)
+    call(Operation::Decode, context, false, text, output)
 }
 
 // decode as a borrowing call.
 pub fn decode_borrowing(context: u32, text: &[u8], output: &mut [u8]) -> Answer
     ensures { λ r. ⌜ Allowed Decode (contextOf context) true (now (text .entry)) (now (output .entry)) r (now (output .exit)) ⌝ }
 {
-    frame::call(Operation::Decode, context, true, text, output)
+    call(Operation::Decode, context, true, text, output)
 }
 
-// Takes back exactly what encode writes, and refuses everything else: of a form that encode wrote it gives the text that was typed.
+// Undoes exactly what encode writes and refuses everything else: of what encode wrote it returns the text that was typed. One exception: encode writes
+// a NUL in a style string as U+FFFD, and read returns that.
 pub fn read(context: u32, text: &[u8], output: &mut [u8]) -> Answer
     ensures { λ r. ⌜ Allowed Read (contextOf context) false (now (text .entry)) (now (output .entry)) r (now (output .exit)) ⌝ }
 {
-    frame::call(Operation::Read, context, false, text, output)
+    call(Operation::Read, context, false, text, output)
 }
 
 // read as a borrowing call.
 pub fn read_borrowing(context: u32, text: &[u8], output: &mut [u8]) -> Answer
     ensures { λ r. ⌜ Allowed Read (contextOf context) true (now (text .entry)) (now (output .entry)) r (now (output .exit)) ⌝ }
 {
-    frame::call(Operation::Read, context, true, text, output)
+    call(Operation::Read, context, true, text, output)
 }
 
-// Takes references back as decode does, but numbers as a browser takes them: 0, surrogates and numbers above 10FFFF hex give U+FFFD.
+// Undoes character references as decode does, but reads numbers as a browser does: 0, surrogates and numbers above 10FFFF hex give U+FFFD.
 pub fn browse(context: u32, text: &[u8], output: &mut [u8]) -> Answer
     ensures { λ r. ⌜ Allowed Browse (contextOf context) false (now (text .entry)) (now (output .entry)) r (now (output .exit)) ⌝ }
 {
-    frame::call(Operation::Browse, context, false, text, output)
+    call(Operation::Browse, context, false, text, output)
 }
 
 // browse as a borrowing call.
 pub fn browse_borrowing(context: u32, text: &[u8], output: &mut [u8]) -> Answer
     ensures { λ r. ⌜ Allowed Browse (contextOf context) true (now (text .entry)) (now (output .entry)) r (now (output .exit)) ⌝ }
 {
-    frame::call(Operation::Browse, context, true, text, output)
+    call(Operation::Browse, context, true, text, output)
 }
 
-// The result of a call: the whole text where the answer's `same` is 1, otherwise the first `length` bytes of the output, or an empty part where
-// the output is shorter. It never refuses.
+// Returns the result of a call: `text` itself where the answer's `same` is 1, otherwise the first `length` bytes of `output`, or none of them where
+// it has fewer. It never refuses.
 pub fn view<'a>(text: &'a [u8], output: &'a [u8], answer: Answer) -> &'a [u8]
-    ensures { λ r. ⌜ now r ≡ viewOf (now (text .entry)) (now (output .entry)) (answer .same) (answer .length) ⌝ }
+    ensures { λ r. ⌜ Viewed (text .entry) (output .entry) answer r ⌝ }
 {
     if answer.same == 1 {
         return text;

@@ -1,4 +1,4 @@
-// Lintelrye as C and Rust link it: the calls of crates/lintelrye under their plain names. `rt staticlib lintelrye_c` writes the archive;
+// Lintelrye for C and Rust: the calls of crates/lintelrye, exported under names of C. `rt staticlib lintelrye_c` writes the archive, and
 // include/lintelrye.h documents each function for a C caller. A text or an output is a pointer and a length.
 ghost use mathlib.Core.Bool.{true, false};
 ghost use Rattle.rules.specs.Contexts.{contextOf};
@@ -6,7 +6,7 @@ ghost use Rattle.rules.specs.Refusals.{Allowed};
 ghost use Rattle.rules.specs.declared.Operation.the-variants.{Encode, Decode, Read, Browse};
 use lintelrye::Answer;
 
-// `encode` of crates/lintelrye.
+// Escapes `text` for `context`: `lintelrye::encode`.
 #[no_mangle]
 pub extern "C" fn lintelrye_encode(context: u32, text: &[u8], output: &mut [u8]) -> Answer
     ensures { λ r. ⌜ Allowed Encode (contextOf context) false (now (text .entry)) (now (output .entry)) r (now (output .exit)) ⌝ }
@@ -14,7 +14,7 @@ pub extern "C" fn lintelrye_encode(context: u32, text: &[u8], output: &mut [u8])
     lintelrye::encode(context, text, output)
 }
 
-// `encode_borrowing` of crates/lintelrye.
+// The same as a borrowing call: `lintelrye::encode_borrowing`.
 #[no_mangle]
 pub extern "C" fn lintelrye_encode_borrowing(context: u32, text: &[u8], output: &mut [u8]) -> Answer
     ensures { λ r. ⌜ Allowed Encode (contextOf context) true (now (text .entry)) (now (output .entry)) r (now (output .exit)) ⌝ }
@@ -22,7 +22,7 @@ pub extern "C" fn lintelrye_encode_borrowing(context: u32, text: &[u8], output: 
     lintelrye::encode_borrowing(context, text, output)
 }
 
-// `decode` of crates/lintelrye.
+// Undoes the replacements as html-escape does: `lintelrye::decode`.
 #[no_mangle]
 pub extern "C" fn lintelrye_decode(context: u32, text: &[u8], output: &mut [u8]) -> Answer
     ensures { λ r. ⌜ Allowed Decode (contextOf context) false (now (text .entry)) (now (output .entry)) r (now (output .exit)) ⌝ }
@@ -30,7 +30,7 @@ pub extern "C" fn lintelrye_decode(context: u32, text: &[u8], output: &mut [u8])
     lintelrye::decode(context, text, output)
 }
 
-// `decode_borrowing` of crates/lintelrye.
+// The same as a borrowing call: `lintelrye::decode_borrowing`.
 #[no_mangle]
 pub extern "C" fn lintelrye_decode_borrowing(context: u32, text: &[u8], output: &mut [u8]) -> Answer
     ensures { λ r. ⌜ Allowed Decode (contextOf context) true (now (text .entry)) (now (output .entry)) r (now (output .exit)) ⌝ }
@@ -38,7 +38,7 @@ pub extern "C" fn lintelrye_decode_borrowing(context: u32, text: &[u8], output: 
     lintelrye::decode_borrowing(context, text, output)
 }
 
-// `read` of crates/lintelrye.
+// Undoes exactly what encode writes: `lintelrye::read`.
 #[no_mangle]
 pub extern "C" fn lintelrye_read(context: u32, text: &[u8], output: &mut [u8]) -> Answer
     ensures { λ r. ⌜ Allowed Read (contextOf context) false (now (text .entry)) (now (output .entry)) r (now (output .exit)) ⌝ }
@@ -46,7 +46,7 @@ pub extern "C" fn lintelrye_read(context: u32, text: &[u8], output: &mut [u8]) -
     lintelrye::read(context, text, output)
 }
 
-// `read_borrowing` of crates/lintelrye.
+// The same as a borrowing call: `lintelrye::read_borrowing`.
 #[no_mangle]
 pub extern "C" fn lintelrye_read_borrowing(context: u32, text: &[u8], output: &mut [u8]) -> Answer
     ensures { λ r. ⌜ Allowed Read (contextOf context) true (now (text .entry)) (now (output .entry)) r (now (output .exit)) ⌝ }
@@ -54,7 +54,7 @@ pub extern "C" fn lintelrye_read_borrowing(context: u32, text: &[u8], output: &m
     lintelrye::read_borrowing(context, text, output)
 }
 
-// `browse` of crates/lintelrye.
+// Undoes character references, with numbers as a browser reads them: `lintelrye::browse`.
 #[no_mangle]
 pub extern "C" fn lintelrye_browse(context: u32, text: &[u8], output: &mut [u8]) -> Answer
     ensures { λ r. ⌜ Allowed Browse (contextOf context) false (now (text .entry)) (now (output .entry)) r (now (output .exit)) ⌝ }
@@ -62,7 +62,7 @@ pub extern "C" fn lintelrye_browse(context: u32, text: &[u8], output: &mut [u8])
     lintelrye::browse(context, text, output)
 }
 
-// `browse_borrowing` of crates/lintelrye.
+// The same as a borrowing call: `lintelrye::browse_borrowing`.
 #[no_mangle]
 pub extern "C" fn lintelrye_browse_borrowing(context: u32, text: &[u8], output: &mut [u8]) -> Answer
     ensures { λ r. ⌜ Allowed Browse (contextOf context) true (now (text .entry)) (now (output .entry)) r (now (output .exit)) ⌝ }

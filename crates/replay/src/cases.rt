@@ -1,6 +1,6 @@
 // One case: the call, and what is compared.
 use lintelrye::Answer;
-use rules::Operation;
+use lintelrye::Operation;
 
 // The call that a case makes.
 pub struct Case {
@@ -42,10 +42,7 @@ pub fn is_nothing(difference: Difference) -> bool {
 // The call of a case.
 fn call(case: Case, text: &[u8], output: &mut [u8]) -> Answer {
     let operation = case.operation;
-    if case.borrows {
-        return calls::borrowing(operation, case.context, text, output);
-    }
-    calls::copying(operation, case.context, text, output)
+    lintelrye::call(operation, case.context, case.borrows, text, output)
 }
 
 // The byte that stands at a place of the output before a call: 248 to 255 by turns, none of which stands in valid UTF-8.

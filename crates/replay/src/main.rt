@@ -10,7 +10,7 @@
 //              a case for each operation (E, D, R, B), context (a for 0, b for 1, ..; z for the largest number) and kind of call (c, b): with an
 //              output of ROOM bytes the answer is the four numbers, and the first WRITTEN bytes of the output are those of the result;
 //   end COUNT  the last line: how many cases the list has.
-// How a text is spelt stands in crates/spelling. A list with any other line, or with another count, is reported as malformed.
+// How a text is spelt stands in crates/replay_list. A list with any other line, or with another count, is reported as malformed.
 mod cases;
 mod report;
 
@@ -19,10 +19,10 @@ ghost use lib.ListN.{length};
 use cases::Case;
 use cases::Expected;
 use libc::STDIN_FILENO;
+use lintelrye::Operation;
 use replay_list::after;
 use replay_list::byte_at;
 use replay_list::read_number;
-use rules::Operation;
 
 // Where the reading of the list stands: the place and the number of the line, the lengths of the text and of the result, whether the last line was
 // met, and whether the list is right so far.
@@ -337,7 +337,7 @@ fn main() {
     let mut text = buffer();
     let mut result = buffer();
     let mut output = buffer();
-    let mut tally: [u64; 130] = [0; 130];
+    let mut tally: [u64; 258] = [0; 258];
     let n = io::read_full(STDIN_FILENO, &mut list);
     let state = replay(&list[..n], &mut text, &mut result, &mut output, &mut tally);
     report::all(state, &tally);

@@ -4,13 +4,21 @@ use crate::State;
 use crate::cases::Case;
 use crate::cases::Difference;
 use libc::STDOUT_FILENO;
-use rules::Operation;
+use lintelrye::Operation;
+use lintelrye::labels;
+use replay_list::after;
+use replay_list::line_end;
+use rules::AnyContext;
 
-// Where the counts of all that ran and of all that differ stand in the tally, behind 64 for the cases of each kind that ran and 64 for those that
-// differ.
-pub const RAN: usize = 128;
+// The kinds of cases are an operation in a context: 32 numbers for each operation, the last of them for all numbers of no context.
+const NO_CONTEXT: usize = 31;
 
-pub const DIFFER: usize = 129;
+// The tally counts the cases of each kind that ran, then those that differ, and then all of both.
+const KINDS: usize = 128;
+
+pub const RAN: usize = 256;
+
+pub const DIFFER: usize = 257;
 
 // Prints bytes.
 fn print(bytes: &[u8]) {
@@ -22,72 +30,68 @@ fn print_number(n: u64) {
     io::print_decimal(STDOUT_FILENO, n);
 }
 
-// The kinds of cases, an operation in a context, by numbers: sixteen for each operation. All numbers of no context are one kind.
+// Returns the context's number, or NO_CONTEXT where it names none.
+fn slot_of(context: u32) -> usize
+    ensures { λ r. ⌜ r ≤ 31 ⌝ }
+{
+    match rules::context_of(context) {
+        AnyContext::Unknown => NO_CONTEXT,
+        _ => if context < 31 {
+            context as usize
+        } else {
+            NO_CONTEXT
+        },
+    }
+}
+
+// Returns the number of the kind of a case.
 fn kind_of(case: Case) -> usize
-    ensures { λ r. ⌜ r ≤ 62 ⌝ }
+    ensures { λ r. ⌜ r ≤ 127 ⌝ }
 {
     let context = slot_of(case.context);
     let operation = case.operation;
     match operation {
         Operation::Encode => context,
-        Operation::Decode => 16 + context,
-        Operation::Read => 32 + context,
-        Operation::Browse => 48 + context,
+        Operation::Decode => 32 + context,
+        Operation::Read => 64 + context,
+        Operation::Browse => 96 + context,
     }
 }
 
-// The context's number, or 14 where there is no such context.
-fn slot_of(context: u32) -> usize
-    ensures { λ r. ⌜ r ≤ 14 ⌝ }
-{
-    if context < 14 { context as usize } else { 14 }
+// Prints the part of a table of names from a place to another, if it has one.
+fn print_part(names: &[u8], start: usize, end: usize) {
+    if end <= names.len() {
+        if start <= end {
+            print(&names[start..end]);
+        }
+    }
+}
+
+// Prints the name of a number in a table of names, a line each.
+fn print_name(names: &[u8], number: usize) {
+    let mut at = 0;
+    let mut left = number;
+    while 0 < left {
+        at = after(line_end(names, at));
+        left -= 1;
+    }
+    print_part(names, at, line_end(names, at));
 }
 
 // Prints the name of the operation that a kind belongs to.
 fn print_operation(kind: usize) {
-    match kind / 16 {
-        0 => print(b"encode "),
-        1 => print(b"decode "),
-        2 => print(b"read "),
-        _ => print(b"browse "),
-    }
-}
-
-// Prints the name of a context of the HTML seven.
-fn print_html(context: usize) {
-    match context {
-        0 => print(b"text_minimal"),
-        1 => print(b"text"),
-        2 => print(b"double_quoted"),
-        3 => print(b"single_quoted"),
-        4 => print(b"quoted"),
-        5 => print(b"safe"),
-        _ => print(b"unquoted"),
-    }
-}
-
-// Prints the name of any other context.
-fn print_other(context: usize) {
-    match context {
-        7 => print(b"script_single"),
-        8 => print(b"script_double"),
-        9 => print(b"script_quoted"),
-        10 => print(b"style_single"),
-        11 => print(b"style_double"),
-        12 => print(b"style_quoted"),
-        13 => print(b"script_raw"),
-        _ => print(b"in no context"),
-    }
+    print_name(&labels::OPERATION_NAMES, kind / 32);
+    print(b" ");
 }
 
 // Prints the name of the context of a kind.
 fn print_context(kind: usize) {
-    let context = kind % 16;
-    if context < 7 {
-        print_html(context);
-    } else {
-        print_other(context);
+    let context = kind % 32;
+    if context == NO_CONTEXT {
+        print(b"in no context");
+        return;
     }
+    print_name(&labels::CONTEXT_NAMES, context);
 }
 
 // Prints what differs.
@@ -152,7 +156,7 @@ pub fn count(line: u64, case: Case, difference: Difference, tally: &mut [u64]) {
     if crate::cases::is_nothing(difference) {
         return;
     }
-    raise(tally, 64 + kind);
+    raise(tally, KINDS + kind);
     raise(tally, DIFFER);
     if told(tally, DIFFER) <= 10 {
         print_case(told(tally, RAN), line, case, difference);
@@ -179,19 +183,19 @@ fn print_kind(kind: usize, ran: u64, differ: u64) {
 }
 
 // Prints the counts of every kind.
-fn print_kinds(tally: &[u64; 130]) {
+fn print_kinds(tally: &[u64; 258]) {
     let mut kind = 0;
-    while kind < 64 {
-        print_kind(kind, tally[kind], tally[64 + kind]);
+    while kind < KINDS {
+        print_kind(kind, tally[kind], tally[KINDS + kind]);
         kind += 1;
     }
 }
 
 // Prints all counts; where the list is malformed, the line instead of the last count.
-pub fn all(state: State, tally: &[u64; 130]) {
+pub fn all(state: State, tally: &[u64; 258]) {
     print_kinds(tally);
     if state.right && state.ended {
-        print_counts(tally[128], tally[129]);
+        print_counts(tally[RAN], tally[DIFFER]);
         return;
     }
     print(b"the list is malformed at line ");

@@ -14,6 +14,18 @@ use Rattle.rules.specs.Program.{printed, printedCall}
 use Rattle.rules.specs.declared.Answer.{Answer}
 use Rattle.rules.specs.declared.Operation.{Operation}
 
+-- Room for every result of a request: six times its longest text.
+abbrev pub resultRoom : ℕ
+resultRoom = 49152
+
+-- The most bytes of an answer's lines up to its text: 34 of names and line ends, and four numbers of at most twenty digits.
+abbrev pub linesMost : ℕ
+linesMost = 114
+
+-- Room for every reply.
+abbrev pub replyRoom : ℕ
+replyRoom = 65536
+
 -- A copying call of an operation in the context of a number, on a text of at most 8,192 bytes, with an output of room bytes.
 abbrev pub asked : Operation → ℕ → List ℕ → ℕ → Call
 asked op number t room = record { operation = op; context = contextOf number; borrows = false; limit = 8192; text = t; room = room }

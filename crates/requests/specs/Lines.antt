@@ -1,31 +1,47 @@
--- What the readers of the header's lines answer, on paper: what is named, and how long the line is.
+-- Header lines: the first of a table's lines that follows a field at the head of a request.
 -- Assumes nothing.
 use mathlib.Core.Bool.{cond}
 use mathlib.Core.Option.{Option, none, some}
-use mathlib.Core.List.{List, [], _∷_}
-use Prim.Native.Nat.{ℕ}
+use mathlib.Core.List.{List, [], _∷_, _++_}
+use Prim.Native.Nat.{ℕ, suc, _+_}
+use lib.Dec.{eqb}
 use lib.ListN.{length as size}
 use Rattle.rules.specs.Bytes.{stands}
-use Rattle.rules.specs.Contexts.{Label, contextOf}
-use Rattle.rules.specs.Program.{line}
-use Rattle.rules.specs.declared.AnyContext.{AnyContext}
-use Rattle.rules.specs.declared.Operation.{Operation}
-use Rattle.requests.specs.declared.lines.OperationLine.{OperationLine}
-use Rattle.requests.specs.declared.lines.OperationLine.the-variants.{Names as NamesOperation, Nothing as NoOperation}
-use Rattle.requests.specs.declared.lines.ContextLine.{ContextLine}
-use Rattle.requests.specs.declared.lines.ContextLine.the-variants.{Names as NamesContext, Nothing as NoContext}
+use Rattle.rules.specs.Contexts.{Label}
+use Rattle.requests.specs.declared.lines.Line.{Line}
+use Rattle.requests.specs.declared.lines.Line.the-variants.{Names, Nothing}
 
--- The line of a field with one of these names at the head of s: what it names, and its length.
-unfoldable pub lineFound : {A : Type 0} → List ℕ → List (Label A) → List ℕ → Option (A × ℕ)
+-- The byte x before the first of some lines.
+abbrev pub before : ℕ → List (List ℕ) → List (List ℕ)
+before x [] = (x ∷ []) ∷ []
+before x (l ∷ ls) = (x ∷ l) ∷ ls
+
+-- The lines of some bytes, each with the 0A that ends it.
+unfoldable pub linesOf : List ℕ → List (List ℕ)
+linesOf [] = []
+linesOf (x ∷ s) = cond (eqb x 10) ((x ∷ []) ∷ linesOf s) (before x (linesOf s))
+
+-- The length of the first line.
+unfoldable pub lineLength : List ℕ → ℕ
+lineLength [] = 0
+lineLength (x ∷ s) = cond (eqb x 10) 1 (suc (lineLength s))
+
+-- The names of a table, a line each.
+abbrev pub nameLines : {A : Type 0} → List (Label A) → List (List ℕ)
+nameLines [] = []
+nameLines (l ∷ ls) = (l .name ++ 10 ∷ []) ∷ nameLines ls
+
+-- A line found k lines further on.
+abbrev pub later : ℕ → Option (ℕ × ℕ) → Option (ℕ × ℕ)
+later k none = none
+later k (some p) = some (k + p .0, p .1)
+
+-- The first of some lines that follows a field at the head of s: its number, and its length with the field.
+unfoldable pub lineFound : List ℕ → List (List ℕ) → List ℕ → Option (ℕ × ℕ)
 lineFound field [] s = none
-lineFound field (l ∷ labels) s = cond (stands (line field l) s) (some (l .names, size (line field l))) (lineFound field labels s)
+lineFound field (l ∷ ls) s = cond (stands (field ++ l) s) (some (0, size (field ++ l))) (later 1 (lineFound field ls s))
 
--- What the reader of the first line answers.
-abbrev pub operationFound : OperationLine → Option (Operation × ℕ)
-operationFound (NamesOperation o n) = some (o, n)
-operationFound NoOperation = none
-
--- What the reader of the second line answers.
-abbrev pub contextFound : ContextLine → Option (AnyContext × ℕ)
-contextFound (NamesContext k n) = some (contextOf k, n)
-contextFound NoContext = none
+-- What the reader of a line returns.
+abbrev pub lineRead : Line → Option (ℕ × ℕ)
+lineRead (Names k n) = some (k, n)
+lineRead Nothing = none

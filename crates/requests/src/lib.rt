@@ -1,30 +1,47 @@
-// Requests to the program `entity`: the lines that it reads, the call that they ask for, and the lines that it prints. `reply` does all of it, on bytes
-// that lie in memory; crates/entity reads and writes them. What is printed for what is read is `entityOf` of crates/rules/specs/Program.antt.
+// Requests to the program `entity`: reads the header lines, makes the call that they ask for, and writes the lines of the answer. `reply` does all of it, in
+// memory; crates/entity reads and prints the bytes. Which bytes are printed for a request is `entityOf` of crates/rules/specs/Program.antt.
 mod lines;
 mod print;
 
+ghost use mathlib.Core.Bool.{true};
+ghost use mathlib.Core.List.{List};
 ghost use mathlib.Core.Option.{none};
 ghost use mathlib.Core.Path.{_≡_};
-ghost use Prim.Native.Nat.{_≤_};
-ghost use lib.ListN.{length};
+ghost use Prim.Native.Nat.{ℕ, _≤_};
+ghost use lib.ListN.{length, take};
 ghost use Rattle.rules.specs.Bytes.{over};
 ghost use Rattle.rules.specs.Contexts.{contextOf};
 ghost use Rattle.rules.specs.Refusals.{answer};
 ghost use Rattle.rules.specs.Program.{entityOf, requestOf, contextLine, textOf, printedCall};
-ghost use Rattle.requests.specs.Asked.{asked, answerTo, outputOf, refused, printedBy, Prints};
-use crate::lines::ContextLine;
-use crate::lines::OperationLine;
+ghost use Rattle.requests.specs.Asked.{resultRoom, replyRoom, asked, answerTo, outputOf, refused, printedBy, Prints};
+use crate::lines::Line;
 use lintelrye::Answer;
-use rules::Operation;
+use lintelrye::Operation;
+use lintelrye::labels;
 
-// How much of a request has to be read: the longest header, the longest text, and a byte that tells a longer text. What comes after it changes nothing
-// (`enough` in proofs/Enough.antt).
-pub const ENOUGH: usize = 8230;
+// The longest text of a request, in bytes.
+const TEXT_LIMIT: usize = 8192;
 
-// The status of a request whose lines differ.
-pub const BAD_REQUEST: usize = 6;
+// Room for every result: a result is at most six times as long as its text.
+const RESULT_ROOM: usize = 6 * TEXT_LIMIT;
 
-// A refusal that names no length and no place.
+// Room for every reply: the lines of an answer, and a result.
+pub const REPLY_ROOM: usize = 65536;
+
+// The longest header: the lines `op=encode` and `context=double_quoted`, and `text=`.
+const HEADER_LIMIT: usize = 10 + 22 + 5;
+
+// How much of a request has to be read: the longest header, the longest text, and a byte more, which makes the text too long.
+pub const ENOUGH: usize = HEADER_LIMIT + TEXT_LIMIT + 1;
+
+// Whether the first `n` bytes of a request decide the reply, whatever follows them.
+pub fn is_enough(n: usize) -> bool
+    ensures { λ r. ⌜ (r ≡ true → (s : List ℕ) → entityOf (take n s) ≡ entityOf s) ⌝ }
+{
+    ENOUGH <= n
+}
+
+// Returns a refusal with no length and no place.
 fn refusal(status: usize) -> Answer
     ensures { λ r. ⌜ r ≡ answer status 0 0 0 ⌝ }
 {
@@ -36,7 +53,7 @@ fn refusal(status: usize) -> Answer
     }
 }
 
-// What a call answers whose text is too long, where `empty` is its answer for the empty text: that tells whether the operation has the context.
+// Returns the answer for a text above the limit; `empty` is the answer for the empty text, which shows whether the operation has the context.
 fn too_long(empty: Answer) -> Answer
     ensures { λ r. ⌜ r ≡ refused empty ⌝ }
 {
@@ -46,27 +63,27 @@ fn too_long(empty: Answer) -> Answer
     refusal(lintelrye::TOO_LONG)
 }
 
-// The call that a request asks for: the copying one, with the program's limit of 8,192 bytes.
+// Makes the call that a request asks for: the copying one, with the program's limit.
 fn limited(operation: Operation, context: u32, text: &[u8], output: &mut [u8]) -> Answer
     ensures { λ r. ⌜ (r ≡ answerTo (asked operation context (now (text .entry)) (length (now (output .entry))))) × (now (output .exit) ≡ outputOf (asked operation context (now (text .entry)) (length (now (output .entry)))) (now (output .entry))) ⌝ }
 {
-    if 8192 < text.len() {
-        return too_long(calls::copying(operation, context, &text[..0], output));
+    if TEXT_LIMIT < text.len() {
+        return too_long(lintelrye::call(operation, context, false, &text[..0], output));
     }
-    calls::copying(operation, context, text, output)
+    lintelrye::call(operation, context, false, text, output)
 }
 
-// Room for every result: six times the longest text.
-fn room() -> [u8; 49152]
-    ensures { λ r. ⌜ 49152 ≡ length r ⌝ }
+// Returns a buffer that holds every result.
+fn room() -> [u8; RESULT_ROOM]
+    ensures { λ r. ⌜ resultRoom ≡ length r ⌝ }
 {
-    [0; 49152]
+    [0; RESULT_ROOM]
 }
 
-// Makes the call that a request asks for, and prints the answer and what is to be viewed: the result, or nothing after a refusal.
+// Makes the call that a request asks for, and writes the lines of the answer and the result, which is empty after a refusal.
 fn converse(operation: Operation, context: u32, text: &[u8], output: &mut [u8]) -> usize
-    requires { ⌜ 65536 ≤ length (now output) ⌝ }
-    ensures { λ r. ⌜ Prints (printedCall (asked operation context (now (text .entry)) 49152)) r (now (output .entry)) (now (output .exit)) ⌝ }
+    requires { ⌜ replyRoom ≤ length (now output) ⌝ }
+    ensures { λ r. ⌜ Prints (printedCall (asked operation context (now (text .entry)) resultRoom)) r (now (output .entry)) (now (output .exit)) ⌝ }
 {
     let mut result = room();
     let answer = limited(operation, context, text, &mut result);
@@ -74,17 +91,17 @@ fn converse(operation: Operation, context: u32, text: &[u8], output: &mut [u8]) 
     at + base::put(lintelrye::view(text, &result, answer), &mut output[at..])
 }
 
-// Prints that the request is none.
+// Writes the answer to what is no request.
 fn refuse(output: &mut [u8]) -> usize
-    requires { ⌜ 65536 ≤ length (now output) ⌝ }
+    requires { ⌜ replyRoom ≤ length (now output) ⌝ }
     ensures { λ r. ⌜ Prints (printedBy none) r (now (output .entry)) (now (output .exit)) ⌝ }
 {
-    print::put_answer(refusal(BAD_REQUEST), output)
+    print::put_answer(refusal(rules::BAD_REQUEST), output)
 }
 
-// What is left of a request after the line of the context: `text=`, and the text.
+// Answers a request from `text=` on, behind the line of the context.
 fn with_text(operation: Operation, context: u32, rest: &[u8], output: &mut [u8]) -> usize
-    requires { ⌜ 65536 ≤ length (now output) ⌝ }
+    requires { ⌜ replyRoom ≤ length (now output) ⌝ }
     ensures { λ r. ⌜ Prints (printedBy (textOf operation (contextOf context) (now (rest .entry)))) r (now (output .entry)) (now (output .exit)) ⌝ }
 {
     if !base::prefix::starts(b"text=", rest) {
@@ -93,31 +110,31 @@ fn with_text(operation: Operation, context: u32, rest: &[u8], output: &mut [u8])
     converse(operation, context, &rest[5..], output)
 }
 
-// What is left of a request after the line of the operation.
+// Answers a request from the line of the context on.
 fn with_context(operation: Operation, rest: &[u8], output: &mut [u8]) -> usize
-    requires { ⌜ 65536 ≤ length (now output) ⌝ }
+    requires { ⌜ replyRoom ≤ length (now output) ⌝ }
     ensures { λ r. ⌜ Prints (printedBy (contextLine operation (now (rest .entry)))) r (now (output .entry)) (now (output .exit)) ⌝ }
 {
-    let ContextLine::Names(context, n) = lines::context_line(rest) else {
+    let Line::Names(context, n) = lines::find_line(&labels::CONTEXT_NAMES, b"context=", rest) else {
         return refuse(output);
     };
     with_text(operation, context, &rest[n..], output)
 }
 
-// The whole of a request, with an output that is promised to be long enough.
+// Answers a whole request, in an output that is long enough.
 fn with_operation(input: &[u8], output: &mut [u8]) -> usize
-    requires { ⌜ 65536 ≤ length (now output) ⌝ }
+    requires { ⌜ replyRoom ≤ length (now output) ⌝ }
     ensures { λ r. ⌜ Prints (printedBy (requestOf (now (input .entry)))) r (now (output .entry)) (now (output .exit)) ⌝ }
 {
-    let OperationLine::Names(operation, n) = lines::operation_line(input) else {
+    let Line::Names(number, n) = lines::find_line(&labels::OPERATION_NAMES, b"op=", input) else {
         return refuse(output);
     };
-    with_context(operation, &input[n..], output)
+    with_context(labels::operation_of(number), &input[n..], output)
 }
 
 // Answers a request: writes to the start of `output` what the program prints for `input`, and returns how many bytes they are; the rest of `output`
 // keeps its values.
-pub fn reply(input: &[u8], output: &mut [u8; 65536]) -> usize
+pub fn reply(input: &[u8], output: &mut [u8; REPLY_ROOM]) -> usize
     ensures { λ r. ⌜ (r ≡ length (entityOf (now (input .entry)))) × (now (output .exit) ≡ over (entityOf (now (input .entry))) (now (output .entry))) × (r ≤ length (now (output .exit))) ⌝ }
 {
     with_operation(input, output)

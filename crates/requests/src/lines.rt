@@ -1,104 +1,57 @@
-// The lines of a request's header.
+// Reads the header lines of a request: a field such as `op=`, a name, and byte 0A.
+ghost use mathlib.Core.List.{_++_};
 ghost use mathlib.Core.Path.{_≡_};
-ghost use lib.ListN.{take, drop};
-ghost use Rattle.rules.specs.Bytes.{ascii};
-ghost use Rattle.rules.specs.Contexts.{operationNames, contextNames};
-ghost use Rattle.requests.specs.Lines.{operationFound, contextFound, lineFound};
-use rules::Operation;
+ghost use Prim.Native.Nat.{_+_, _≤_, _<_};
+ghost use lib.ListN.{length, drop};
+ghost use Rattle.rules.specs.Bytes.{stands};
+ghost use Rattle.requests.specs.Lines.{linesOf, lineLength, lineFound, lineRead};
 
-// What stands at the head of a request: a line that names an operation, with the line's length, or nothing of the kind.
-pub enum OperationLine {
-    Names(Operation, usize),
-    Nothing,
-}
-
-// The same for the line that names a context, by its number.
-pub enum ContextLine {
+// A header line: the number of the name that it has, and its length; or no such line.
+pub enum Line {
     Names(u32, usize),
     Nothing,
 }
 
-// The line `op=` at the head of a request.
-pub fn operation_line(input: &[u8]) -> OperationLine
-    ensures { λ r. ⌜ operationFound r ≡ lineFound (ascii "op=") operationNames (now (input .entry)) ⌝ }
+// Returns the end of the line of `names` that begins at `start`: past its 0A, or the end of `names`.
+fn line_end(names: &[u8], start: usize) -> usize
+    requires { ⌜ start < length (now names) ⌝ }
+    ensures { λ r. ⌜ (r ≡ start + lineLength (drop start (now (names .entry)))) × (start < r) × (r ≤ length (now (names .entry))) ⌝ }
 {
-    if base::prefix::starts(b"op=encode\n", input) {
-        return OperationLine::Names(Operation::Encode, 10);
+    let mut i = start;
+    while i < names.len() {
+        if names[i] == b'\n' {
+            return i + 1;
+        }
+        i += 1;
     }
-    if base::prefix::starts(b"op=decode\n", input) {
-        return OperationLine::Names(Operation::Decode, 10);
-    }
-    if base::prefix::starts(b"op=read\n", input) {
-        return OperationLine::Names(Operation::Read, 8);
-    }
-    if base::prefix::starts(b"op=browse\n", input) {
-        return OperationLine::Names(Operation::Browse, 10);
-    }
-    OperationLine::Nothing
+    i
 }
 
-// The line `context=` with a name of the HTML seven.
-fn html_line(rest: &[u8]) -> ContextLine
-    ensures { λ r. ⌜ contextFound r ≡ lineFound (ascii "context=") (take 7 contextNames) (now (rest .entry)) ⌝ }
+// Whether `text` begins with `field` and `name`.
+fn is_line(field: &[u8], name: &[u8], text: &[u8]) -> bool
+    ensures { λ r. ⌜ r ≡ stands (now (field .entry) ++ now (name .entry)) (now (text .entry)) ⌝ }
 {
-    if base::prefix::starts(b"context=text_minimal\n", rest) {
-        return ContextLine::Names(0, 21);
+    if !base::prefix::starts(field, text) {
+        return false;
     }
-    if base::prefix::starts(b"context=text\n", rest) {
-        return ContextLine::Names(1, 13);
-    }
-    if base::prefix::starts(b"context=double_quoted\n", rest) {
-        return ContextLine::Names(2, 22);
-    }
-    if base::prefix::starts(b"context=single_quoted\n", rest) {
-        return ContextLine::Names(3, 22);
-    }
-    if base::prefix::starts(b"context=quoted\n", rest) {
-        return ContextLine::Names(4, 15);
-    }
-    if base::prefix::starts(b"context=safe\n", rest) {
-        return ContextLine::Names(5, 13);
-    }
-    if base::prefix::starts(b"context=unquoted\n", rest) {
-        return ContextLine::Names(6, 17);
-    }
-    ContextLine::Nothing
+    let n = field.len();
+    base::prefix::starts(name, &text[n..])
 }
 
-// The line `context=` with one of the other names.
-fn string_line(rest: &[u8]) -> ContextLine
-    ensures { λ r. ⌜ contextFound r ≡ lineFound (ascii "context=") (drop 7 contextNames) (now (rest .entry)) ⌝ }
+// Reads the header line at the start of `text`: `field`, and one of `names`, which are a line each.
+pub fn find_line(names: &[u8], field: &[u8], text: &[u8]) -> Line
+    requires { ⌜ length (now names) ≤ 65535 ⌝ }
+    ensures { λ r. ⌜ lineRead r ≡ lineFound (now (field .entry)) (linesOf (now (names .entry))) (now (text .entry)) ⌝ }
 {
-    if base::prefix::starts(b"context=script_single\n", rest) {
-        return ContextLine::Names(7, 22);
+    let mut at = 0;
+    let mut number = 0;
+    while at < names.len() {
+        let end = line_end(names, at);
+        if is_line(field, &names[at..end], text) {
+            return Line::Names(number, field.len() + (end - at));
+        }
+        at = end;
+        number += 1;
     }
-    if base::prefix::starts(b"context=script_double\n", rest) {
-        return ContextLine::Names(8, 22);
-    }
-    if base::prefix::starts(b"context=script_quoted\n", rest) {
-        return ContextLine::Names(9, 22);
-    }
-    if base::prefix::starts(b"context=style_single\n", rest) {
-        return ContextLine::Names(10, 21);
-    }
-    if base::prefix::starts(b"context=style_double\n", rest) {
-        return ContextLine::Names(11, 21);
-    }
-    if base::prefix::starts(b"context=style_quoted\n", rest) {
-        return ContextLine::Names(12, 21);
-    }
-    if base::prefix::starts(b"context=script_raw\n", rest) {
-        return ContextLine::Names(13, 19);
-    }
-    ContextLine::Nothing
-}
-
-// The line `context=` at the head of what is left.
-pub fn context_line(rest: &[u8]) -> ContextLine
-    ensures { λ r. ⌜ contextFound r ≡ lineFound (ascii "context=") contextNames (now (rest .entry)) ⌝ }
-{
-    let ContextLine::Names(context, n) = html_line(rest) else {
-        return string_line(rest);
-    };
-    ContextLine::Names(context, n)
+    Line::Nothing
 }

@@ -1,21 +1,22 @@
-// The lines that are printed.
+// Writes the lines of an answer.
 ghost use mathlib.Core.Path.{_≡_};
 ghost use mathlib.Core.List.{[], _++_};
 ghost use Prim.Native.Nat.{_+_, _≤_, _<_};
 ghost use lib.ListN.{length};
 ghost use Rattle.rules.specs.Bytes.{over};
 ghost use Rattle.rules.specs.Program.{lastDigits, decimal, printed};
+ghost use Rattle.requests.specs.Asked.{linesMost};
 use rules::Answer;
 
-// The digit of a number below ten.
+// Returns the digit of a number below ten.
 fn digit(n: usize) -> u8
     requires { ⌜ n < 10 ⌝ }
     ensures { λ r. ⌜ r ≡ 48 + n ⌝ }
 {
-    48 + n as u8
+    b'0' + n as u8
 }
 
-// Writes the last `most` digits of a number without leading zeros, and returns how many they are; what lies past them keeps its values.
+// Writes the last `most` digits of a number, without leading zeros, to the start of `output` and returns how many they are; the rest keeps its values.
 fn put_digits(most: usize, n: usize, output: &mut [u8]) -> usize
     requires { ⌜ most ≤ length (now output) ⌝ }
     ensures { λ r. ⌜ (r ≡ length (lastDigits most n)) × (now (output .exit) ≡ over (lastDigits most n) (now (output .entry))) × (r ≤ most) ⌝ }
@@ -32,7 +33,7 @@ fn put_digits(most: usize, n: usize, output: &mut [u8]) -> usize
     at + 1
 }
 
-// Writes the name of a number with its `=`, and the number in decimal.
+// Writes `name` and a number in decimal.
 fn put_number(name: &[u8], n: usize, output: &mut [u8]) -> usize
     requires { ⌜ length (now name) + 20 ≤ length (now output) ⌝ }
     ensures { λ r. ⌜ (r ≡ length (now (name .entry) ++ decimal n)) × (now (output .exit) ≡ over (now (name .entry) ++ decimal n) (now (output .entry))) × (r ≤ length (now (name .entry)) + 20) ⌝ }
@@ -41,10 +42,10 @@ fn put_number(name: &[u8], n: usize, output: &mut [u8]) -> usize
     at + put_digits(20, n, &mut output[at..])
 }
 
-// Writes the lines of an answer up to where the text goes.
+// Writes the lines of an answer up to `text=`.
 pub fn put_answer(answer: Answer, output: &mut [u8]) -> usize
-    requires { ⌜ 114 ≤ length (now output) ⌝ }
-    ensures { λ r. ⌜ (r ≡ length (printed answer [])) × (now (output .exit) ≡ over (printed answer []) (now (output .entry))) × (r ≤ 114) ⌝ }
+    requires { ⌜ linesMost ≤ length (now output) ⌝ }
+    ensures { λ r. ⌜ (r ≡ length (printed answer [])) × (now (output .exit) ≡ over (printed answer []) (now (output .entry))) × (r ≤ linesMost) ⌝ }
 {
     let mut at = put_number(b"status=", answer.status, output);
     at += put_number(b"\nlength=", answer.length, &mut output[at..]);

@@ -1,4 +1,4 @@
--- `print_reply` is safe: the answer lies within the output.
+-- `print_reply` is safe: the reply lies within the output.
 -- Assumes nothing.
 use mathlib.Core.Path.{sym}
 use borrow.Author.Needs.{needs}
@@ -15,23 +15,14 @@ reply-requires c κs = search needs
 array-share-prefix-output : tie.Need-array-share-prefix-output
 array-share-prefix-output c = search needs
 
-slice-aggregate-write-all : tie.Need-slice-aggregate-write-all
-slice-aggregate-write-all c = sym (length-take-le _ _ (search needs))
+slice-aggregate-write : tie.Need-slice-aggregate-write
+slice-aggregate-write c = sym (length-take-le _ _ (search needs))
 
-write-all-requires : tie.Need-write-all-requires
-write-all-requires c κs = search needs
-
-slice-aggregate-fail : tie.Need-slice-aggregate-fail
-slice-aggregate-fail c = search needs
-
-fail-requires : tie.Need-fail-requires
-fail-requires c κs = search needs
+write-requires : tie.Need-write-requires
+write-requires c κs = search needs
 
 returns : tie.Need-returns
 returns c = search needs
-
-returns-2 : tie.Need-returns-2
-returns-2 c = search needs
 
 pub print-reply-spec : {M : Type 1} → statement M
 print-reply-spec =
@@ -40,9 +31,6 @@ print-reply-spec =
     large-buffer-requires
     reply-requires
     array-share-prefix-output
-    slice-aggregate-write-all
-    write-all-requires
-    slice-aggregate-fail
-    fail-requires
-    returns
-    returns-2)
+    slice-aggregate-write
+    write-requires
+    returns)

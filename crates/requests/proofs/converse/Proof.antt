@@ -46,7 +46,7 @@ put-requires : tie.Need-put-requires
 put-requires c κs = let a = c .before .before .before .before .before .before .before .before .before .before .before .before .before .args in
     let p = printed (c .before .before .before .before .before .before .before .before .limited .result) [] in
     let v = c .before .view .result .now in
-    let s = said (a .operation) (a .context) (a .text .now) (c .before .before .before .before .before .before .before .before .before .before .room .result) (c .before .before .before .before .before .before .before .before .limited .result) (c .before .before .before .before .before .before .before .before .limited .last .1 .1 .1 .0) v (c .before .before .before .before .before .before .before .before .before .before .room .ensures) (c .before .before .before .before .before .before .before .before .limited .ensures .0) (c .before .before .before .before .before .before .before .before .limited .ensures .1) (c .before .view .ensures) in
+    let s = said (a .operation) (a .context) (a .text .now) (c .before .before .before .before .before .before .before .before .before .before .room .result) (c .before .before .before .before .before .before .before .before .limited .result) (c .before .before .before .before .before .before .before .before .limited .last .1 .1 .1 .0) v (c .before .before .before .before .before .before .before .before .before .before .room .ensures) (c .before .before .before .before .before .before .before .before .limited .ensures .0) (c .before .before .before .before .before .before .before .before .limited .ensures .1) (c .before .view .ensures .1) in
     let f = filled-first p v (a .output .now) (c .before .before .before .before .before .put-answer .last .1 .0) (c .before .before .before .before .before .put-answer .result) (omega (arith, length-append p v, c .before .before .before .before .before .put-answer .ensures .0, c .before .before .before .before .before .put-answer .ensures .2, s .1, c .before .before .before .before .before .before .before .before .before .before .before .before .before .pre)) (c .before .before .before .before .before .put-answer .ensures .0) (c .before .before .before .before .before .put-answer .ensures .1) in
     filled-room f (last-part v)
 
@@ -60,7 +60,7 @@ returns : tie.Need-returns
 returns c = let a = c .before .before .before .before .before .before .before .before .before .before .before .before .before .before .before .before .args in
     let p = printed (c .before .before .before .before .before .before .before .before .before .before .before .limited .result) [] in
     let v = c .before .before .before .before .view .result .now in
-    let s = said (a .operation) (a .context) (a .text .now) (c .before .before .before .before .before .before .before .before .before .before .before .before .before .room .result) (c .before .before .before .before .before .before .before .before .before .before .before .limited .result) (c .before .before .before .before .before .before .before .before .before .before .before .limited .last .1 .1 .1 .0) v (c .before .before .before .before .before .before .before .before .before .before .before .before .before .room .ensures) (c .before .before .before .before .before .before .before .before .before .before .before .limited .ensures .0) (c .before .before .before .before .before .before .before .before .before .before .before .limited .ensures .1) (c .before .before .before .before .view .ensures) in
+    let s = said (a .operation) (a .context) (a .text .now) (c .before .before .before .before .before .before .before .before .before .before .before .before .before .room .result) (c .before .before .before .before .before .before .before .before .before .before .before .limited .result) (c .before .before .before .before .before .before .before .before .before .before .before .limited .last .1 .1 .1 .0) v (c .before .before .before .before .before .before .before .before .before .before .before .before .before .room .ensures) (c .before .before .before .before .before .before .before .before .before .before .before .limited .ensures .0) (c .before .before .before .before .before .before .before .before .before .before .before .limited .ensures .1) (c .before .before .before .before .view .ensures .1) in
     let f = filled-first p v (a .output .now) (c .before .before .before .before .before .before .before .before .put-answer .last .1 .0) (c .before .before .before .before .before .before .before .before .put-answer .result) (omega (arith, length-append p v, c .before .before .before .before .before .before .before .before .put-answer .ensures .0, c .before .before .before .before .before .before .before .before .put-answer .ensures .2, s .1, c .before .before .before .before .before .before .before .before .before .before .before .before .before .before .before .before .pre)) (c .before .before .before .before .before .before .before .before .put-answer .ensures .0) (c .before .before .before .before .before .before .before .before .put-answer .ensures .1) in
     let all = filled-all (filled-put f (last-part v) (c .before .before .put .last .1 .0) (c .before .before .put .result) (c .before .before .put .ensures .0) (c .before .before .put .ensures .1)) refl in
     (all .0 ∙ ap length (sym (s .0)), all .1 ∙ ap (λ (l : List ℕ). over l (a .output .now)) (sym (s .0)))

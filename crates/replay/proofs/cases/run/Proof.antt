@@ -8,16 +8,16 @@ use Rattle.replay.proofs.cases.run.Statement.{statement}
 use Rattle.replay.proofs.cases.run.Tie as tie
 
 wrapping-add-usize-requires : tie.Need-wrapping-add-usize-requires
-wrapping-add-usize-requires c κs = search needs
+wrapping-add-usize-requires c κs = tt
 
 fill-requires : tie.Need-fill-requires
-fill-requires c κs = search needs
+fill-requires c κs = tt
 
 same-length : tie.Need-same-length
 same-length c = search needs
 
 returns : tie.Need-returns
-returns c = search needs
+returns c = tt
 
 slice-relend-prefix-compared : tie.Need-slice-relend-prefix-compared
 slice-relend-prefix-compared c = search needs
@@ -26,22 +26,22 @@ slice-aggregate-compared : tie.Need-slice-aggregate-compared
 slice-aggregate-compared c = sym (length-take-le _ _ (omega arith))
 
 compared-requires : tie.Need-compared-requires
-compared-requires c κs = search needs
+compared-requires c κs = tt
 
 is-kept-requires : tie.Need-is-kept-requires
-is-kept-requires c κs = search needs
+is-kept-requires c κs = tt
 
 same-length-2 : tie.Need-same-length-2
 same-length-2 c = search needs
 
 returns-2 : tie.Need-returns-2
-returns-2 c = search needs
+returns-2 c = tt
 
 same-length-3 : tie.Need-same-length-3
 same-length-3 c = search needs
 
 returns-3 : tie.Need-returns-3
-returns-3 c = search needs
+returns-3 c = tt
 
 pub run-spec : {M : Type 1} → statement M
 run-spec =

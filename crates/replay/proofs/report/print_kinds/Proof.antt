@@ -1,4 +1,4 @@
--- The loop of `print_kinds` is safe and ends: the kind is at most 64, and what is left up to 64 falls.
+-- The loop of `print_kinds` is safe and ends: the kind is at most 128, and what is left up to 128 falls.
 -- Assumes nothing.
 use Prim.Native.Nat.{_-_, _≤_}
 use borrow.Author.Needs.{needs}
@@ -6,10 +6,10 @@ use Rattle.replay.proofs.report.print_kinds.Statement.{statement}
 use Rattle.replay.proofs.report.print_kinds.Tie as tie
 
 abbrev Inv-loop : tie.InvT-loop
-Inv-loop tally kind₀ kind = kind ≤ 64
+Inv-loop tally kind₀ kind = kind ≤ 128
 
 abbrev μ-loop : tie.MeasureT-loop
-μ-loop tally kind₀ kind = 64 - kind
+μ-loop tally kind₀ kind = 128 - kind
 
 loop-holds : tie.Need-loop-holds Inv-loop μ-loop
 loop-holds c = search needs
@@ -30,7 +30,7 @@ element-copy-out-print-kind-2 : tie.Need-element-copy-out-print-kind-2 Inv-loop 
 element-copy-out-print-kind-2 c = search needs
 
 print-kind-requires : tie.Need-print-kind-requires Inv-loop μ-loop
-print-kind-requires c κs = search needs
+print-kind-requires c κs = tt
 
 add-kind : tie.Need-add-kind Inv-loop μ-loop
 add-kind c = search needs
@@ -42,7 +42,7 @@ loop-again : tie.Need-loop-again Inv-loop μ-loop
 loop-again c = search needs
 
 returns : tie.Need-returns Inv-loop μ-loop
-returns c = search needs
+returns c = tt
 
 pub print-kinds-spec : {M : Type 1} → statement M
 print-kinds-spec =
