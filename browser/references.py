@@ -1,6 +1,6 @@
 """References as the HTML Standard's tokenizer reads them, as decode does and as browse does: one reader with four switches.
 
-Each switch is a kind of difference that document 01 knows of. All off it is decode, with LEFT on it is browse, all on it is the Standard's tokenizer.
+Each switch is a kind of difference that docs/DIFFERENCES.md lists. All off it is decode, with LEFT on it is browse, all on it is the Standard's tokenizer.
 So a difference between browse and a browser is explained exactly if each of the two gives what the reader says with its switches."""
 import html.entities
 import random

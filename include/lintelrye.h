@@ -79,7 +79,7 @@ lintelrye_answer lintelrye_encode(uint32_t context, const uint8_t *text, size_t 
 /* encode as a borrowing call: where nothing is replaced it needs no room and leaves the output alone. */
 lintelrye_answer lintelrye_encode_borrowing(uint32_t context, const uint8_t *text, size_t text_length, uint8_t *output, size_t output_length);
 
-/* decode: undoes replacements: character references such as &amp; in contexts 0 to 6, escapes such as \x3C in the strings. Everything else is copied, and
+/* decode: undoes replacements: character references such as &amp; in contexts 0 to 6, escapes such as \x3C in the strings. All else is copied, and
  * what was decoded is not decoded again. The result can be longer than the text, by a fifth at most (&nGt; gives six bytes). */
 lintelrye_answer lintelrye_decode(uint32_t context, const uint8_t *text, size_t text_length, uint8_t *output, size_t output_length);
 

@@ -290,9 +290,9 @@ impl Run {
             }
         }
         println!("{} cases, {} calls, {} differ; {} cases passed, the others are refusals", self.ran(), 2 * self.ran(), self.differing(), self.passed);
-        println!("encode and decode were compared with the crate, refusals with from_utf8 and document 01's table, each with the bytes that are to stay;");
+        println!("encode and decode were compared with the crate, refusals with from_utf8 and the table of RULES 13.3, each with the bytes that must keep their values;");
         println!("read with the units that the crate's encoders write, and {} times the crate wrote what was read back to the same text;", self.read_back);
-        println!("browse with document 01's sentence on numbers and the crate's decode of names, and {} times with the crate's decode alone", self.as_decoded);
+        println!("browse with RULES 10.5 for numbers and the crate's decode of names, and {} times with the crate's decode alone", self.as_decoded);
     }
 }
 

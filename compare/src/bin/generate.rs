@@ -1,5 +1,5 @@
 //! Writes the list that crates/replay replays in the gate, crates/replay/stdin, and what the program must print of it, crates/replay/stdout.
-//! Every answer in it comes from the crate html-escape, from `std::str::from_utf8` and from the sentences of document 01 (compare/src/model.rs);
+//! Every answer in it comes from the crate html-escape, from `std::str::from_utf8` and from docs/RULES.md (compare/src/model.rs);
 //! the library is not even linked. The seed is fixed, so that every run writes the same bytes.
 //!   compare/run generate [--crate PATH]
 //! How a line of the list reads stands at the head of crates/replay/src/main.rt.
