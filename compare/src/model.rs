@@ -131,7 +131,7 @@ impl Units {
         units
     }
 
-    /// The strict reader: a replacement that stands here, or a character that is not replaced, and so on; else the text is no form.
+    /// The strict reader: at each place a replacement, or a character that is not replaced; otherwise the text is no form.
     fn read(&self, text: &str) -> Outcome {
         let mut result = String::new();
         let mut same = true;
