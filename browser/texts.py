@@ -1,4 +1,4 @@
-"""The texts that go through every context: what people type, what hurts, and random ones from a fixed seed."""
+"""The texts that go through every context: what people type, difficult ones, and random ones from a fixed seed."""
 import html.entities
 import random
 
