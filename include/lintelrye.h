@@ -16,7 +16,8 @@
  * lintelrye_view gives the result in every case.
  *
  * Escaping depends on the place: choose the context of the place where the result goes. No context makes a text safe in a URL, in CSS or script
- * outside a string, in a comment, or as the name of a tag or attribute. LINTELRYE_SAFE is no sanitizer: it is right only where LINTELRYE_QUOTED is.
+ * outside a string, in a comment, or as the name of a tag or attribute. LINTELRYE_SAFE is no sanitizer: like LINTELRYE_QUOTED it is right between tags
+ * and in attributes with quotes, and nowhere else.
  * For a script string in an attribute, such as onclick="f('HERE')", encode by SCRIPT_SINGLE and then the result of that by DOUBLE_QUOTED.
  * docs/RULES.md has every rule.
  */

@@ -15,7 +15,7 @@ pub enum Context {
     SingleQuoted = 3,
     /// In an attribute between quotes of either kind.
     Quoted = 4,
-    /// As `Quoted`, and `/` is replaced. It is no sanitizer: it is right only where `Quoted` is.
+    /// As `Quoted`, and `/` is replaced. It is no sanitizer: it is right between tags and in attributes with quotes, and nowhere else.
     Safe = 5,
     /// In an attribute without quotes; an empty text needs quotes.
     Unquoted = 6,

@@ -35,7 +35,8 @@
 //! | `onclick="f('HERE')"` | `ScriptSingle`, and the result of that by `DoubleQuoted` | both functions |
 //! | a URL, CSS or script outside a string, a comment, a tag or attribute name | none: no context makes that safe | none |
 //!
-//! `safe` is not a sanitizer: it is `quoted` with one more character, and is right only where `quoted` is. `encode_script` is no JSON encoder.
+//! `safe` is not a sanitizer: it is `quoted` with one more character, right between tags and in attributes with quotes, and nowhere else.
+//! `encode_script` is no JSON encoder.
 //! In a style string a NUL becomes U+FFFD, so a text with NUL is not given back.
 //!
 //! # Texts and buffers

@@ -35,7 +35,7 @@ named! {
         encode_single_quoted_attribute encode_single_quoted_attribute_to_slice SingleQuoted, "'a' \"b\"" gives "&#x27;a&#x27; \"b\"";
     "Encodes an attribute between quotes of either kind."
         encode_quoted_attribute encode_quoted_attribute_to_slice Quoted, "'a' \"b\"" gives "&#x27;a&#x27; &quot;b&quot;";
-    "Encodes as [`encode_quoted_attribute`] does, and `/` too. It is no sanitizer: it is right only in an attribute between quotes."
+    "Encodes as [`encode_quoted_attribute`] does, and `/` too. It is no sanitizer: it is right between tags and in attributes with quotes, and nowhere else."
         encode_safe encode_safe_to_slice Safe, "'/\"" gives "&#x27;&#x2F;&quot;";
     "Encodes an attribute without quotes: every ASCII character that is no letter or digit. An empty text needs quotes."
         encode_unquoted_attribute encode_unquoted_attribute_to_slice Unquoted, "a b" gives "a&#x20;b";
