@@ -55,7 +55,7 @@ def dom(work, page):
 
 
 def picture(work, page, image, width, height):
-    """Writes an image of a page, and tells whether it did."""
+    """Writes an image of a page, and returns whether it did."""
     made = os.path.join(work, 'picture.png')
     if os.path.exists(made):
         os.remove(made)

@@ -19,7 +19,7 @@ NUL_DROPPED = Kind('a NUL, copied into element text, is dropped', lambda text: t
 NUL_REPLACED = Kind('a NUL, copied into an attribute, a script, a title or a textarea, is read as U+FFFD', lambda text: text.replace('\0', '\ufffd'))
 NUL_NUMBER = Kind('a NUL, written &#x00; in an unquoted attribute, is read as U+FFFD', lambda text: text.replace('\0', '\ufffd'))
 NUL_STYLE = Kind('a NUL, for which a style string has U+FFFD, is U+FFFD', lambda text: text.replace('\0', '\ufffd'))
-FIRST_LINE_FEED = Kind('a line feed that stands first in a pre or a textarea is dropped', lambda text: text[1:] if text[:1] == '\n' else text)
+FIRST_LINE_FEED = Kind('a line feed at the start of a pre or a textarea is dropped', lambda text: text[1:] if text[:1] == '\n' else text)
 FIELD = Kind('line breaks are dropped by a text field that takes its value from the attribute', lambda text: text.replace('\n', '').replace('\r', ''))
 FEEDS = Kind('U+000B or U+000C with nothing but blanks beside it is not shown', lambda text: text if text.strip('\t\n\v\f ') else re.sub('[\v\f]', '', text))
 ZERO_WIDTH = Kind('a line break beside U+200B is not shown', lambda text: re.sub('(?<=\u200b)[ \t]*\n[ \t\n]*|[ \t\n]*\n[ \t]*(?=\u200b)', '', text))

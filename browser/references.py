@@ -1,6 +1,6 @@
 """References as the HTML Standard's tokenizer reads them, as decode does and as browse does: one reader with four switches.
 
-Each switch is a kind of difference that document 01 knows of. All off it is decode, with LEFT on it is browse, all on it is the Standard's tokenizer.
+Each switch is a kind of difference that docs/DIFFERENCES.md lists. All off it is decode, with LEFT on it is browse, all on it is the Standard's tokenizer.
 So a difference between browse and a browser is explained exactly if each of the two gives what the reader says with its switches."""
 import html.entities
 import random
@@ -19,7 +19,7 @@ REFERENCE = re.compile('&(?:#(?:[xX]([0-9A-Fa-f]+)|([0-9]+))(;?)|([A-Za-z0-9]+;?
 
 
 def number(match, switches, used):
-    """What a numeric reference stands for; itself where it is left. Notes the switches that mattered."""
+    """The text that a numeric reference represents, or the reference itself where it is left. Notes the switches that mattered."""
     hexadecimal, decimal, end, _ = match.groups()
     digits = (hexadecimal or decimal).lstrip('0') or '0'
     value = 0x110000 if len(digits) > 8 else int(digits, 16 if hexadecimal else 10)
@@ -36,7 +36,7 @@ def number(match, switches, used):
 
 
 def named(match, attribute, switches, used):
-    """What a named reference stands for, and what follows its longest name; itself where it is left."""
+    """The text that a named reference represents, and what follows its longest name; the reference itself where it is left."""
     name, after = match.group(4), match.string[match.end():match.end() + 1]
     if name.endswith(';') and name in NAMES:
         return NAMES[name]

@@ -1,4 +1,4 @@
-"""The texts that go through every context: what people type, what hurts, and random ones from a fixed seed."""
+"""The texts that go through every context: what people type, difficult ones, and random ones from a fixed seed."""
 import html.entities
 import random
 
@@ -26,7 +26,7 @@ def ascii_texts():
 
 
 def reference_texts():
-    """The text of every named reference, and every name typed as a reference, with its `;` or without: typed, it stands for itself."""
+    """The text of every named reference, and every name typed as a reference, with its `;` or without: what was typed is what must be shown."""
     for name, value in sorted(html.entities.html5.items()):
         yield value
         yield '&' + name

@@ -1,5 +1,5 @@
 /* Fills one page of a lift's journey log into one fixed buffer and prints it. The names of the landings are typed by the people who live there, so
- * each goes in by the context of the place where it stands: an attribute, element text, a script string. A line that no longer fits is left out
+ * each is encoded for the context of its place: an attribute, element text, a script string. A line that no longer fits is left out
  * whole, and the page says so. */
 #include <stdbool.h>
 #include <stdio.h>
@@ -45,7 +45,7 @@ static bool put(struct page *page, const char *words)
     return true;
 }
 
-/* Appends somebody else's text, encoded for the place where it stands. Leaves the page as it was where the library refuses. */
+/* Appends text from outside, encoded for its place. Leaves the page as it was where the library refuses. */
 static bool put_text(struct page *page, uint32_t context, const char *text)
 {
     lintelrye_answer answer = lintelrye_encode(context, (const uint8_t *)text, strlen(text), page->bytes + page->used, page->room - page->used);

@@ -1,7 +1,7 @@
 /* Lintelrye for C and C++: HTML escaping with proofs. Link liblintelrye_c.a (x86-64, System V calls); nothing else is needed.
  *
  * Four operations, each as a copying and as a borrowing call. Every call takes a context by its number, a text, and an output that the caller
- * lends, and returns four numbers. No call allocates, keeps a pointer, writes to a global or fails to end.
+ * lends, and returns four numbers. No call allocates, keeps a pointer or writes to a global, and every call ends.
  *
  * What a caller owes, and all that is owed:
  *   - `text` can be read for `text_length` bytes, and `output` read and written for `output_length` bytes, during the call;
@@ -14,6 +14,12 @@
  *   - any other status: a refusal, and every byte of the output keeps its value;
  *   - a borrowing call, where nothing is replaced: `same` is 1, and every byte of the output keeps its value; the result is the text itself.
  * lintelrye_view gives the result in every case.
+ *
+ * Escaping depends on the place: choose the context of the place where the result goes. No context makes a text safe in a URL, in CSS or script
+ * outside a string, in a comment, or as the name of a tag or attribute. LINTELRYE_SAFE is no sanitizer: like LINTELRYE_QUOTED it is right between tags
+ * and in attributes with quotes, and nowhere else.
+ * For a script string in an attribute, such as onclick="f('HERE')", encode by SCRIPT_SINGLE and then the result of that by DOUBLE_QUOTED.
+ * docs/RULES.md has every rule.
  */
 #ifndef LINTELRYE_H
 #define LINTELRYE_H
@@ -28,35 +34,35 @@ extern "C" {
 /* The longest text that a call takes, in bytes. */
 #define LINTELRYE_TEXT_LIMIT 65536
 
-/* An output of so many bytes is enough for every text of n bytes: to encode it; to decode or browse it. To read it, n bytes are. */
+/* An output of so many bytes is enough for every text of n bytes: to encode it; to decode or browse it. To read it, n bytes are enough. */
 #define LINTELRYE_ENCODED_AT_MOST(n) (6 * (n))
 #define LINTELRYE_DECODED_AT_MOST(n) ((n) + (n) / 5)
 
-/* The contexts: where the written text is to stand. */
+/* The contexts: where on the page the result goes. */
 enum lintelrye_context {
-    LINTELRYE_TEXT_MINIMAL = 0,  /* between tags: & and < are replaced */
-    LINTELRYE_TEXT = 1,          /* between tags: > too */
+    LINTELRYE_TEXT_MINIMAL = 0,  /* between tags, not in script or style elements: & and < are replaced */
+    LINTELRYE_TEXT = 1,          /* between tags, not in script or style elements: > is replaced too */
     LINTELRYE_DOUBLE_QUOTED = 2, /* in an attribute between double quotes */
     LINTELRYE_SINGLE_QUOTED = 3, /* in an attribute between single quotes */
     LINTELRYE_QUOTED = 4,        /* in an attribute between quotes of either kind */
-    LINTELRYE_SAFE = 5,          /* as QUOTED, and / is replaced */
+    LINTELRYE_SAFE = 5,          /* as QUOTED, and / is replaced; no sanitizer, see above */
     LINTELRYE_UNQUOTED = 6,      /* in an attribute without quotes; an empty text needs quotes */
     LINTELRYE_SCRIPT_SINGLE = 7, /* in a string of a script element, between single quotes */
-    LINTELRYE_SCRIPT_DOUBLE = 8, /* between double quotes */
-    LINTELRYE_SCRIPT_QUOTED = 9, /* between quotes of either kind */
+    LINTELRYE_SCRIPT_DOUBLE = 8, /* in a string of a script element, between double quotes */
+    LINTELRYE_SCRIPT_QUOTED = 9, /* in a string of a script element, between quotes of either kind */
     LINTELRYE_STYLE_SINGLE = 10, /* in a string of a style element, between single quotes; a NUL becomes U+FFFD */
-    LINTELRYE_STYLE_DOUBLE = 11, /* between double quotes */
-    LINTELRYE_STYLE_QUOTED = 12, /* between quotes of either kind */
-    LINTELRYE_SCRIPT_RAW = 13    /* the whole text of a script element; encode only */
+    LINTELRYE_STYLE_DOUBLE = 11, /* in a string of a style element, between double quotes; a NUL becomes U+FFFD */
+    LINTELRYE_STYLE_QUOTED = 12, /* in a string of a style element, between quotes of either kind; a NUL becomes U+FFFD */
+    LINTELRYE_SCRIPT_RAW = 13    /* the whole text of a script element, in one call; encode only; no JSON encoder (<!-- becomes <\!--) */
 };
 
 /* The statuses. Where several refusals apply, the first of this order is given: BAD_CONTEXT, TOO_LONG, NOT_UTF8, NOT_A_FORM, NO_ROOM. */
 enum lintelrye_status {
     LINTELRYE_PASSED = 0,
-    LINTELRYE_TOO_LONG = 1,   /* the text is longer than LINTELRYE_TEXT_LIMIT */
+    LINTELRYE_TOO_LONG = 1,   /* the text is longer than LINTELRYE_TEXT_LIMIT bytes */
     LINTELRYE_NOT_UTF8 = 2,   /* the text is not valid UTF-8; `place` is the length of its longest valid prefix */
     LINTELRYE_NO_ROOM = 3,    /* the output is shorter than the result; `length` is the length needed */
-    LINTELRYE_NOT_A_FORM = 4, /* read only: encode writes no such text; `place` is the length of its longest prefix of whole units */
+    LINTELRYE_NOT_A_FORM = 4, /* read only: encode writes no such text; `place` is the length of its longest prefix that encode writes */
     LINTELRYE_BAD_CONTEXT = 5 /* the operation has no such context: encode has 0 to 13, decode and read 0 to 12, browse 0 to 6 */
 };
 
@@ -65,37 +71,38 @@ typedef struct lintelrye_answer {
     uint64_t status; /* LINTELRYE_PASSED, or the refusal */
     uint64_t length; /* the result's length; after NO_ROOM the length needed; after any other refusal 0 */
     uint64_t same;   /* 1 exactly if nothing was replaced, so that the result is the text; after a refusal 0 */
-    uint64_t place;  /* after NOT_UTF8 and NOT_A_FORM how far the text is right; otherwise 0 */
+    uint64_t place;  /* after NOT_UTF8 and NOT_A_FORM the length of the longest correct prefix; otherwise 0 */
 } lintelrye_answer;
 
-/* encode: writes the text so that it stands for itself in the context. What the context replaces is replaced, the rest is copied. */
+/* encode: escapes the text for the context. Every character that the context replaces is replaced, everything else is copied. */
 lintelrye_answer lintelrye_encode(uint32_t context, const uint8_t *text, size_t text_length, uint8_t *output, size_t output_length);
 
-/* encode as a borrowing call: needs no room, and leaves the output alone, where nothing is replaced. */
+/* encode as a borrowing call: where nothing is replaced it needs no room and leaves the output alone. */
 lintelrye_answer lintelrye_encode_borrowing(uint32_t context, const uint8_t *text, size_t text_length, uint8_t *output, size_t output_length);
 
-/* decode: takes replacements back, references such as &amp; in contexts 0 to 6 and escapes such as \x3C in the strings. Whatever is none stays as it
- * is, and what was decoded is not decoded again. The result can be longer than the text (&nGt; gives six bytes). */
+/* decode: undoes replacements: character references such as &amp; in contexts 0 to 6, escapes such as \x3C in the strings. All else is copied, and
+ * what was decoded is not decoded again. The result can be longer than the text, by a fifth at most (&nGt; gives six bytes). */
 lintelrye_answer lintelrye_decode(uint32_t context, const uint8_t *text, size_t text_length, uint8_t *output, size_t output_length);
 
 /* decode as a borrowing call. */
 lintelrye_answer lintelrye_decode_borrowing(uint32_t context, const uint8_t *text, size_t text_length, uint8_t *output, size_t output_length);
 
-/* read: takes back exactly what encode writes in the context, and refuses every other text with NOT_A_FORM. */
+/* read: undoes exactly what encode writes in the context. Every other text, if it is not too long and is valid UTF-8, is refused with NOT_A_FORM. */
 lintelrye_answer lintelrye_read(uint32_t context, const uint8_t *text, size_t text_length, uint8_t *output, size_t output_length);
 
 /* read as a borrowing call. */
 lintelrye_answer lintelrye_read_borrowing(uint32_t context, const uint8_t *text, size_t text_length, uint8_t *output, size_t output_length);
 
-/* browse: as decode in contexts 0 to 6, but takes numbers as a browser does: 0, surrogates and numbers above 10FFFF hex give U+FFFD. */
+/* browse: as decode in contexts 0 to 6, but every numeric reference is replaced: 0, surrogates and numbers above 10FFFF hex by U+FFFD, as in a
+ * browser, and every other number by its character. */
 lintelrye_answer lintelrye_browse(uint32_t context, const uint8_t *text, size_t text_length, uint8_t *output, size_t output_length);
 
 /* browse as a borrowing call. */
 lintelrye_answer lintelrye_browse_borrowing(uint32_t context, const uint8_t *text, size_t text_length, uint8_t *output, size_t output_length);
 
 /* view: the result of a call, from the text, the output and the answer. It returns where the result begins and puts its length into *length: the whole
- * text where `same` is 1, otherwise the first `length` bytes of the output, or none where the output is shorter. It never refuses; after a
- * refusal it gives none. */
+ * text where `same` is 1, otherwise the first `length` bytes of the output, or length 0 where the output is shorter. It never refuses; after a
+ * refusal the length is 0. */
 static inline const uint8_t *lintelrye_view(const uint8_t *text, size_t text_length, const uint8_t *output, size_t output_length, lintelrye_answer answer,
                                             size_t *length)
 {

@@ -45,7 +45,7 @@ fn made(root: &Path) -> PathBuf {
     println!("cargo:rerun-if-changed={}", root.join("crates.txt").display());
     match Command::new("sh").arg(&script).stderr(Stdio::inherit()).output() {
         Ok(run) if run.status.success() => PathBuf::from(String::from_utf8_lossy(&run.stdout).trim_end()),
-        Ok(_) => stop("tools/archive made no archive; its own words stand above. Or set LINTELRYE_ARCHIVE_DIR to a folder that has one."),
+        Ok(_) => stop("tools/archive made no archive; its message is above. Or set LINTELRYE_ARCHIVE_DIR to a folder that has one."),
         Err(error) => {
             stop(&format!("tools/archive could not be run by sh: {}. Or set LINTELRYE_ARCHIVE_DIR to a folder that has {}.", error, ARCHIVE))
         }

@@ -1,4 +1,4 @@
-//! What each call is to answer, worked out from the crate html-escape, from `std::str::from_utf8` and from the sentences of document 01.
+//! What each call is to answer, worked out from the crate html-escape, from `std::str::from_utf8` and from docs/RULES.md.
 //! Nothing here calls the library.
 
 use crate::{Answer, Operation, CRATE_DECODERS, CRATE_ENCODERS, CRATE_LENDING_DECODERS, CRATE_LENDING_ENCODERS};
@@ -112,7 +112,7 @@ struct Units {
 
 impl Units {
     /// Encodes every character by itself. Above 7F hex only the two line separators can be replaced, which one call over all the others shows.
-    /// A style NUL is replaced and cannot be read back: U+FFFD is a plain character (document 01, "Style units have no `\00 `").
+    /// A style NUL is replaced and cannot be read back: U+FFFD is a plain character (RULES 6.3).
     fn of_context(context: u32) -> Units {
         let encode = |text: &str| CRATE_LENDING_ENCODERS[context as usize](text).into_owned();
         let separators = ['\u{2028}', '\u{2029}'];
@@ -131,7 +131,7 @@ impl Units {
         units
     }
 
-    /// The strict reader: a replacement that stands here, or a character that is not replaced, and so on; else the text is no form.
+    /// The strict reader: at each place a replacement, or a character that is not replaced; otherwise the text is no form.
     fn read(&self, text: &str) -> Outcome {
         let mut result = String::new();
         let mut same = true;
@@ -152,7 +152,7 @@ impl Units {
     }
 }
 
-/// browse: references as document 01 finds them, names as the crate's decode takes them, numbers by document 01's sentence.
+/// browse: references are found by RULES 10.1, names are the crate's decode, numbers are RULES 10.5.
 fn browse(text: &str) -> Outcome {
     let mut result = String::new();
     let mut same = true;

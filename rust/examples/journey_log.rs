@@ -1,5 +1,5 @@
 //! Fills one page of a lift's journey log into one fixed buffer and prints it. The names of the landings are typed by the people who live there, so
-//! each goes in by the function for the place where it stands: an attribute, element text, a script string. A line that no longer fits is left
+//! each is encoded by the function for its place: an attribute, element text, a script string. A line that no longer fits is left
 //! out whole, and the page says so. c/journey_log.c prints the same page.
 use lintelrye::{Refusal, Written};
 use std::io::Write;
@@ -51,7 +51,7 @@ impl Page {
         Ok(())
     }
 
-    /// Appends somebody else's text by the encoder for the place where it stands. Leaves the page as it was where the library refuses.
+    /// Appends text from outside by the encoder for its place. Leaves the page as it was where the library refuses.
     fn put_text(&mut self, encoder: Encoder, text: &str) -> Result<(), Refusal> {
         self.used += encoder(text, &mut self.bytes[self.used..self.room])?.len();
         Ok(())

@@ -1,65 +1,35 @@
-//! The four operations in a context, copying and borrowing, with what they take and give.
+//! The four operations in a context, copying and borrowing, their results and their refusals.
 use crate::raw::{self, Answer};
+use crate::Context;
 use core::{fmt, ops, str};
 
 /// The longest text that a call takes, in bytes.
 pub const TEXT_LIMIT: usize = 65_536;
 
-/// Where the written text is to stand.
-#[derive(Clone, Copy, Debug, PartialEq, Eq, Hash)]
-#[repr(u32)]
-pub enum Context {
-    /// Between tags: `&` and `<` are replaced.
-    TextMinimal = 0,
-    /// Between tags: `>` too.
-    Text = 1,
-    /// In an attribute between double quotes.
-    DoubleQuoted = 2,
-    /// In an attribute between single quotes.
-    SingleQuoted = 3,
-    /// In an attribute between quotes of either kind.
-    Quoted = 4,
-    /// As `Quoted`, and `/` is replaced.
-    Safe = 5,
-    /// In an attribute without quotes; an empty text needs quotes.
-    Unquoted = 6,
-    /// In a string of a script element, between single quotes.
-    ScriptSingle = 7,
-    /// In a string of a script element, between double quotes.
-    ScriptDouble = 8,
-    /// In a string of a script element, between quotes of either kind.
-    ScriptQuoted = 9,
-    /// In a string of a style element, between single quotes; a NUL becomes U+FFFD.
-    StyleSingle = 10,
-    /// In a string of a style element, between double quotes.
-    StyleDouble = 11,
-    /// In a string of a style element, between quotes of either kind.
-    StyleQuoted = 12,
-    /// The whole text of a script element; [`encode`] only.
-    ScriptRaw = 13,
+/// The length of an output that is enough to encode every text of `n` bytes, in every context.
+///
+/// ```
+/// let mut line = [0; lintelrye::encoded_at_most(11)];
+/// assert_eq!(line.len(), 66);
+/// assert_eq!(lintelrye::encode_text("Mum & Dad's", &mut line)?, "Mum &amp; Dad's");
+/// # Ok::<(), lintelrye::Refusal>(())
+/// ```
+pub const fn encoded_at_most(n: usize) -> usize {
+    n.saturating_mul(6)
 }
 
-impl Context {
-    /// All contexts, in the order of their numbers.
-    pub const ALL: [Context; 14] = [
-        Context::TextMinimal,
-        Context::Text,
-        Context::DoubleQuoted,
-        Context::SingleQuoted,
-        Context::Quoted,
-        Context::Safe,
-        Context::Unquoted,
-        Context::ScriptSingle,
-        Context::ScriptDouble,
-        Context::ScriptQuoted,
-        Context::StyleSingle,
-        Context::StyleDouble,
-        Context::StyleQuoted,
-        Context::ScriptRaw,
-    ];
+/// The length of an output that is enough to decode or browse every text of `n` bytes. To read one, `n` bytes are enough.
+///
+/// ```
+/// let mut line = [0; lintelrye::decoded_at_most(5)];
+/// assert_eq!(lintelrye::decode_html_entities("&nGt;", &mut line)?.len(), 6);
+/// # Ok::<(), lintelrye::Refusal>(())
+/// ```
+pub const fn decoded_at_most(n: usize) -> usize {
+    n.saturating_add(n / 5)
 }
 
-/// A refusal. Where several apply, the first of this order is given. The buffer is as it was.
+/// A refusal. Where several apply, the first of this order is given. The buffer is as it was, except after [`Refusal::WrongArchive`].
 #[derive(Clone, Copy, Debug, PartialEq, Eq)]
 #[non_exhaustive]
 pub enum Refusal {
@@ -72,9 +42,9 @@ pub enum Refusal {
         /// The length of its longest valid prefix.
         place: usize,
     },
-    /// [`read`] only: encode writes no such text.
+    /// [`read`] only: [`encode`] writes no such text.
     NotAForm {
-        /// The length of its longest prefix that encode writes.
+        /// The length of its longest prefix that [`encode`] writes.
         place: usize,
     },
     /// The buffer is shorter than the result.
@@ -82,7 +52,7 @@ pub enum Refusal {
         /// The length needed.
         needed: usize,
     },
-    /// The archive gave an answer that this version of the library cannot give: another archive was linked. The buffer may have changed.
+    /// No refusal of the library: the answer is one that this version never gives, so another archive is linked. Nothing is known of the buffer then.
     WrongArchive,
 }
 
@@ -99,10 +69,22 @@ impl fmt::Display for Refusal {
     }
 }
 
-/// A result, and whether anything was replaced: what a `Cow` is in html-escape. It can be used as a `&str`.
+#[cfg(feature = "std")]
+impl std::error::Error for Refusal {}
+
+/// A result, and whether anything was replaced: what a `Cow` is in html-escape. It can be used as a `&str`, and be given to the next call.
+///
+/// ```
+/// // A script string in an attribute: onclick="greet('HERE')"
+/// let (mut inner, mut outer) = ([0; 64], [0; 64]);
+/// let string = lintelrye::encode_script_single_quoted_text("Dad's \"den\"", &mut inner)?;
+/// let attribute = lintelrye::encode_double_quoted_attribute(&string, &mut outer)?;
+/// assert_eq!(attribute, "Dad\\'s &quot;den&quot;");
+/// # Ok::<(), lintelrye::Refusal>(())
+/// ```
 #[derive(Clone, Copy, Debug, PartialEq, Eq)]
 pub enum Written<'a> {
-    /// Nothing was replaced. Of a borrowing call this is the text itself, of a copying call its copy in the buffer.
+    /// Nothing was replaced. From a borrowing call this is the text itself, from a copying call its copy in the buffer.
     Same(&'a str),
     /// Something was replaced: the part of the buffer that was written.
     Replaced(&'a str),
@@ -130,6 +112,18 @@ impl ops::Deref for Written<'_> {
     }
 }
 
+impl AsRef<str> for Written<'_> {
+    fn as_ref(&self) -> &str {
+        self.as_str()
+    }
+}
+
+impl AsRef<[u8]> for Written<'_> {
+    fn as_ref(&self) -> &[u8] {
+        self.as_str().as_bytes()
+    }
+}
+
 impl fmt::Display for Written<'_> {
     fn fmt(&self, f: &mut fmt::Formatter<'_>) -> fmt::Result {
         f.pad(self.as_str())
@@ -148,7 +142,7 @@ impl PartialEq<&str> for Written<'_> {
     }
 }
 
-/// The refusal that an answer tells of.
+/// Returns the refusal of an answer whose status is not 0.
 fn refusal(answer: Answer) -> Refusal {
     match answer.status {
         raw::BAD_CONTEXT => Refusal::BadContext,
@@ -160,8 +154,8 @@ fn refusal(answer: Answer) -> Refusal {
     }
 }
 
-/// The result of a call whose bytes are found. A passed result is valid UTF-8; this looks once more, which costs little and leaves this crate without
-/// a conversion that trusts its archive.
+/// Returns the result of a call from its bytes. A result is always valid UTF-8; it is checked here once more, which costs little, so that no conversion
+/// of this crate relies on the archive that is linked.
 fn written(result: Option<&[u8]>, answer: Answer) -> Result<Written<'_>, Refusal> {
     if answer.status != raw::PASSED {
         return Err(refusal(answer));
@@ -181,7 +175,7 @@ macro_rules! operation {
             written(raw::front(output, answer.length), answer)
         }
 
-        #[doc = concat!("[`", stringify!($copying), "`] as a borrowing call: needs no room, and leaves the buffer alone, where nothing is replaced.")]
+        #[doc = concat!("[`", stringify!($copying), "`] as a borrowing call: where nothing is replaced it needs no room and leaves the buffer alone.")]
         pub fn $borrowing<'a, T: ?Sized + AsRef<[u8]>>(context: Context, text: &'a T, output: &'a mut [u8]) -> Result<Written<'a>, Refusal> {
             let text = text.as_ref();
             let answer = raw::$borrowing(context as u32, text, output);
@@ -191,7 +185,7 @@ macro_rules! operation {
 }
 
 operation! {
-    /// Writes the text so that it stands for itself in the context: what the context replaces is replaced, the rest is copied.
+    /// Escapes the text for the context: every character that the context replaces is replaced, everything else is copied.
     ///
     /// ```
     /// use lintelrye::{encode, Context, Refusal, Written};
@@ -204,8 +198,8 @@ operation! {
 }
 
 operation! {
-    /// Takes replacements back: references such as `&amp;` in the first seven contexts, escapes such as `\x3C` in the strings. Whatever is none stays as
-    /// it is, and what was decoded is not decoded again. A result can be longer than its text, by a fifth at most.
+    /// Undoes the replacements as html-escape does: character references such as `&amp;` in the first seven contexts, escapes such as `\x3C` in the
+    /// strings. Everything else is copied, and what was decoded is not decoded again. A result can be longer than its text, by a fifth at most.
     ///
     /// ```
     /// use lintelrye::{decode, Context};
@@ -218,7 +212,7 @@ operation! {
 }
 
 operation! {
-    /// Takes back exactly what [`encode`] writes in the context, and refuses every other text.
+    /// Undoes exactly what [`encode`] writes in the context, and refuses every other text.
     ///
     /// ```
     /// use lintelrye::{read, Context, Refusal};
@@ -231,7 +225,8 @@ operation! {
 }
 
 operation! {
-    /// As [`decode`] in the first seven contexts, but takes numbers as a browser does: 0, surrogates and numbers above 10FFFF hex give U+FFFD.
+    /// As [`decode`] in the first seven contexts, but every numeric reference is replaced: 0, surrogates and numbers above 10FFFF hex by U+FFFD, as in a
+    /// browser, and every other number by its character.
     ///
     /// ```
     /// use lintelrye::{browse, Context};

@@ -16,7 +16,7 @@ macro_rules! named {
             crate::$operation_borrowing(Context::$context, text, output)
         }
 
-        #[doc = concat!("[`", stringify!($borrowing), "`] as a copying call: the result always stands at the front of the buffer.")]
+        #[doc = concat!("[`", stringify!($borrowing), "`] as a copying call: the result is always written to the front of the buffer.")]
         pub fn $copying<'a, T: ?Sized + AsRef<[u8]>>(text: &T, output: &'a mut [u8]) -> Result<Written<'a>, Refusal> {
             crate::$operation(Context::$context, text, output)
         }
@@ -25,9 +25,9 @@ macro_rules! named {
 
 named! {
     encode encode_borrowing:
-    "Encodes text between tags: `&` and `<`."
+    "Encodes text between tags, not in script or style elements: `&` and `<`."
         encode_text_minimal encode_text_minimal_to_slice TextMinimal, "a<b>&" gives "a&lt;b>&amp;";
-    "Encodes text between tags: `&`, `<` and `>`."
+    "Encodes text between tags, not in script or style elements: `&`, `<` and `>`."
         encode_text encode_text_to_slice Text, "a<b>&" gives "a&lt;b&gt;&amp;";
     "Encodes an attribute between double quotes."
         encode_double_quoted_attribute encode_double_quoted_attribute_to_slice DoubleQuoted, "'a' \"b\"" gives "'a' &quot;b&quot;";
@@ -35,9 +35,9 @@ named! {
         encode_single_quoted_attribute encode_single_quoted_attribute_to_slice SingleQuoted, "'a' \"b\"" gives "&#x27;a&#x27; \"b\"";
     "Encodes an attribute between quotes of either kind."
         encode_quoted_attribute encode_quoted_attribute_to_slice Quoted, "'a' \"b\"" gives "&#x27;a&#x27; &quot;b&quot;";
-    "Encodes as [`encode_quoted_attribute`] does, and `/` too."
+    "Encodes as [`encode_quoted_attribute`] does, and `/` too. It is no sanitizer: it is right between tags and in attributes with quotes, and nowhere else."
         encode_safe encode_safe_to_slice Safe, "'/\"" gives "&#x27;&#x2F;&quot;";
-    "Encodes an attribute without quotes: every ASCII character that is no letter or digit."
+    "Encodes an attribute without quotes: every ASCII character that is no letter or digit. An empty text needs quotes."
         encode_unquoted_attribute encode_unquoted_attribute_to_slice Unquoted, "a b" gives "a&#x20;b";
     "Encodes a string of a script element, between single quotes."
         encode_script_single_quoted_text encode_script_single_quoted_text_to_slice ScriptSingle, "it's </script>" gives "it\\'s \\x3C/script>";
@@ -45,13 +45,13 @@ named! {
         encode_script_double_quoted_text encode_script_double_quoted_text_to_slice ScriptDouble, "\n\"" gives "\\x0A\\\"";
     "Encodes a string of a script element, between quotes of either kind."
         encode_script_quoted_text encode_script_quoted_text_to_slice ScriptQuoted, "'\"" gives "\\'\\\"";
-    "Encodes a string of a style element, between single quotes."
+    "Encodes a string of a style element, between single quotes; a NUL becomes U+FFFD."
         encode_style_single_quoted_text encode_style_single_quoted_text_to_slice StyleSingle, "it's" gives "it\\'s";
-    "Encodes a string of a style element, between double quotes."
+    "Encodes a string of a style element, between double quotes; a NUL becomes U+FFFD."
         encode_style_double_quoted_text encode_style_double_quoted_text_to_slice StyleDouble, "\n\"" gives "\\0A \\\"";
-    "Encodes a string of a style element, between quotes of either kind."
+    "Encodes a string of a style element, between quotes of either kind; a NUL becomes U+FFFD."
         encode_style_quoted_text encode_style_quoted_text_to_slice StyleQuoted, "\n<\0" gives "\\0A \\3C \u{FFFD}";
-    "Encodes the whole text of a script element: a backslash after each `<` that could close it or open a comment."
+    "Encodes the whole text of a script element, in one call: a backslash after each `<` that could close it or open a comment. It is no JSON encoder."
         encode_script encode_script_to_slice ScriptRaw, "<</script" gives "<<\\/script";
 }
 

@@ -1,5 +1,5 @@
-//! The calls as the archive exports them, over numbers: any context number goes in, the four numbers of the answer come out. The safe calls of this
-//! crate are made of these.
+//! The calls as the archive exports them: they take any context number and return the four numbers of the answer. The other calls of this crate are
+//! made of these.
 
 /// The answer of a call, as include/lintelrye.h lays it out.
 #[repr(C)]
@@ -11,7 +11,7 @@ pub struct Answer {
     pub length: u64,
     /// 1 exactly if nothing was replaced, so that the result is the text; after a refusal 0.
     pub same: u64,
-    /// After [`NOT_UTF8`] and [`NOT_A_FORM`] how far the text is right; otherwise 0.
+    /// After [`NOT_UTF8`] and [`NOT_A_FORM`] the length of the longest correct prefix; otherwise 0.
     pub place: u64,
 }
 
@@ -37,8 +37,8 @@ macro_rules! exported {
         $(
             #[doc = $does]
             pub fn $name(context: u32, text: &[u8], output: &mut [u8]) -> Answer {
-                // SAFETY: the text can be read and the output read and written for their lengths, and what is borrowed mutably overlaps nothing
-                // else that is borrowed. That is all that the call wants.
+                // SAFETY: the text can be read, and the output read and written, for their lengths, and a mutable borrow overlaps no other borrow.
+                // That is all that the call requires.
                 unsafe { $symbol(context, text.as_ptr(), text.len(), output.as_mut_ptr(), output.len()) }
             }
         )*
@@ -56,7 +56,7 @@ exported! {
     browse_borrowing is lintelrye_browse_borrowing: "`lintelrye_browse_borrowing`, see [`crate::browse_borrowing`].";
 }
 
-/// The result of a call: the whole text where `same` is 1, otherwise the first `length` bytes of the output, or none where the output is shorter.
+/// Returns the result of a call: the whole text where `same` is 1, otherwise the first `length` bytes of the output, or none where the output is shorter.
 ///
 /// ```
 /// use lintelrye::raw;
@@ -71,7 +71,7 @@ pub fn view<'a>(text: &'a [u8], output: &'a [u8], answer: Answer) -> &'a [u8] {
     front(output, answer.length).unwrap_or(&[])
 }
 
-/// The first bytes of a slice, if it has so many.
+/// Returns the first bytes of a slice, if it has so many.
 pub(crate) fn front(output: &[u8], length: u64) -> Option<&[u8]> {
     if length <= output.len() as u64 {
         output.get(..length as usize)

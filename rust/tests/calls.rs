@@ -37,7 +37,7 @@ fn a_copying_call_gives_the_front_of_the_buffer() {
 }
 
 #[test]
-fn what_is_replaced_stands_in_the_buffer() {
+fn what_is_replaced_is_in_the_buffer() {
     for borrowing in [false, true] {
         let mut output = [0xEE; 8];
         let start = output.as_ptr();

@@ -1,4 +1,4 @@
-//! The examples of document 01 through the archive's calls: the answer, the bytes, and the bytes past them, copying and borrowing.
+//! The examples of docs/RULES.md, section 16, through the archive's calls: the answer, the bytes, and the bytes past them, copying and borrowing.
 use lintelrye::raw::{self, Answer};
 
 type Call = fn(u32, &[u8], &mut [u8]) -> Answer;

@@ -18,7 +18,7 @@ pub struct Counter(File);
 impl Counter {
     /// The counter, or why there is none.
     pub fn open() -> Result<Counter, String> {
-        let path = std::env::var("LINTELRYE_COUNT").map_err(|_| "--instructions wants to be run by compare/run".to_string())?;
+        let path = std::env::var("LINTELRYE_COUNT").map_err(|_| "--instructions works only through compare/run".to_string())?;
         let counter = File::open(&path).map(Counter).map_err(|error| format!("{} cannot be read: {}", path, error))?;
         if counter.now() < counter.now() {
             Ok(counter)

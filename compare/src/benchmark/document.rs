@@ -103,7 +103,7 @@ const CLASSES: &str = "\
 | class | texts |
 |---|---|
 | plain | 64 KiB of English words in which nothing is replaced (for `unquoted`, which replaces spaces, letters and digits alone) |
-| 1 %, 10 %, 50 %, all | 64 KiB, of whose characters so many are special, at random places: what encode replaces in the context; for read, decode and browse the references or escapes that they take back (HTML decode: half common names, a quarter numbers, a quarter any names) |
+| 1 %, 10 %, 50 %, all | 64 KiB, of whose characters so many are special, at random places: what encode replaces in the context; for read, decode and browse the references or escapes that they undo (HTML decode: half common names, a quarter numbers, a quarter any names) |
 | short names | 2,000 names of 5 to 40 bytes, one call for each; about one in ten has something special |
 | Cyrillic, CJK, emoji | 64 KiB of characters of two, three, four bytes, nothing special |
 | English | `unquoted` alone: 64 KiB of English words with the spaces between them |

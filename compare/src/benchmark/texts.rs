@@ -91,7 +91,7 @@ pub fn cases() -> Vec<Case> {
     all
 }
 
-/// The classes of one operation in one context. In `unquoted`, where a space is special, plain words stand side by side.
+/// The classes of one operation in one context. In `unquoted`, where a space is special, plain words have no spaces between them.
 fn cases_of(operation: Operation, borrowing: bool, context: usize) -> Vec<Case> {
     let numbers = &mut Numbers(context as u64);
     let gaps = if context == 6 { [""; 6] } else { [" ", " ", " ", " ", ", ", ". "] };
@@ -156,7 +156,7 @@ fn names(numbers: &mut Numbers, plain: &str, pieces: &[String]) -> Vec<String> {
     all
 }
 
-/// What is special for the operation in the context: what encode replaces there, or what the others take back.
+/// What is special for the operation in the context: what encode replaces there, or what the others undo.
 fn pieces(operation: Operation, context: usize) -> Vec<String> {
     match operation {
         Operation::Encode => special(context),
@@ -165,7 +165,7 @@ fn pieces(operation: Operation, context: usize) -> Vec<String> {
     }
 }
 
-/// What the context's encoder replaces, but nothing that the crate's decoder would not take back (NUL in a style string, most controls in `unquoted`).
+/// What the context's encoder replaces, but nothing that the crate's decoder would not undo (NUL in a style string, most controls in `unquoted`).
 fn special(context: usize) -> Vec<String> {
     let mut pieces: Vec<&str> = match context {
         0 => vec!["&", "<"],

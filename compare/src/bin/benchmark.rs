@@ -1,4 +1,4 @@
-//! Holds the library's speed beside the crate's, both sides in one process.
+//! Compares the library's speed with the crate's, both sides in one process.
 //!   compare/run benchmark [--crate PATH] [--quick] [--only WORD] [--instructions] [--write]
 //! --quick takes fewer rounds; --only takes the lines whose operation, context or class holds WORD; --write writes docs/BENCHMARKS.md and its
 //! picture. --instructions counts the instructions of the x86-64 code under an emulator and times nothing; with --write it writes
@@ -52,14 +52,14 @@ fn options() -> Options {
     while let Some(word) = words.next() {
         match word.as_str() {
             "--quick" => options.effort = Effort { rounds: 7, round: Duration::from_millis(1) },
-            "--only" => options.only = words.next().unwrap_or_else(|| stop("--only wants a word")),
+            "--only" => options.only = words.next().unwrap_or_else(|| stop("--only needs a word")),
             "--instructions" => options.counter = Some(Counter::open().unwrap_or_else(|why| stop(&why))),
-            "--write" => options.write = Some(std::env::var("LINTELRYE_ROOT").unwrap_or_else(|_| stop("--write wants to be run by compare/run"))),
+            "--write" => options.write = Some(std::env::var("LINTELRYE_ROOT").unwrap_or_else(|_| stop("--write works only through compare/run"))),
             _ => stop(&format!("unknown word {}; known are --quick, --only WORD, --instructions, --write", word)),
         }
     }
     if options.write.is_some() && !options.only.is_empty() {
-        stop("--write wants every line, so it does not go with --only");
+        stop("--write needs every line, so it cannot be combined with --only");
     }
     options
 }

@@ -1,4 +1,4 @@
-//! Holds the library beside the crate html-escape on random texts that are made to hurt, ten million cases unless told otherwise.
+//! Compares the library with the crate html-escape on random texts chosen to be difficult, ten million cases unless another number is given.
 //!   compare/run differential [--crate PATH] [--cases N] [--seed S]
 //! A case is a text in an operation and a context; it makes the copying and the borrowing call, each with one length of the output out of seven
 //! around the result's. The four numbers, every byte written and every byte that is to stay are compared with what compare/src/model.rs works out
@@ -40,7 +40,7 @@ fn rooms(outcome: &Outcome) -> [usize; 7] {
     [0, exact / 2, exact.saturating_sub(1), exact, exact + 1, exact + 3, exact + 64]
 }
 
-/// The byte that stands at a place of the output before a call; it is in no valid text.
+/// The byte at a place of the output before a call; it is in no valid text.
 fn pattern(at: usize) -> u8 {
     0xF8 | (at & 7) as u8
 }
@@ -244,7 +244,7 @@ impl Run {
         }
     }
 
-    /// What the model itself must agree with: the encoding of what is read is the text, and where no number stands browse is decode.
+    /// What the model itself must agree with: the encoding of what is read is the text, and browse is decode where there is no number.
     fn cross_check(&mut self, operation: Operation, context: u32, text: &[u8], outcome: &Outcome) {
         if outcome.status != PASSED {
             return;
@@ -290,9 +290,9 @@ impl Run {
             }
         }
         println!("{} cases, {} calls, {} differ; {} cases passed, the others are refusals", self.ran(), 2 * self.ran(), self.differing(), self.passed);
-        println!("encode and decode were compared with the crate, refusals with from_utf8 and document 01's table, each with the bytes that are to stay;");
+        println!("encode and decode were compared with the crate, refusals with from_utf8 and the table of RULES 13.3, each with the bytes that must keep their values;");
         println!("read with the units that the crate's encoders write, and {} times the crate wrote what was read back to the same text;", self.read_back);
-        println!("browse with document 01's sentence on numbers and the crate's decode of names, and {} times with the crate's decode alone", self.as_decoded);
+        println!("browse with RULES 10.5 for numbers and the crate's decode of names, and {} times with the crate's decode alone", self.as_decoded);
     }
 }
 
@@ -310,7 +310,7 @@ fn option(word: &str, otherwise: u64) -> u64 {
     match words.iter().position(|given| given == word) {
         None => otherwise,
         Some(at) => words.get(at + 1).and_then(|number| number.parse().ok()).unwrap_or_else(|| {
-            eprintln!("differential: {} wants a number", word);
+            eprintln!("differential: {} needs a number", word);
             std::process::exit(2)
         }),
     }

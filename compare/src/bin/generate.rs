@@ -1,8 +1,8 @@
 //! Writes the list that crates/replay replays in the gate, crates/replay/stdin, and what the program must print of it, crates/replay/stdout.
-//! Every answer in it comes from the crate html-escape, from `std::str::from_utf8` and from the sentences of document 01 (compare/src/model.rs);
+//! Every answer in it comes from the crate html-escape, from `std::str::from_utf8` and from docs/RULES.md (compare/src/model.rs);
 //! the library is not even linked. The seed is fixed, so that every run writes the same bytes.
 //!   compare/run generate [--crate PATH]
-//! How a line of the list reads stands at the head of crates/replay/src/main.rt.
+//! The format of a line is described at the top of crates/replay/src/main.rt.
 
 use compare::model::{Model, Outcome, LONGEST, PASSED};
 use compare::{Numbers, Operation, CONTEXTS, CRATE_LENDING_ENCODERS, OPERATIONS};
@@ -129,7 +129,7 @@ fn letter(operation: Operation) -> char {
     }
 }
 
-/// A text as the list spells it: printable ASCII stands for itself, any other byte is \HH, and a run with a period of up to twelve bytes \*N,B;.
+/// A text as the list spells it: printable ASCII is itself, any other byte is \HH, and a run with a period of up to twelve bytes \*N,B;.
 fn spelt(text: &[u8]) -> String {
     let mut spelling = String::new();
     let mut at = 0;
@@ -181,7 +181,7 @@ fn characters(list: &mut List) {
     }
 }
 
-/// Short texts, every one, over pieces that hurt.
+/// Short texts, every one, over difficult pieces.
 fn short_texts(list: &mut List) {
     list.remark("short texts, every one: encode in the HTML seven");
     for text in sequences(&["&", "<", ">", "\"", "'", "/", "a"], 3) {

@@ -54,7 +54,7 @@ fn pages_asked() -> usize {
     let words: Vec<String> = std::env::args().skip(1).collect();
     match words.iter().map(String::as_str).collect::<Vec<_>>()[..] {
         [] => PAGES,
-        ["--pages", number] => number.parse().ok().filter(|n| *n > 0).unwrap_or_else(|| stop("--pages wants a number above 0")),
+        ["--pages", number] => number.parse().ok().filter(|n| *n > 0).unwrap_or_else(|| stop("--pages needs a number above 0")),
         _ => stop("the words are [--crate PATH] [--pages N]"),
     }
 }

@@ -1,7 +1,7 @@
 //! An allocator that counts, and the heap of a controller to stand in for the system's: what the soak measures with.
 //!
 //! The controller's heap is of fixed size, as there is no virtual memory: the first free block that is long enough is taken, and free neighbours are
-//! joined. Where no block is long enough the shortage is noted and the system serves, so that the program can tell of it.
+//! joined. Where no block is long enough the shortage is noted and the system serves, so that the program can report it.
 //! For programs of one thread.
 use std::alloc::{GlobalAlloc, Layout, System};
 use std::cell::UnsafeCell;

@@ -72,7 +72,7 @@ impl Log {
     }
 }
 
-/// What tells two runs apart: the length of all pages, and a digest of every thousandth.
+/// What two runs are compared by: the length of all pages, and a digest of every thousandth.
 #[derive(Clone, Copy, Debug, Default, PartialEq)]
 pub struct Mark {
     pub pages: usize,

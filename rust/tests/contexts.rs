@@ -1,0 +1,71 @@
+//! Contexts by number and name, results given to the next call, and buffers that are always long enough.
+use lintelrye::{decoded_at_most, encoded_at_most, Context, Refusal, UnknownContext, Written};
+
+#[test]
+fn contexts_by_number() {
+    for (number, context) in Context::ALL.into_iter().enumerate() {
+        assert_eq!(context as usize, number);
+        assert_eq!(Context::try_from(number as u32), Ok(context));
+    }
+    for number in [14, 15, 99, u32::MAX] {
+        assert_eq!(Context::try_from(number), Err(UnknownContext));
+    }
+}
+
+#[test]
+fn contexts_by_name() {
+    let names =
+        "text_minimal text double_quoted single_quoted quoted safe unquoted script_single script_double script_quoted style_single style_double \
+                 style_quoted script_raw";
+    assert_eq!(names.split(' ').count(), Context::ALL.len());
+    for (name, context) in names.split(' ').zip(Context::ALL) {
+        assert_eq!(context.name(), name);
+        assert_eq!(name.parse(), Ok(context));
+    }
+    for name in ["", "Text", "text ", "texts", "script", "json"] {
+        assert_eq!(name.parse::<Context>(), Err(UnknownContext));
+    }
+    assert_eq!(UnknownContext.to_string(), "there is no such context");
+}
+
+#[test]
+fn a_result_is_the_text_of_the_next_call() -> Result<(), Refusal> {
+    let (mut inner, mut outer, mut back, mut text) = ([0; 64], [0; 64], [0; 64], [0; 64]);
+    let string = lintelrye::encode(Context::ScriptSingle, "it's <\"&", &mut inner)?;
+    let attribute = lintelrye::encode_borrowing(Context::DoubleQuoted, &string, &mut outer)?;
+    assert_eq!(attribute, "it\\'s \\x3C&quot;&amp;");
+    let string = lintelrye::decode(Context::DoubleQuoted, &attribute, &mut back)?;
+    assert_eq!(lintelrye::read(Context::ScriptSingle, &string, &mut text)?, "it's <\"&");
+    Ok(())
+}
+
+#[test]
+fn a_result_as_text_and_as_bytes() {
+    for written in [Written::Same("a"), Written::Replaced("a")] {
+        assert_eq!(AsRef::<str>::as_ref(&written), "a");
+        assert_eq!(AsRef::<[u8]>::as_ref(&written), b"a");
+    }
+}
+
+#[test]
+fn buffers_that_are_always_enough() {
+    const ROOM: usize = encoded_at_most(3);
+    assert_eq!(lintelrye::encode_quoted_attribute_to_slice("'''", &mut [0; ROOM]).map(|written| written.len()), Ok(ROOM));
+    assert_eq!(lintelrye::encode_quoted_attribute_to_slice("'''", &mut [0; ROOM - 1]), Err(Refusal::NoRoom { needed: ROOM }));
+    assert_eq!([0, 4, 5, 9, 10].map(decoded_at_most), [0, 4, 6, 10, 12]);
+    let grown = "&nGt;".repeat(20);
+    let mut room = vec![0; decoded_at_most(grown.len())];
+    assert_eq!(lintelrye::decode_html_entities_to_slice(&grown, &mut room).map(|written| written.len()), Ok(room.len()));
+    assert_eq!((encoded_at_most(usize::MAX), decoded_at_most(usize::MAX)), (usize::MAX, usize::MAX));
+}
+
+#[cfg(feature = "std")]
+#[test]
+fn refusals_as_errors() {
+    fn fill(context: &str, text: &str) -> Result<usize, Box<dyn std::error::Error>> {
+        Ok(lintelrye::encode(context.parse()?, text, &mut [0; 4])?.len())
+    }
+    assert_eq!(fill("text", "<").unwrap(), 4);
+    assert_eq!(fill("text", "<<").unwrap_err().to_string(), "the result needs 8 bytes of room");
+    assert_eq!(fill("texts", "<").unwrap_err().to_string(), "there is no such context");
+}
