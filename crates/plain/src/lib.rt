@@ -88,5 +88,3 @@ pub fn is_plain(unquoted: bool, text: &[u8]) -> bool
     }
     false
 }
-        let at = base::min(done, last);
-        if has_special(unquoted, text, at, size) {
