@@ -1,7 +1,7 @@
-// The program `entity` of document 01: it reads a request from standard input and prints the reply. All of its work is `requests::reply`, whose contract
-// says every byte that is printed for the bytes that were read.
+// The program `entity` of document 01: it reads a request from standard input and prints the reply. All of its work is `requests::reply`, whose
+// contract says every byte that is printed for the bytes that were read.
 //
-// Only the first `requests::ENOUGH` bytes are kept: what follows them changes nothing (`requests::is_enough`), and is dropped after the reply is printed.
+// Only the first `requests::ENOUGH` bytes are kept: what follows changes nothing (`requests::is_enough`), and is dropped after the reply is printed.
 // Where a read fails nothing is printed, and where a write fails no more than was written; standard error then says why.
 
 // Prints the reply to a request.

@@ -1,7 +1,7 @@
 // Standard input and output for programs that read a request as a whole and print one reply.
 //
-// What is proved of this file is that it is safe and ends. No contract of `libc` can say that the bytes are those of standard input, in their order, or that
-// they are written: tools/check_entity runs it.
+// What is proved of this file is that it is safe and ends. No contract of `libc` can say that the bytes are those of standard input, in their order, or
+// that they are written: tools/check_entity runs it.
 ghost use Rattle.io.specs.Counts.{Counts};
 use libc::STDIN_FILENO;
 use libc::STDOUT_FILENO;
@@ -53,8 +53,8 @@ fn drop_some() -> bool {
     0 < libc::read(STDIN_FILENO, &mut dropped)
 }
 
-// Reads and drops the rest of standard input, so that whoever writes it is not cut off. Nothing says that it ends, so the turns are counted down from a
-// number that no run uses up.
+// Reads and drops the rest of standard input, so that whoever writes it is not cut off. Nothing says that it ends, so the turns are counted down from
+// a number that no run uses up.
 pub fn drop_rest() {
     let mut turns = u64::MAX;
     while turns > 0 && drop_some() {

@@ -10,7 +10,7 @@
 //              a case for each operation (E, D, R, B), context (a for 0, b for 1, ..; z for the largest number) and kind of call (c, b): with an
 //              output of ROOM bytes the answer is the four numbers, and the first WRITTEN bytes of the output are those of the result;
 //   end COUNT  the last line: how many cases the list has.
-// How a text is spelt stands in crates/replay_list. A list with any other line, or with another count, is reported as malformed.
+// crates/replay_list says how a text is spelt. A list with any other line, or with another count, is reported as malformed.
 mod cases;
 mod report;
 
@@ -24,8 +24,8 @@ use replay_list::after;
 use replay_list::byte_at;
 use replay_list::read_number;
 
-// Where the reading of the list stands: the place and the number of the line, the lengths of the text and of the result, whether the last line was
-// met, and whether the list is right so far.
+// How far the list is read: the place and the number of the line, the lengths of the text and of the result, whether the last line was met, and whether
+// the list is right so far.
 pub struct State {
     pub at: usize,
     pub line: u64,
@@ -284,7 +284,7 @@ fn one_line(
         b'#' => remark(list, state),
         b't' => text_line(list, state, text, result),
         b'r' => result_line(list, state, result),
-        b'e' => end_line(list, state, report::told(tally, report::RAN)),
+        b'e' => end_line(list, state, report::count_at(tally, report::RAN)),
         _ => {
             if text.len() < n {
                 return malformed(state);

@@ -1,4 +1,4 @@
-// What is printed: the cases that differ, and the counts.
+// Prints the cases that differ, and the counts.
 ghost use Prim.Native.Nat.{_≤_};
 use crate::State;
 use crate::cases::Case;
@@ -108,21 +108,25 @@ fn print_difference(difference: Difference) {
     }
 }
 
-// A count of the tally.
-pub fn told(tally: &[u64], at: usize) -> u64 {
+// Returns a count of the tally, 0 past its end.
+pub fn count_at(tally: &[u64], at: usize) -> u64 {
     if at < tally.len() { tally[at] } else { 0 }
 }
 
-// Puts a count into the tally.
-fn tell(tally: &mut [u64], at: usize, count: u64) {
+// Sets a count of the tally.
+fn set_count(tally: &mut [u64], at: usize, count: u64) {
     if at < tally.len() {
         tally[at] = count;
     }
 }
 
 // Adds one to a count.
-fn raise(tally: &mut [u64], at: usize) {
-    tell(tally, at, std::num::wrapping_add_u64(told(tally, at), 1));
+fn add_one(tally: &mut [u64], at: usize) {
+    set_count(
+        tally,
+        at,
+        std::num::wrapping_add_u64(count_at(tally, at), 1),
+    );
 }
 
 // Prints the call of a case that differs, and what differs first.
@@ -151,15 +155,15 @@ fn print_case(ran: u64, line: u64, case: Case, difference: Difference) {
 // Counts a case that ran, and prints it where it is among the first ten that differ.
 pub fn count(line: u64, case: Case, difference: Difference, tally: &mut [u64]) {
     let kind = kind_of(case);
-    raise(tally, kind);
-    raise(tally, RAN);
+    add_one(tally, kind);
+    add_one(tally, RAN);
     if crate::cases::is_nothing(difference) {
         return;
     }
-    raise(tally, KINDS + kind);
-    raise(tally, DIFFER);
-    if told(tally, DIFFER) <= 10 {
-        print_case(told(tally, RAN), line, case, difference);
+    add_one(tally, KINDS + kind);
+    add_one(tally, DIFFER);
+    if count_at(tally, DIFFER) <= 10 {
+        print_case(count_at(tally, RAN), line, case, difference);
     }
 }
 

@@ -16,7 +16,7 @@ fn digit(n: usize) -> u8
     b'0' + n as u8
 }
 
-// Writes the last `most` digits of a number, without leading zeros, to the start of `output` and returns how many they are; the rest keeps its values.
+// Writes the last `most` digits of a number, without leading zeros, to the start of `output` and returns how many; the rest keeps its values.
 fn put_digits(most: usize, n: usize, output: &mut [u8]) -> usize
     requires { ⌜ most ≤ length (now output) ⌝ }
     ensures { λ r. ⌜ (r ≡ length (lastDigits most n)) × (now (output .exit) ≡ over (lastDigits most n) (now (output .entry))) × (r ≤ most) ⌝ }

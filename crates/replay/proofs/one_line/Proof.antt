@@ -19,8 +19,8 @@ text-line-requires c κs = tt
 result-line-requires : tie.Need-result-line-requires
 result-line-requires c κs = tt
 
-told-requires : tie.Need-told-requires
-told-requires c κs = tt
+count-at-requires : tie.Need-count-at-requires
+count-at-requires c κs = tt
 
 end-line-requires : tie.Need-end-line-requires
 end-line-requires c κs = tt
@@ -99,7 +99,7 @@ one-line-spec =
     remark-requires
     text-line-requires
     result-line-requires
-    told-requires
+    count-at-requires
     end-line-requires
     malformed-requires
     returns

@@ -37,10 +37,18 @@ sub-t14 : tie.Need-sub-t14 Inv-loop μ-loop
 sub-t14 c = omega (arith, c .before .before .before .line-end .ensures .1)
 
 add-t15 : tie.Need-add-t15 Inv-loop μ-loop
-add-t15 c = omega (arith, here-within (c .before .before .before .before .before .before .before .before .before .args .names .now) (c .before .before .before .before .before .before .before .before .before .args .field .now) (c .before .before .before .before .before .before .before .before .before .args .text .now) (c .before .before .before .before .before .loop .at) (c .before .before .before .line-end .result) (c .before .before .before .before .before .loop .number) (omega arith) (c .before .before .before .line-end .ensures .0) (c .before .before .before .line-end .ensures .2) (c .before .before .before .before .before .loop .inv .2) (sym (c .before .is-line .ensures) ∙ c .if1 .taken))
+add-t15 c =
+    let a = c .before .before .before .before .before .before .before .before .before .args in
+    let l = c .before .before .before .before .before .loop in
+    let e = c .before .before .before .line-end in
+    omega (arith, here-within (a .names .now) (a .field .now) (a .text .now) (l .at) (e .result) (l .number) (omega arith) (e .ensures .0) (e .ensures .2) (l .inv .2) (sym (c .before .is-line .ensures) ∙ c .if1 .taken))
 
 returns : tie.Need-returns Inv-loop μ-loop
-returns c = found-here (c .before .before .before .before .before .before .before .before .before .args .names .now) (c .before .before .before .before .before .before .before .before .before .args .field .now) (c .before .before .before .before .before .before .before .before .before .args .text .now) (c .before .before .before .before .before .loop .at) (c .before .before .before .line-end .result) (c .before .before .before .before .before .loop .number) (omega arith) (c .before .before .before .line-end .ensures .0) (c .before .before .before .line-end .ensures .2) (c .before .before .before .before .before .loop .inv .2) (sym (c .before .is-line .ensures) ∙ c .if1 .taken)
+returns c =
+    let a = c .before .before .before .before .before .before .before .before .before .args in
+    let l = c .before .before .before .before .before .loop in
+    let e = c .before .before .before .line-end in
+    found-here (a .names .now) (a .field .now) (a .text .now) (l .at) (e .result) (l .number) (omega arith) (e .ensures .0) (e .ensures .2) (l .inv .2) (sym (c .before .is-line .ensures) ∙ c .if1 .taken)
 
 add-number : tie.Need-add-number Inv-loop μ-loop
 add-number c = omega arith
@@ -49,7 +57,11 @@ loop-less : tie.Need-loop-less Inv-loop μ-loop
 loop-less c = omega (arith, c .before .before .before .line-end .ensures .1, c .before .before .before .line-end .ensures .2)
 
 loop-again : tie.Need-loop-again Inv-loop μ-loop
-loop-again c = (c .before .before .before .line-end .ensures .2, omega (arith, c .before .before .before .line-end .ensures .1), passed-on (c .before .before .before .before .before .before .before .before .before .args .names .now) (c .before .before .before .before .before .before .before .before .before .args .field .now) (c .before .before .before .before .before .before .before .before .before .args .text .now) (c .before .before .before .before .before .loop .at) (c .before .before .before .line-end .result) (c .before .before .before .before .before .loop .number) (omega arith) (c .before .before .before .line-end .ensures .0) (c .before .before .before .line-end .ensures .2) (c .before .before .before .before .before .loop .inv .2) (sym (c .before .is-line .ensures) ∙ c .if1 .left))
+loop-again c =
+    let a = c .before .before .before .before .before .before .before .before .before .args in
+    let l = c .before .before .before .before .before .loop in
+    let e = c .before .before .before .line-end in
+    (e .ensures .2, omega (arith, e .ensures .1), passed-on (a .names .now) (a .field .now) (a .text .now) (l .at) (e .result) (l .number) (omega arith) (e .ensures .0) (e .ensures .2) (l .inv .2) (sym (c .before .is-line .ensures) ∙ c .if1 .left))
 
 returns-2 : tie.Need-returns-2 Inv-loop μ-loop
 returns-2 c = passed-all (c .before .before .before .before .before .args .names .now) (c .before .before .before .before .before .args .field .now) (c .before .before .before .before .before .args .text .now) (c .before .loop .at) (c .before .loop .number) (omega arith) (c .before .loop .inv .2)

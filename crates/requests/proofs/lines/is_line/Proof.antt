@@ -28,7 +28,10 @@ starts-requires-2 : tie.Need-starts-requires-2
 starts-requires-2 c κs = search needs
 
 returns-2 : tie.Need-returns-2
-returns-2 c = (rw (lent-rest (length (c .before .before .before .before .before .before .before .args .field .now)) (c .before .before .before .before .before .before .before .args .text .now)) at (c .starts2 .ensures)) ∙ sym (stands-on (c .before .before .before .before .before .before .before .args .field .now) (c .before .before .before .before .before .before .before .args .name .now) (c .before .before .before .before .before .before .before .args .text .now) (sym (c .before .before .before .starts .ensures) ∙ not-false (c .before .before .before .starts .result) (c .before .before .if1 .left)))
+returns-2 c =
+    let a = c .before .before .before .before .before .before .before .args in
+    (rw (lent-rest (length (a .field .now)) (a .text .now)) at (c .starts2 .ensures))
+    ∙ sym (stands-on (a .field .now) (a .name .now) (a .text .now) (sym (c .before .before .before .starts .ensures) ∙ not-false (c .before .before .before .starts .result) (c .before .before .if1 .left)))
 
 pub is-line-spec : {M : Type 1} → statement M
 is-line-spec =
