@@ -48,27 +48,12 @@ pub fn past_letters(list: &[u8], at: usize) -> usize {
     i
 }
 
-// What a hex digit stands for, 16 for any other byte.
+// Returns the value of a digit, upper-case hex digits among them; 255 for any other byte.
 fn digit(b: u8) -> u8 {
-    match b {
-        b'0' => 0,
-        b'1' => 1,
-        b'2' => 2,
-        b'3' => 3,
-        b'4' => 4,
-        b'5' => 5,
-        b'6' => 6,
-        b'7' => 7,
-        b'8' => 8,
-        b'9' => 9,
-        b'A' => 10,
-        b'B' => 11,
-        b'C' => 12,
-        b'D' => 13,
-        b'E' => 14,
-        b'F' => 15,
-        _ => 16,
+    if b'a' <= b {
+        return 255;
     }
+    base::digit_value(b)
 }
 
 // The byte as a number.
