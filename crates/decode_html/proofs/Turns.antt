@@ -9,7 +9,6 @@ use lib.ListN.{length, take, drop, getD, length-drop}
 use lib.Seq.{length-take-le}
 use Rattle.rules.specs.Moves.{swap, through, result, before, from}
 use Rattle.rules.specs.Encoding.{keepByte}
-use Rattle.rules.specs.References.{decodeChar, browseChar, referenceStep, browseStep}
 use Rattle.rules.specs.Answers.{valueBytes}
 use Rattle.rules.specs.declared.DecodedEntity.{DecodedEntity}
 use Rattle.rules.specs.declared.Reference.the-variants.{Found, Nothing}
@@ -29,7 +28,7 @@ use Rattle.decode_html.specs.Taking.{stepBy, Reads}
 use Rattle.decode_html.proofs.Readings.{step-quiet}
 
 fair : (numbers : Numbers) (p : ℕ) (s : List ℕ) → Fair Fifth (stepBy numbers p s) s
-unfolding referenceStep browseStep
+unfolding decodeStep
 fair Decoded p s = decode-fair (InHtml Text) p s
 fair Browsed p s = browse-fair p s
 
