@@ -63,13 +63,6 @@ fn unslashed(language: Language, before: u8, rest: &[u8]) -> u32
     after_less(language, before, rest)
 }
 
-// Reads the same escape and returns it as an enum.
-fn read_escape(language: Language, before: u8, rest: &[u8]) -> Escape
-    ensures { λ r. ⌜ (escapeMove (now (rest .entry)) r ≡ escapeBy (nameOf language) (unslashedRows language) before (now (rest .entry))) × Within r (now (rest .entry)) ⌝ }
-{
-    rows::escape_of(unslashed(language, before, rest))
-}
-
 // Returns the byte before offset `i` of the text, 0 at its start.
 fn byte_before(text: &[u8], i: usize) -> u8
     requires { ⌜ i ≤ length (now text) ⌝ }
@@ -103,7 +96,8 @@ pub fn measure(language: Language, quotes: Quotes, text: &[u8]) -> Measured
             i += 2;
             continue;
         }
-        let Escape::Taken(n, c) = read_escape(language, byte_before(text, i), &text[i..]) else {
+        let code = unslashed(language, byte_before(text, i), &text[i..]);
+        let Escape::Taken(n, c) = rows::escape_of(code) else {
             length += 1;
             i += 1;
             continue;
@@ -142,7 +136,8 @@ pub fn write(language: Language, quotes: Quotes, text: &[u8], output: &mut [u8])
             continue;
         }
         let before = byte_before(text, i);
-        let Escape::Taken(n, c) = read_escape(language, before, &text[i..]) else {
+        let code = unslashed(language, before, &text[i..]);
+        let Escape::Taken(n, c) = rows::escape_of(code) else {
             let past = i + 1;
             at += base::put(&text[i..past], &mut output[at..]);
             i = past;

@@ -45,39 +45,39 @@ two c =
     slashed-here (a .language) (a .quotes) (a .text .now) (l .i) (after-slash .result) (after-slash .ensures) (sym (c .before .is-slashed .ensures) ∙ c .if2 .taken)
 
 -- What was read at this place is the move here.
-told : (c : tie.After-read-escape Inv-loop μ-loop)
-    → let a = c .before .before .before .before .before .before .before .before .before .before .before .before .args in
-    let l = c .before .before .before .before .before .before .before .before .before .before .loop in
-    (r : Escape) → c .read-escape .result ≡ r → Told (a .language) (a .quotes) (a .text .now) (l .i) r
+told : (c : tie.After-escape-of Inv-loop μ-loop)
+    → let a = c .before .before .before .before .before .before .before .before .before .before .before .before .before .args in
+    let l = c .before .before .before .before .before .before .before .before .before .before .before .loop in
+    (r : Escape) → c .escape-of .result ≡ r → Told (a .language) (a .quotes) (a .text .now) (l .i) r
 told c r =
-    let a = c .before .before .before .before .before .before .before .before .before .before .before .before .args in
-    let l = c .before .before .before .before .before .before .before .before .before .before .loop in
-    let after-slash = c .before .before .before .before .before .after-slash in
-    let byte-before = c .before .before .byte-before in
-    let is-slashed = c .before .before .before .before .is-slashed in
-    let if2 = c .before .before .before .if2 in
-    told-here (a .language) (a .quotes) (a .text .now) (l .i) (after-slash .result) (byte-before .result) r (c .read-escape .result)
-    (after-slash .ensures) (sym (is-slashed .ensures) ∙ if2 .left) (byte-before .ensures) (c .read-escape .ensures)
+    let a = c .before .before .before .before .before .before .before .before .before .before .before .before .before .args in
+    let l = c .before .before .before .before .before .before .before .before .before .before .before .loop in
+    let after-slash = c .before .before .before .before .before .before .after-slash in
+    let byte-before = c .before .before .before .byte-before in
+    let is-slashed = c .before .before .before .before .before .is-slashed in
+    let if2 = c .before .before .before .before .if2 in
+    told-here (a .language) (a .quotes) (a .text .now) (l .i) (after-slash .result) (byte-before .result) r (c .escape-of .result)
+    (after-slash .ensures) (sym (is-slashed .ensures) ∙ if2 .left) (byte-before .ensures) (rw (c .escape-of .ensures) (c .before .unslashed .ensures))
 
 none : (c : tie.After-enum-told Inv-loop μ-loop)
-    → let a = c .before .before .before .before .before .before .before .before .before .before .before .before .before .before .args in
-    let l = c .before .before .before .before .before .before .before .before .before .before .before .before .loop in
+    → let a = c .before .before .before .before .before .before .before .before .before .before .before .before .before .before .before .args in
+    let l = c .before .before .before .before .before .before .before .before .before .before .before .before .before .loop in
     Told (a .language) (a .quotes) (a .text .now) (l .i) Nothing
 none c = told (c .before .before) _ (c .enum-told .given .1)
 
 taken : (c : tie.After-n Inv-loop μ-loop)
-    → let a = c .before .before .before .before .before .before .before .before .before .before .before .before .before .before .args in
-    let l = c .before .before .before .before .before .before .before .before .before .before .before .before .loop in
+    → let a = c .before .before .before .before .before .before .before .before .before .before .before .before .before .before .before .args in
+    let l = c .before .before .before .before .before .before .before .before .before .before .before .before .before .loop in
     Told (a .language) (a .quotes) (a .text .now) (l .i) (Taken (c .n .given .0 .0) (c .n .given .0 .1 .0))
 taken c = told (c .before .before) _ (c .n .given .1)
 
 fits : (c : tie.After-n Inv-loop μ-loop)
-    → let l = c .before .before .before .before .before .before .before .before .before .before .before .before .loop in
-    let a = c .before .before .before .before .before .before .before .before .before .before .before .before .before .before .args in
+    → let l = c .before .before .before .before .before .before .before .before .before .before .before .before .before .loop in
+    let a = c .before .before .before .before .before .before .before .before .before .before .before .before .before .before .before .args in
     (1 ≤ c .n .given .0 .0) × (l .i + c .n .given .0 .0 ≤ length (a .text .now)) × (length (utf8 (c .n .given .0 .1 .0)) ≤ c .n .given .0 .0) × (c .n .given .0 .1 .0 ≤ 0x10FFFF)
 fits c =
-    let a = c .before .before .before .before .before .before .before .before .before .before .before .before .before .before .args in
-    let l = c .before .before .before .before .before .before .before .before .before .before .before .before .loop in
+    let a = c .before .before .before .before .before .before .before .before .before .before .before .before .before .before .before .args in
+    let l = c .before .before .before .before .before .before .before .before .before .before .before .before .before .loop in
     within-rest (a .text .now) (l .i) (c .n .given .0 .0) (c .n .given .0 .1 .0) (taken c .within)
 
 loop-holds : tie.Need-loop-holds Inv-loop μ-loop
@@ -142,17 +142,20 @@ loop-again-2 c =
 byte-before-requires : tie.Need-byte-before-requires Inv-loop μ-loop
 byte-before-requires c κs = search needs
 
-sub-read-escape : tie.Need-sub-read-escape Inv-loop μ-loop
-sub-read-escape c = search needs
+sub-unslashed : tie.Need-sub-unslashed Inv-loop μ-loop
+sub-unslashed c = search needs
 
-part-read-escape-start : tie.Need-part-read-escape-start Inv-loop μ-loop
-part-read-escape-start c = search needs
+part-unslashed-start : tie.Need-part-unslashed-start Inv-loop μ-loop
+part-unslashed-start c = search needs
 
-part-read-escape-end : tie.Need-part-read-escape-end Inv-loop μ-loop
-part-read-escape-end c = search needs
+part-unslashed-end : tie.Need-part-unslashed-end Inv-loop μ-loop
+part-unslashed-end c = search needs
 
-read-escape-requires : tie.Need-read-escape-requires Inv-loop μ-loop
-read-escape-requires c κs = search needs
+unslashed-requires : tie.Need-unslashed-requires Inv-loop μ-loop
+unslashed-requires c κs = search needs
+
+escape-of-requires : tie.Need-escape-of-requires Inv-loop μ-loop
+escape-of-requires c κs = search needs
 
 enum-known-n : tie.Need-enum-known-n Inv-loop μ-loop
 enum-known-n c = search needs
@@ -171,7 +174,7 @@ loop-less-3 c = search needs
 
 loop-again-3 : tie.Need-loop-again-3 Inv-loop μ-loop
 loop-again-3 c =
-    counted-keep (c .before .before .before .before .before .before .before .before .before .before .before .before .loop .inv) (search needs) (none c .moves)
+    counted-keep (c .before .before .before .before .before .before .before .before .before .before .before .before .before .loop .inv) (search needs) (none c .moves)
 
 char-length-requires : tie.Need-char-length-requires Inv-loop μ-loop
 char-length-requires c κs = search needs
@@ -190,7 +193,7 @@ loop-less-4 c = let w = fits (c .before .before) in omega (arith, w .0, w .1)
 
 loop-again-4 : tie.Need-loop-again-4 Inv-loop μ-loop
 loop-again-4 c =
-    let l = c .before .before .before .before .before .before .before .before .before .before .before .before .before .before .loop in
+    let l = c .before .before .before .before .before .before .before .before .before .before .before .before .before .before .before .loop in
     let n = c .before .before .n in
     let w = fits (c .before .before) in
     rw (c .char-length .ensures .0) (counted-swap (l .inv) (n .given .0 .0) (utf8 (n .given .0 .1 .0)) (w .0) (w .1) (w .2) (taken (c .before .before) .moves))
@@ -225,10 +228,11 @@ measure-spec =
     loop-less-2
     loop-again-2
     byte-before-requires
-    sub-read-escape
-    part-read-escape-start
-    part-read-escape-end
-    read-escape-requires
+    sub-unslashed
+    part-unslashed-start
+    part-unslashed-end
+    unslashed-requires
+    escape-of-requires
     enum-known-n
     enum-told
     add-length-3
