@@ -7,3 +7,4 @@ pub mod Places
 pub mod Copied
 pub mod Standing
 pub mod Widths
+pub mod Digits

@@ -11,7 +11,7 @@ ghost use lib.ListN.{length, take};
 ghost use Rattle.rules.specs.Bytes.{over, inside};
 ghost use Rattle.rules.specs.Tables.{letterOrDigit, hexDigit};
 ghost use Rattle.rules.specs.References.{digit, hexDigitAt};
-ghost use Rattle.base.specs.Digits.{below};
+ghost use Rattle.base.specs.Digits.{below, upperOf};
 
 // Copies `bytes` to the start of `output`, leaves the bytes after them as they were, and returns how many they are.
 pub fn put(bytes: &[u8], output: &mut [u8]) -> usize
@@ -117,27 +117,23 @@ pub fn hex_digit(n: u8) -> u8
     if n < 10 { b'0' + n } else { b'A' + (n - 10) }
 }
 
-// Returns the value of a hex digit of either letter case, 255 for any other byte. `A` is 55 + 10, `a` is 87 + 10.
+// Returns a byte 32 lower if it is `a` or above, so that lower-case letters become upper-case ones.
+fn to_upper(byte: u8) -> u8
+    ensures { λ r. ⌜ r ≡ upperOf byte ⌝ }
+{
+    if b'a' <= byte { byte - 32 } else { byte }
+}
+
+// Returns the value of a digit, hex digits of either letter case among them; 255 for any other byte. `A` is 55 + 10.
 pub fn digit_value(byte: u8) -> u8
     ensures { λ r. ⌜ (below 10 r ≡ digit byte) × (below 16 r ≡ hexDigitAt byte) ⌝ }
 {
-    if byte < b'0' {
-        return 255;
-    }
-    if byte <= b'9' {
+    if is_within(b'0', b'9', byte) {
         return byte - b'0';
     }
-    if byte < b'A' {
-        return 255;
-    }
-    if byte <= b'F' {
-        return byte - 55;
-    }
-    if byte < b'a' {
-        return 255;
-    }
-    if byte <= b'f' {
-        return byte - 87;
+    let letter = to_upper(byte);
+    if is_within(b'A', b'F', letter) {
+        return letter - 55;
     }
     255
 }

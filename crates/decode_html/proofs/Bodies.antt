@@ -73,23 +73,24 @@ module _ (t : List ℕ) where
 
 module _ (char : ℕ → Option (List ℕ)) where
   -- No name begins with `#`, so such a body stands for the character of its number, or for nothing.
-  hashed : (s : List ℕ) (o : Option ℕ) → numberOf (35 ∷ s) ≡ o → meaning char (35 ∷ s) ≡ charOf char o
+  pub hashed : (s : List ℕ) (o : Option ℕ) → numberOf (35 ∷ s) ≡ o → meaning char (35 ∷ s) ≡ charOf char o
   hashed s none e = ap (λ (o : Option ℕ). elim o [ some n ↦ char n | none ↦ lookup names (35 ∷ s) ]) e ∙ hash-unnamed s
   hashed s (some n) e = ap (λ (o : Option ℕ). elim o [ some n ↦ char n | none ↦ lookup names (35 ∷ s) ]) e
 
-  pub number-empty : (s : List ℕ) → length s ≡ 0 → meaning char (35 ∷ s) ≡ none
-  number-empty [] e = hashed [] none refl
-  number-empty (b ∷ s) e = absurd (omega arith)
+-- Nothing after `#` is no number.
+pub number-empty : (s : List ℕ) → length s ≡ 0 → numberOf (35 ∷ s) ≡ none
+number-empty [] e = refl
+number-empty (b ∷ s) e = absurd (omega arith)
 
-  -- Hex digits follow the mark `x` or `X`.
-  pub number-hex : (s : List ℕ) → (length s ≡ 0 → ⊥) → (eqb (getD s 0 0) 120 || eqb (getD s 0 0) 88) ≡ true → meaning char (35 ∷ s) ≡ charOf char (number hexDigitAt 16 (drop 1 s))
-  number-hex [] h e = absurd (h refl)
-  number-hex (b ∷ s) h e = hashed (b ∷ s) (number hexDigitAt 16 s) (rw (eqb-comm 120 b, eqb-comm 88 b, and-true (eqb b 120), and-true (eqb b 88), e))
+-- Hex digits follow the mark `x` or `X`.
+pub number-hex : (s : List ℕ) → (length s ≡ 0 → ⊥) → (eqb (getD s 0 0) 120 || eqb (getD s 0 0) 88) ≡ true → numberOf (35 ∷ s) ≡ number hexDigitAt 16 (drop 1 s)
+number-hex [] h e = absurd (h refl)
+number-hex (b ∷ s) h e = rw (eqb-comm 120 b, eqb-comm 88 b, and-true (eqb b 120), and-true (eqb b 88), e)
 
-  -- Else the digits are decimal.
-  pub number-decimal : (s : List ℕ) → (length s ≡ 0 → ⊥) → (eqb (getD s 0 0) 120 || eqb (getD s 0 0) 88) ≡ false → meaning char (35 ∷ s) ≡ charOf char (number digit 10 s)
-  number-decimal [] h e = absurd (h refl)
-  number-decimal (b ∷ s) h e = hashed (b ∷ s) (number digit 10 (b ∷ s)) (rw (eqb-comm 120 b, eqb-comm 88 b, and-true (eqb b 120), and-true (eqb b 88), e))
+-- Else the digits are decimal.
+pub number-decimal : (s : List ℕ) → (length s ≡ 0 → ⊥) → (eqb (getD s 0 0) 120 || eqb (getD s 0 0) 88) ≡ false → numberOf (35 ∷ s) ≡ number digit 10 s
+number-decimal [] h e = absurd (h refl)
+number-decimal (b ∷ s) h e = rw (eqb-comm 120 b, eqb-comm 88 b, and-true (eqb b 120), and-true (eqb b 88), e)
 
 -- A body that begins with `#` is that byte and what follows it.
 pub hash-first : (s : List ℕ) → 0 < length s → getD s 0 0 ≡ 35 → s ≡ 35 ∷ drop 1 s

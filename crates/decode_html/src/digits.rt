@@ -5,10 +5,10 @@ ghost use mathlib.Core.Path.{_≡_};
 ghost use mathlib.Core.List.{[], _∷_};
 ghost use lib.Dec.{leb, eqb};
 ghost use Rattle.rules.specs.Bytes.{oneOf};
-ghost use Rattle.rules.specs.References.{digit, hexDigitAt, number, scalar, decodeChar, browseChar, meaning};
+ghost use Rattle.rules.specs.References.{digit, hexDigitAt, number, numberOf, scalar, decodeChar, browseChar, meaning};
 ghost use Rattle.rules.specs.Answers.{meaningBytes};
 ghost use Rattle.base.specs.Digits.{below};
-ghost use Rattle.decode_html.specs.Taking.{charBy, charOf, RealMeaning};
+ghost use Rattle.decode_html.specs.Taking.{charBy, RealMeaning};
 ghost use Rattle.decode_html.specs.Digits.{digitBy, ceilingOf, found, capped};
 use crate::Numbers;
 use rules::DecodedEntityValue;
@@ -118,17 +118,6 @@ fn decode_character(numbers: Numbers, number: u32) -> Meaning
     }
 }
 
-// Returns the character of digits in a base.
-fn decode_digits(base: u32, numbers: Numbers, digits: &[u8]) -> Meaning
-    requires { ⌜ (base ≡ 10) ⊎ (base ≡ 16) ⌝ }
-    ensures { λ r. ⌜ (meaningBytes r ≡ charOf (charBy numbers) (number (digitBy base) base (now (digits .entry)))) × RealMeaning r ⌝ }
-{
-    let Number::Is(n) = read_digits(base, digits) else {
-        return Meaning::Nothing;
-    };
-    decode_character(numbers, n)
-}
-
 // Reports whether hex digits follow: the byte after `#` is `x` or `X`.
 fn is_hex_mark(b: u8) -> bool
     ensures { λ r. ⌜ r ≡ (eqb b 120 || eqb b 88) ⌝ }
@@ -136,15 +125,25 @@ fn is_hex_mark(b: u8) -> bool
     (b == b'x') | (b == b'X')
 }
 
+// Reads the number of a body from after its `#` on: decimal digits, or hex digits after `x` or `X`.
+fn read_number(body: &[u8]) -> Number
+    ensures { λ r. ⌜ found r ≡ capped (numberOf (35 ∷ now (body .entry))) ⌝ }
+{
+    if body.len() == 0 {
+        return Number::Nothing;
+    }
+    if is_hex_mark(body[0]) {
+        return read_digits(16, &body[1..]);
+    }
+    read_digits(10, body)
+}
+
 // Returns what a body stands for that begins with `#`; `body` is what follows.
 pub fn decode_number(numbers: Numbers, body: &[u8]) -> Meaning
     ensures { λ r. ⌜ (meaningBytes r ≡ meaning (charBy numbers) (35 ∷ now (body .entry))) × RealMeaning r ⌝ }
 {
-    if body.len() == 0 {
+    let Number::Is(n) = read_number(body) else {
         return Meaning::Nothing;
-    }
-    if is_hex_mark(body[0]) {
-        return decode_digits(16, numbers, &body[1..]);
-    }
-    decode_digits(10, numbers, body)
+    };
+    decode_character(numbers, n)
 }

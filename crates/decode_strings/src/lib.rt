@@ -63,6 +63,13 @@ fn unslashed(language: Language, before: u8, rest: &[u8]) -> u32
     after_less(language, before, rest)
 }
 
+// Reads the same escape and returns it as an enum.
+fn read_escape(language: Language, before: u8, rest: &[u8]) -> Escape
+    ensures { λ r. ⌜ (escapeMove (now (rest .entry)) r ≡ escapeBy (nameOf language) (unslashedRows language) before (now (rest .entry))) × Within r (now (rest .entry)) ⌝ }
+{
+    rows::escape_of(unslashed(language, before, rest))
+}
+
 // Returns the byte before offset `i` of the text, 0 at its start.
 fn byte_before(text: &[u8], i: usize) -> u8
     requires { ⌜ i ≤ length (now text) ⌝ }
@@ -75,7 +82,7 @@ fn byte_before(text: &[u8], i: usize) -> u8
 }
 
 // Measures the result of decode without writing it. A backslash before a byte of `is_slashed`, the most frequent escape, is read first: that takes
-// two bytes and no call.
+// two bytes and no call. The packed escape is used here and `read_escape` in `write`: with one user the compiler puts `read_escape` in line.
 pub fn measure(language: Language, quotes: Quotes, text: &[u8]) -> Measured
     requires { ⌜ length (now text) ≤ 65536 ⌝ }
     ensures { λ r. ⌜ Measures r (through (decodeStep (stringOf language quotes)) (now (text .entry))) ⌝ }
@@ -136,8 +143,7 @@ pub fn write(language: Language, quotes: Quotes, text: &[u8], output: &mut [u8])
             continue;
         }
         let before = byte_before(text, i);
-        let code = unslashed(language, before, &text[i..]);
-        let Escape::Taken(n, c) = rows::escape_of(code) else {
+        let Escape::Taken(n, c) = read_escape(language, before, &text[i..]) else {
             let past = i + 1;
             at += base::put(&text[i..past], &mut output[at..]);
             i = past;

@@ -8,6 +8,7 @@ ghost use Rattle.rules.specs.Utf8.{validTo};
 ghost use Rattle.rules.specs.Answers.{Measures};
 ghost use Rattle.rules.specs.Reading.{readStep};
 ghost use Rattle.rules.specs.Operations.{readOf};
+use decode_strings::rows;
 use rules::Context;
 use rules::Escape;
 use rules::Measured;
@@ -16,7 +17,8 @@ pub mod replaced;
 pub mod units;
 
 // Measures the result of read of a valid text without writing it. At the byte that units start with there must be one. From any other byte on the text
-// is plain up to the next replaced character; if that is the byte itself, the reader stops there.
+// is plain up to the next replaced character; if that is the byte itself, the reader stops there. The packed unit is used here and `read_unit` in
+// `write`: with one user the compiler puts `read_unit` in line.
 pub fn measure(c: Context, text: &[u8]) -> Measured
     requires { ⌜ (length (now text) ≤ 65536) × (validTo (now text) ≡ length (now text)) ⌝ }
     ensures { λ r. ⌜ Measures r (through (readStep c) (now (text .entry))) ⌝ }
@@ -41,7 +43,8 @@ pub fn measure(c: Context, text: &[u8]) -> Measured
             i = e;
             continue;
         }
-        let Escape::Taken(n, ch) = units::read_unit(c, &set, text, i) else {
+        let code = units::unit(c, &set, text, i);
+        let Escape::Taken(n, ch) = rows::escape_of(code) else {
             return Measured {
                 length,
                 place: i,

@@ -153,7 +153,7 @@ fn string_unit(language: Language, quotes: Quotes, text: &[u8], at: usize) -> u3
 
 // Reads the unit of the context at offset `at`; `set` is that of the context. Returns it packed, 0 if there is none. It takes an offset and not a
 // slice, which would pass through memory in each turn of a loop.
-fn unit(c: Context, set: &[u64; 4], text: &[u8], at: usize) -> u32
+pub fn unit(c: Context, set: &[u64; 4], text: &[u8], at: usize) -> u32
     requires { ⌜ Leads c (inSet (now set)) × (at ≤ length (now text)) ⌝ }
     ensures { λ r. ⌜ Finds (rows c) (drop at (now (text .entry))) (escapeOf r) ⌝ }
 {

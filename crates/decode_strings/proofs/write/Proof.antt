@@ -83,57 +83,57 @@ next-two c =
     next-swap (decodeStep (stringOf (a .language) (a .quotes))) (a .text .now) (l .i) 2 (c .before .before .after-slash .result ∷ []) (omega arith) (two c .1) (two c .0)
 
 -- What was read at this place is the move here.
-told : (c : tie.After-escape-of Inv-loop μ-loop)
-    → let a = c .before .before .before .before .before .before .before .before .before .before .before .before .before .before .args in
-    let l = c .before .before .before .before .before .before .before .before .before .before .before .loop in
-    (r : Escape) → c .escape-of .result ≡ r → Told (a .language) (a .quotes) (a .text .now) (l .i) r
+told : (c : tie.After-read-escape Inv-loop μ-loop)
+    → let a = c .before .before .before .before .before .before .before .before .before .before .before .before .before .args in
+    let l = c .before .before .before .before .before .before .before .before .before .before .loop in
+    (r : Escape) → c .read-escape .result ≡ r → Told (a .language) (a .quotes) (a .text .now) (l .i) r
 told c r =
-    let a = c .before .before .before .before .before .before .before .before .before .before .before .before .before .before .args in
-    let l = c .before .before .before .before .before .before .before .before .before .before .before .loop in
-    let after-slash = c .before .before .before .before .before .before .after-slash in
-    let byte-before = c .before .before .before .byte-before in
-    let is-slashed = c .before .before .before .before .before .is-slashed in
-    let if2 = c .before .before .before .before .if2 in
-    told-here (a .language) (a .quotes) (a .text .now) (l .i) (after-slash .result) (byte-before .result) r (c .escape-of .result)
-    (after-slash .ensures) (sym (is-slashed .ensures) ∙ if2 .left) (byte-before .ensures) (rw (c .escape-of .ensures) (c .before .unslashed .ensures))
+    let a = c .before .before .before .before .before .before .before .before .before .before .before .before .before .args in
+    let l = c .before .before .before .before .before .before .before .before .before .before .loop in
+    let after-slash = c .before .before .before .before .before .after-slash in
+    let byte-before = c .before .before .byte-before in
+    let is-slashed = c .before .before .before .before .is-slashed in
+    let if2 = c .before .before .before .if2 in
+    told-here (a .language) (a .quotes) (a .text .now) (l .i) (after-slash .result) (byte-before .result) r (c .read-escape .result)
+    (after-slash .ensures) (sym (is-slashed .ensures) ∙ if2 .left) (byte-before .ensures) (c .read-escape .ensures)
 
 none : (c : tie.After-enum-told Inv-loop μ-loop)
-    → let a = c .before .before .before .before .before .before .before .before .before .before .before .before .before .before .before .before .args in
-    let l = c .before .before .before .before .before .before .before .before .before .before .before .before .before .loop in
+    → let a = c .before .before .before .before .before .before .before .before .before .before .before .before .before .before .before .args in
+    let l = c .before .before .before .before .before .before .before .before .before .before .before .before .loop in
     Told (a .language) (a .quotes) (a .text .now) (l .i) Nothing
 none c = told (c .before .before) _ (c .enum-told .given .1)
 
 next-one : (c : tie.After-enum-told Inv-loop μ-loop)
-    → let a = c .before .before .before .before .before .before .before .before .before .before .before .before .before .before .before .before .args in
-    let l = c .before .before .before .before .before .before .before .before .before .before .before .before .before .loop in
+    → let a = c .before .before .before .before .before .before .before .before .before .before .before .before .before .before .before .args in
+    let l = c .before .before .before .before .before .before .before .before .before .before .before .before .loop in
     Next (Rest (a .language) (a .quotes) (a .text .now) (l .i)) (take (l .i + 1 - l .i) (drop (l .i) (a .text .now))) (Rest (a .language) (a .quotes) (a .text .now) (l .i + 1))
 next-one c =
-    let a = c .before .before .before .before .before .before .before .before .before .before .before .before .before .before .before .before .args in
-    let l = c .before .before .before .before .before .before .before .before .before .before .before .before .before .loop in
+    let a = c .before .before .before .before .before .before .before .before .before .before .before .before .before .before .before .args in
+    let l = c .before .before .before .before .before .before .before .before .before .before .before .before .loop in
     next-keep (decodeStep (stringOf (a .language) (a .quotes))) (a .text .now) (l .i) (search needs) (none c .moves)
 
 taken : (c : tie.After-n Inv-loop μ-loop)
-    → let a = c .before .before .before .before .before .before .before .before .before .before .before .before .before .before .before .before .args in
-    let l = c .before .before .before .before .before .before .before .before .before .before .before .before .before .loop in
+    → let a = c .before .before .before .before .before .before .before .before .before .before .before .before .before .before .before .args in
+    let l = c .before .before .before .before .before .before .before .before .before .before .before .before .loop in
     Told (a .language) (a .quotes) (a .text .now) (l .i) (Taken (c .n .given .0 .0) (c .n .given .0 .1 .0))
 taken c = told (c .before .before) _ (c .n .given .1)
 
 fits : (c : tie.After-n Inv-loop μ-loop)
-    → let l = c .before .before .before .before .before .before .before .before .before .before .before .before .before .loop in
-    let a = c .before .before .before .before .before .before .before .before .before .before .before .before .before .before .before .before .args in
+    → let l = c .before .before .before .before .before .before .before .before .before .before .before .before .loop in
+    let a = c .before .before .before .before .before .before .before .before .before .before .before .before .before .before .before .args in
     (1 ≤ c .n .given .0 .0) × (l .i + c .n .given .0 .0 ≤ length (a .text .now)) × (length (utf8 (c .n .given .0 .1 .0)) ≤ c .n .given .0 .0) × (c .n .given .0 .1 .0 ≤ 0x10FFFF)
 fits c =
-    let a = c .before .before .before .before .before .before .before .before .before .before .before .before .before .before .before .before .args in
-    let l = c .before .before .before .before .before .before .before .before .before .before .before .before .before .loop in
+    let a = c .before .before .before .before .before .before .before .before .before .before .before .before .before .before .before .args in
+    let l = c .before .before .before .before .before .before .before .before .before .before .before .before .loop in
     within-rest (a .text .now) (l .i) (c .n .given .0 .0) (c .n .given .0 .1 .0) (taken c .within)
 
 next-char : (c : tie.After-n Inv-loop μ-loop)
-    → let a = c .before .before .before .before .before .before .before .before .before .before .before .before .before .before .before .before .args in
-    let l = c .before .before .before .before .before .before .before .before .before .before .before .before .before .loop in
+    → let a = c .before .before .before .before .before .before .before .before .before .before .before .before .before .before .before .args in
+    let l = c .before .before .before .before .before .before .before .before .before .before .before .before .loop in
     Next (Rest (a .language) (a .quotes) (a .text .now) (l .i)) (utf8 (c .n .given .0 .1 .0)) (Rest (a .language) (a .quotes) (a .text .now) (l .i + c .n .given .0 .0))
 next-char c =
-    let a = c .before .before .before .before .before .before .before .before .before .before .before .before .before .before .before .before .args in
-    let l = c .before .before .before .before .before .before .before .before .before .before .before .before .before .loop in
+    let a = c .before .before .before .before .before .before .before .before .before .before .before .before .before .before .before .args in
+    let l = c .before .before .before .before .before .before .before .before .before .before .before .before .loop in
     next-swap (decodeStep (stringOf (a .language) (a .quotes))) (a .text .now) (l .i) (c .n .given .0 .0) (utf8 (c .n .given .0 .1 .0)) (fits c .0) (fits c .1) (taken c .moves)
 
 loop-holds : tie.Need-loop-holds Inv-loop μ-loop
@@ -245,20 +245,17 @@ loop-again-2 c =
 byte-before-requires : tie.Need-byte-before-requires Inv-loop μ-loop
 byte-before-requires c κs = search needs
 
-sub-unslashed : tie.Need-sub-unslashed Inv-loop μ-loop
-sub-unslashed c = search needs
+sub-read-escape : tie.Need-sub-read-escape Inv-loop μ-loop
+sub-read-escape c = search needs
 
-part-unslashed-start : tie.Need-part-unslashed-start Inv-loop μ-loop
-part-unslashed-start c = search needs
+part-read-escape-start : tie.Need-part-read-escape-start Inv-loop μ-loop
+part-read-escape-start c = search needs
 
-part-unslashed-end : tie.Need-part-unslashed-end Inv-loop μ-loop
-part-unslashed-end c = search needs
+part-read-escape-end : tie.Need-part-read-escape-end Inv-loop μ-loop
+part-read-escape-end c = search needs
 
-unslashed-requires : tie.Need-unslashed-requires Inv-loop μ-loop
-unslashed-requires c κs = search needs
-
-escape-of-requires : tie.Need-escape-of-requires Inv-loop μ-loop
-escape-of-requires c κs = search needs
+read-escape-requires : tie.Need-read-escape-requires Inv-loop μ-loop
+read-escape-requires c κs = search needs
 
 enum-known-n : tie.Need-enum-known-n Inv-loop μ-loop
 enum-known-n c = search needs
@@ -289,11 +286,11 @@ part-put-end-3 c = search needs
 
 put-requires-2 : tie.Need-put-requires-2 Inv-loop μ-loop
 put-requires-2 c κs =
-    filled-room (c .before .before .before .before .before .before .before .before .before .before .before .before .before .before .before .loop .inv .1) (next-one (c .before .before))
+    filled-room (c .before .before .before .before .before .before .before .before .before .before .before .before .before .before .loop .inv .1) (next-one (c .before .before))
 
 add-at-3 : tie.Need-add-at-3 Inv-loop μ-loop
 add-at-3 c =
-    omega (arith, c .before .before .put2 .ensures .0, filled-next (c .before .before .before .before .before .before .before .before .before .before .before .before .before .before .before .before .before .before .loop .inv .1) (next-one (c .before .before .before .before .before)))
+    omega (arith, c .before .before .put2 .ensures .0, filled-next (c .before .before .before .before .before .before .before .before .before .before .before .before .before .before .before .before .before .loop .inv .1) (next-one (c .before .before .before .before .before)))
 
 loop-less-3 : tie.Need-loop-less-3 Inv-loop μ-loop
 loop-less-3 c = search needs
@@ -301,8 +298,8 @@ loop-less-3 c = search needs
 loop-again-3 : tie.Need-loop-again-3 Inv-loop μ-loop
 loop-again-3 c =
     let put2 = c .before .before .put2 in
-    let a = c .before .before .before .before .before .before .before .before .before .before .before .before .before .before .before .before .before .before .before .before .before .args in
-    let l = c .before .before .before .before .before .before .before .before .before .before .before .before .before .before .before .before .before .before .loop in
+    let a = c .before .before .before .before .before .before .before .before .before .before .before .before .before .before .before .before .before .before .before .before .args in
+    let l = c .before .before .before .before .before .before .before .before .before .before .before .before .before .before .before .before .before .loop in
     let p = (c .before .before .before .before .before) in
     let one : put2 .result ≡ 1 = omega (arith, put2 .ensures .0, part-length (a .text .now) (l .i) (l .i + 1) (omega arith) (search needs)) in
     (rw one (counted-keep (l .inv .0) (search needs) (none p .moves)), filled-put (l .inv .1) (next-one p) (put2 .last .1 .0) (put2 .result) (put2 .ensures .0) (put2 .ensures .1))
@@ -318,11 +315,11 @@ part-put-char-end c = search needs
 
 put-char-requires : tie.Need-put-char-requires Inv-loop μ-loop
 put-char-requires c κs =
-    (fits (c .before .before) .3, filled-room (c .before .before .before .before .before .before .before .before .before .before .before .before .before .before .before .loop .inv .1) (next-char (c .before .before)))
+    (fits (c .before .before) .3, filled-room (c .before .before .before .before .before .before .before .before .before .before .before .before .before .before .loop .inv .1) (next-char (c .before .before)))
 
 add-at-4 : tie.Need-add-at-4 Inv-loop μ-loop
 add-at-4 c =
-    omega (arith, c .before .before .put-char .ensures .0, filled-next (c .before .before .before .before .before .before .before .before .before .before .before .before .before .before .before .before .before .before .loop .inv .1) (next-char (c .before .before .before .before .before)))
+    omega (arith, c .before .before .put-char .ensures .0, filled-next (c .before .before .before .before .before .before .before .before .before .before .before .before .before .before .before .before .before .loop .inv .1) (next-char (c .before .before .before .before .before)))
 
 add-escapes-2 : tie.Need-add-escapes-2 Inv-loop μ-loop
 add-escapes-2 c = search needs
@@ -336,7 +333,7 @@ loop-less-4 c = let w = fits (c .before .before .before .before .before) in omeg
 loop-again-4 : tie.Need-loop-again-4 Inv-loop μ-loop
 loop-again-4 c =
     let put-char = c .before .before .put-char in
-    let l = c .before .before .before .before .before .before .before .before .before .before .before .before .before .before .before .before .before .before .loop in
+    let l = c .before .before .before .before .before .before .before .before .before .before .before .before .before .before .before .before .before .loop in
     let n = c .before .before .before .before .before .n in
     let p = (c .before .before .before .before .before) in
     let w = fits p in (
@@ -386,11 +383,10 @@ write-spec =
     loop-less-2
     loop-again-2
     byte-before-requires
-    sub-unslashed
-    part-unslashed-start
-    part-unslashed-end
-    unslashed-requires
-    escape-of-requires
+    sub-read-escape
+    part-read-escape-start
+    part-read-escape-end
+    read-escape-requires
     enum-known-n
     enum-told
     add-past

@@ -54,27 +54,29 @@ stopped c =
 
 -- and where no unit is.
 unread : (c : tie.After-enum-told Inv-loop μ-loop)
-    → let a = c .before .before .before .before .before .before .before .before .before .before .before .before .args in
-    let l = c .before .before .before .before .before .before .before .loop in
+    → let a = c .before .before .before .before .before .before .before .before .before .before .before .before .before .args in
+    let l = c .before .before .before .before .before .before .before .before .loop in
     from (byteStep (a .c)) (a .text .now) (l .i) ≡ []
 unread c =
-    let a = c .before .before .before .before .before .before .before .before .before .before .before .before .args in
-    let l = c .before .before .before .before .before .before .before .loop in
-    let read-unit = c .before .before .read-unit in
-    let if1 = c .before .before .before .before .if1 in
-    let mark-of = c .before .before .before .before .before .before .before .before .mark-of in
+    let a = c .before .before .before .before .before .before .before .before .before .before .before .before .before .args in
+    let l = c .before .before .before .before .before .before .before .before .loop in
+    let escape = c .before .before .escape-of in
+    let unit = c .before .before .before .unit in
+    let if1 = c .before .before .before .before .before .if1 in
+    let mark-of = c .before .before .before .before .before .before .before .before .before .mark-of in
     from-stop (byteStep (a .c)) (a .text .now) (l .i) (omega arith)
-    (no-unit-here (a .c) (a .text .now) (l .i) (omega arith) (read-unit .result) (if1 .left ∙ mark-of .ensures) (c .enum-told .given .1) (read-unit .ensures))
+    (no-unit-here (a .c) (a .text .now) (l .i) (omega arith) (escape .result) (if1 .left ∙ mark-of .ensures) (c .enum-told .given .1) (rw (escape .ensures) (unit .ensures)))
 
 found : (c : tie.After-n Inv-loop μ-loop)
-    → let a = c .before .before .before .before .before .before .before .before .before .before .before .before .args in
-    let l = c .before .before .before .before .before .before .before .loop in
+    → let a = c .before .before .before .before .before .before .before .before .before .before .before .before .before .args in
+    let l = c .before .before .before .before .before .before .before .before .loop in
     UnitAt (a .c) (a .text .now) (l .i) (c .n .given .0 .0) (c .n .given .0 .1 .0)
 found c =
-    let a = c .before .before .before .before .before .before .before .before .before .before .before .before .args in
-    let l = c .before .before .before .before .before .before .before .loop in
-    let read-unit = c .before .before .read-unit in
-    unit-here (a .c) (a .text .now) (l .i) (omega arith) (c .n .given .0 .0) (c .n .given .0 .1 .0) (read-unit .result) (c .n .given .1) (read-unit .ensures)
+    let a = c .before .before .before .before .before .before .before .before .before .before .before .before .before .args in
+    let l = c .before .before .before .before .before .before .before .before .loop in
+    let escape = c .before .before .escape-of in
+    let unit = c .before .before .before .unit in
+    unit-here (a .c) (a .text .now) (l .i) (omega arith) (c .n .given .0 .0) (c .n .given .0 .1 .0) (escape .result) (c .n .given .1) (rw (escape .ensures) (unit .ensures))
 
 leads-of-requires : tie.Need-leads-of-requires Inv-loop μ-loop
 leads-of-requires c κs = search needs
@@ -121,8 +123,11 @@ loop-again c =
     let next-replaced = c .before .next-replaced in
     counted-quiet (l .inv) (next-replaced .result) (next-replaced .ensures .after) (next-replaced .ensures .within) (clear (c .before))
 
-read-unit-requires : tie.Need-read-unit-requires Inv-loop μ-loop
-read-unit-requires c κs = (c .before .before .before .before .before .before .set-of .ensures, search needs)
+unit-requires : tie.Need-unit-requires Inv-loop μ-loop
+unit-requires c κs = (c .before .before .before .before .before .before .set-of .ensures, search needs)
+
+escape-of-requires : tie.Need-escape-of-requires Inv-loop μ-loop
+escape-of-requires c κs = search needs
 
 enum-known-n : tie.Need-enum-known-n Inv-loop μ-loop
 enum-known-n c = search needs
@@ -132,9 +137,9 @@ enum-told c = search needs
 
 returns-2 : tie.Need-returns-2 Inv-loop μ-loop
 returns-2 c =
-    let a = c .before .before .before .before .before .before .before .before .before .before .before .before .args in
-    let l = c .before .before .before .before .before .before .before .loop in
-    let pre = c .before .before .before .before .before .before .before .before .before .before .before .before .pre in
+    let a = c .before .before .before .before .before .before .before .before .before .before .before .before .before .args in
+    let l = c .before .before .before .before .before .before .before .before .loop in
+    let pre = c .before .before .before .before .before .before .before .before .before .before .before .before .before .pre in
     read-measures (a .c) (a .text .now) (l .i) _ _ (pre .1) (l .inv) (unread c)
 
 char-length-requires : tie.Need-char-length-requires Inv-loop μ-loop
@@ -154,7 +159,7 @@ loop-less-2 c = let u = found (c .before .before) in omega (arith, u .some, u .e
 
 loop-again-2 : tie.Need-loop-again-2 Inv-loop μ-loop
 loop-again-2 c =
-    let l = c .before .before .before .before .before .before .before .before .before .loop in
+    let l = c .before .before .before .before .before .before .before .before .before .before .loop in
     let n = c .before .before .n in
     let u = found (c .before .before) in
     rw (c .char-length .ensures .0) (counted-swap (l .inv) (n .given .0 .0) (utf8 (n .given .0 .1 .0)) (u .some) (u .ends) (u .shorter) (u .moves))
@@ -183,7 +188,8 @@ measure-spec =
     add-length
     loop-less
     loop-again
-    read-unit-requires
+    unit-requires
+    escape-of-requires
     enum-known-n
     enum-told
     returns-2
