@@ -11,7 +11,7 @@ ghost use lib.ListN.{length, take};
 ghost use Rattle.rules.specs.Bytes.{over, inside};
 ghost use Rattle.rules.specs.Tables.{letterOrDigit, hexDigit};
 ghost use Rattle.rules.specs.References.{digit, hexDigitAt};
-ghost use Rattle.base.specs.Digits.{below, upperOf};
+ghost use Rattle.base.specs.Digits.{below, upperDigit, upperOf, letterOf};
 
 // Copies `bytes` to the start of `output`, leaves the bytes after them as they were, and returns how many they are.
 pub fn put(bytes: &[u8], output: &mut [u8]) -> usize
@@ -124,18 +124,35 @@ fn to_upper(byte: u8) -> u8
     if b'a' <= byte { byte - 32 } else { byte }
 }
 
-// Returns the value of a digit, hex digits of either letter case among them; 255 for any other byte. `A` is 55 + 10.
+// Returns the value of an upper-case letter that is a hex digit, 255 for any other byte. `A` is 55 + 10.
+fn letter_value(byte: u8) -> u8
+    ensures { λ r. ⌜ r ≡ letterOf byte ⌝ }
+{
+    if is_within(b'A', b'F', byte) {
+        return byte - 55;
+    }
+    255
+}
+
+// Returns the value of an upper-case hex digit, 255 for any other byte. It looks for a letter in any case, so that no branch has to guess.
+pub fn upper_digit_value(byte: u8) -> u8
+    ensures { λ r. ⌜ below 16 r ≡ upperDigit byte ⌝ }
+{
+    let letter = letter_value(byte);
+    if is_within(b'0', b'9', byte) {
+        return byte - b'0';
+    }
+    letter
+}
+
+// Returns the value of a hex digit of either letter case, 255 for any other byte.
 pub fn digit_value(byte: u8) -> u8
     ensures { λ r. ⌜ (below 10 r ≡ digit byte) × (below 16 r ≡ hexDigitAt byte) ⌝ }
 {
     if is_within(b'0', b'9', byte) {
         return byte - b'0';
     }
-    let letter = to_upper(byte);
-    if is_within(b'A', b'F', letter) {
-        return letter - 55;
-    }
-    255
+    letter_value(to_upper(byte))
 }
 
 // Returns 1 if a number is at least `least`, else 0.

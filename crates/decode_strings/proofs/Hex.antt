@@ -17,7 +17,8 @@ use Rattle.rules.specs.declared.Language.{Language}
 use Rattle.rules.specs.declared.Language.the-variants.{Script, Style}
 use Rattle.rules.proofs.Tests.{and-left, and-right, and-both, stands-split}
 use Rattle.rules.proofs.EveryByte.{every-byte}
-use Rattle.decode_strings.specs.Hex.{upperDigit, both, pairOf, hexBefore, hexBetween}
+use Rattle.base.specs.Digits.{upperDigit}
+use Rattle.decode_strings.specs.Hex.{both, pairOf, hexBefore, hexBetween}
 use Rattle.decode_strings.specs.Strings.{hexEscape}
 
 abbrev again : ℕ → Bool

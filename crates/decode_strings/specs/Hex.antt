@@ -4,14 +4,9 @@ use mathlib.Core.Bool.{cond}
 use mathlib.Core.Option.{Option, none, some}
 use mathlib.Core.List.{List, [], _∷_}
 use Prim.Native.Nat.{ℕ, _+_, _*_}
-use lib.Dec.{ltb}
 use lib.ListN.{length, drop}
 use Rattle.rules.specs.Bytes.{stands}
-use Rattle.rules.specs.References.{hexDigitAt}
-
--- The value of an upper-case hex digit: a hex digit below `a`.
-unfoldable pub upperDigit : ℕ → Option ℕ
-upperDigit b = cond (ltb b 0x61) (hexDigitAt b) none
+use Rattle.base.specs.Digits.{upperDigit}
 
 -- The value of two digits, 256 where one is none.
 abbrev pub both : Option ℕ → Option ℕ → ℕ
