@@ -1,4 +1,4 @@
-// The program `entity` of document 01: it reads a request from standard input and prints the reply. All of its work is `requests::reply`, whose
+// The program `entity` (RULES 15): it reads a request from standard input and prints the reply. All of its work is `requests::reply`, whose
 // contract says every byte that is printed for the bytes that were read.
 //
 // Only the first `requests::ENOUGH` bytes are kept: what follows changes nothing (`requests::is_enough`), and is dropped after the reply is printed.

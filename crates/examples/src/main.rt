@@ -1,4 +1,4 @@
-// Runs the examples of document 01 through the public calls, copying and borrowing, and prints what each answers: the number of the example,
+// Runs the examples of RULES 16 through the public calls, copying and borrowing, and prints what each answers: the number of the example,
 // status, length, same and place of the two calls, and what view gives of each, in hex.
 use libc::STDOUT_FILENO;
 use lintelrye::Answer;

@@ -1,5 +1,5 @@
--- 14. "For every answer that is an enum": what each case is on paper, and what a pass over a text measures. Contexts and operations are in (4), the
--- cases of the refusal table in (13); enums that one crate alone uses have theirs in its own specs.
+-- RULES 14. What each case of an answer that is an enum means, and what a pass over a text measures. Contexts and operations are in RULES 4, the
+-- cases of the refusal table in RULES 13; enums that one crate alone uses have theirs in its own specs.
 -- Assumes nothing.
 use mathlib.Core.Bool.{cond}
 use mathlib.Core.Option.{Option, none, some}

@@ -1,4 +1,4 @@
--- 1. Lists of bytes: what a list begins with, and the first entry of a table that it begins with.
+-- RULES 1. Lists of bytes: what a list begins with, and the first entry of a table that it begins with.
 -- Assumes nothing.
 use mathlib.Core.Bool.{Bool, true, false, _&&_, _||_}
 use mathlib.Core.Logic.{_⊎_}

@@ -1,4 +1,4 @@
--- 4. "Fourteen contexts, five operations": the contexts with their names and numbers, and the operations with their names.
+-- RULES 4. The contexts with their names and numbers, and the operations with their names.
 -- The types are those of the code: thirteen contexts have units, script_raw has none. view is with the refusal table.
 -- Assumes nothing.
 use mathlib.Core.List.{List, [], _∷_}

@@ -1,4 +1,4 @@
--- 17. The rules at their edges, so that a slip in the data above is refused; read off the rules by hand. Two entries are the rules' own words:
+-- RULES 17. The rules at their edges, so that a slip in the data above is refused; read off the rules by hand. Two entries are the rules' own words:
 -- the one-bits of a lead byte (`longByOnes`), and the listing of `entity` (the first of `requests`).
 -- Assumes nothing.
 use mathlib.Core.Bool.{Bool, true, false, not, _&&_, _||_, cond}

@@ -1,4 +1,4 @@
--- 7. encode: the rule of the contexts with units, and that of script_raw.
+-- RULES 7. encode: the rule of the contexts with units, and that of script_raw.
 -- Assumes nothing.
 use mathlib.Core.Bool.{Bool, _&&_, _||_, cond}
 use mathlib.Core.Option.{Option, none, some}

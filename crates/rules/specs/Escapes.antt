@@ -1,4 +1,4 @@
--- 11. "Reading string escapes": the rule of decode in the script and style strings.
+-- RULES 11. decode of string escapes: its rule in the script and style strings.
 -- Assumes nothing.
 use mathlib.Core.Bool.{_&&_, cond}
 use mathlib.Core.List.{List, _++_}

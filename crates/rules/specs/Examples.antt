@@ -1,4 +1,4 @@
--- 16. "Examples": the starred ones as a single table, and those of the rest that are one call.
+-- RULES 16. The examples: the first twelve as a single table, and those of the rest that are one call.
 -- Assumes nothing.
 use mathlib.Core.Bool.{Bool, true, false, _&&_, not, cond}
 use mathlib.Core.List.{List, [], _∷_, _++_, map}

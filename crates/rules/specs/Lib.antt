@@ -1,4 +1,4 @@
--- The definitions of the rules, in reading order.
+-- The definitions of docs/RULES.md, in reading order: each file cites its section.
 pub mod Bytes
 pub mod Moves
 pub mod Utf8

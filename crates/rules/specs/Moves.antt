@@ -1,4 +1,4 @@
--- 2. The one machine of every operation: moves through a text. Result, place and replaced places are read off the moves.
+-- RULES 2. Steps through a text: the one machine of every operation. Result, place and replaced places are read off the moves.
 -- Assumes nothing.
 use mathlib.Core.List.{List, [], _∷_, _++_}
 use Prim.Native.Nat.{ℕ, zero, suc, pred, _+_, _-_}

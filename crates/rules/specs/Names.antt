@@ -1,4 +1,4 @@
--- 9. The table of names: 2,125 entries, each a name without its `&` and `;` and the numbers of its characters.
+-- RULES 9. The table of names: 2,125 entries, each a name without its `&` and `;` and the numbers of its characters.
 -- They rise byte by byte; tools/check_names compares the table with outside copies.
 -- Assumes nothing.
 use mathlib.Core.Bool.{Bool, true, false, _&&_, _||_}

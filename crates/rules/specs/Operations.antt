@@ -1,4 +1,4 @@
--- 12. The operations: each is the result of a rule through the text.
+-- RULES 12. The operations: each is the result of a rule through the text.
 -- Assumes nothing.
 use mathlib.Core.Option.{Option, none, some}
 use mathlib.Core.List.{List}

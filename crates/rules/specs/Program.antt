@@ -1,4 +1,4 @@
--- 15. "Program `entity`": what it prints for what it reads.
+-- RULES 15. The program `entity`: what it prints for what it reads.
 -- Assumes nothing.
 use mathlib.Core.Bool.{false, cond}
 use mathlib.Core.Option.{Option, none, some}

@@ -1,4 +1,4 @@
--- 8. read, the strict reader: one unit after the other.
+-- RULES 8. read, the strict reader: one unit after the other.
 -- Assumes nothing.
 use mathlib.Core.Bool.{Bool, true, false}
 use mathlib.Core.Option.{Option, none, some}

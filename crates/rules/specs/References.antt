@@ -1,4 +1,4 @@
--- 10. "Reading references": the rules of decode and browse in the HTML seven.
+-- RULES 10. References: the rules of decode and browse in the HTML contexts.
 -- Assumes nothing.
 use mathlib.Core.Bool.{Bool, not, _&&_, _||_, cond}
 use mathlib.Core.Option.{Option, none, some}

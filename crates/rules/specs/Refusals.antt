@@ -1,4 +1,4 @@
--- 13. "The answer record and the refusal table", for copying and borrowing calls of every operation; and view.
+-- RULES 13. The answer record and the refusal table, for copying and borrowing calls of every operation; and view.
 -- Assumes nothing.
 use mathlib.Core.Bool.{Bool, true, _&&_, cond}
 use mathlib.Core.Option.{Option, none, some}

@@ -1,4 +1,4 @@
--- 5. "What each encoder writes": a context is a table of rows, each a character and what is written for it.
+-- RULES 5. What each context replaces: a context is a table of rows, each a character and what is written for it.
 -- Assumes nothing.
 use mathlib.Core.Bool.{Bool, not, _||_, cond}
 use mathlib.Core.Option.{Option}

@@ -1,4 +1,4 @@
--- 6. "The units of a written form". Neither an encoder nor a reader is run here.
+-- RULES 6. Written forms: the units of a context. Neither an encoder nor a reader is run here.
 -- Assumes nothing.
 use mathlib.Core.Bool.{not}
 use mathlib.Core.Path.{_≡_}

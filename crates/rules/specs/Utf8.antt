@@ -1,4 +1,4 @@
--- 3. Valid UTF-8: a text is one character of RFC 3629 after the other.
+-- RULES 3. Valid UTF-8: a text is one character of RFC 3629 after the other.
 -- Assumes nothing.
 use mathlib.Core.Bool.{cond}
 use mathlib.Core.Option.{Option, none, some}
