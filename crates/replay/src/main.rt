@@ -11,29 +11,18 @@
 //              output of ROOM bytes the answer is the four numbers, and the first WRITTEN bytes of the output are those of the result;
 //   end COUNT  the last line: how many cases the list has.
 // crates/replay_list says how a text is spelt. A list with any other line, or with another count, is reported as malformed.
-mod cases;
-mod report;
-
 ghost use mathlib.Core.Path.{_≡_};
 ghost use lib.ListN.{length};
-use cases::Case;
-use cases::Expected;
 use libc::STDIN_FILENO;
 use lintelrye::Operation;
+use replay_cases::State;
+use replay_cases::cases;
+use replay_cases::cases::Case;
+use replay_cases::cases::Expected;
+use replay_cases::report;
 use replay_list::after;
 use replay_list::byte_at;
 use replay_list::read_number;
-
-// How far the list is read: the place and the number of the line, the lengths of the text and of the result, whether the last line was met, and whether
-// the list is right so far.
-pub struct State {
-    pub at: usize,
-    pub line: u64,
-    pub text: usize,
-    pub result: usize,
-    pub ended: bool,
-    pub right: bool,
-}
 
 // The state after a line that is malformed.
 fn malformed(state: State) -> State {

@@ -2,8 +2,8 @@
 -- Assumes nothing.
 use Prim.Native.Nat.{_-_, _≤_}
 use borrow.Author.Needs.{needs}
-use Rattle.replay.proofs.cases.is_written.Statement.{statement}
-use Rattle.replay.proofs.cases.is_written.Tie as tie
+use Rattle.replay_cases.proofs.cases.is_written.Statement.{statement}
+use Rattle.replay_cases.proofs.cases.is_written.Tie as tie
 
 abbrev Inv-loop : tie.InvT-loop
 Inv-loop output result written i₀ i = i ≤ written

@@ -1,8 +1,8 @@
 -- The loop of `print_name` is safe and ends: the count of names that are left falls.
 -- Assumes nothing.
 use native.Mathlib.Omega.{arith}
-use Rattle.replay.proofs.report.print_name.Statement.{statement}
-use Rattle.replay.proofs.report.print_name.Tie as tie
+use Rattle.replay_cases.proofs.report.print_name.Statement.{statement}
+use Rattle.replay_cases.proofs.report.print_name.Tie as tie
 
 abbrev Inv-loop : tie.InvT-loop
 Inv-loop names number at₀ left₀ at left = Unit {0}

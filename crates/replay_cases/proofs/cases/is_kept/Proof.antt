@@ -3,8 +3,8 @@
 use Prim.Native.Nat.{_-_, _≤_}
 use borrow.Author.Needs.{needs}
 use lib.ListN.{length}
-use Rattle.replay.proofs.cases.is_kept.Statement.{statement}
-use Rattle.replay.proofs.cases.is_kept.Tie as tie
+use Rattle.replay_cases.proofs.cases.is_kept.Statement.{statement}
+use Rattle.replay_cases.proofs.cases.is_kept.Tie as tie
 
 abbrev Inv-loop : tie.InvT-loop
 Inv-loop output start end i₀ i = 0 ≤ i

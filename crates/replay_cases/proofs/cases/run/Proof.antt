@@ -4,8 +4,8 @@ use native.Mathlib.Omega.{arith}
 use lib.Seq.{length-take-le}
 use mathlib.Core.Path.{sym}
 use borrow.Author.Needs.{needs}
-use Rattle.replay.proofs.cases.run.Statement.{statement}
-use Rattle.replay.proofs.cases.run.Tie as tie
+use Rattle.replay_cases.proofs.cases.run.Statement.{statement}
+use Rattle.replay_cases.proofs.cases.run.Tie as tie
 
 wrapping-add-usize-requires : tie.Need-wrapping-add-usize-requires
 wrapping-add-usize-requires c κs = tt

@@ -4,8 +4,8 @@ use Prim.Native.Nat.{_-_}
 use mathlib.Core.Path.{_≡_}
 use borrow.Author.Needs.{needs}
 use lib.ListN.{length}
-use Rattle.replay.proofs.cases.fill.Statement.{statement}
-use Rattle.replay.proofs.cases.fill.Tie as tie
+use Rattle.replay_cases.proofs.cases.fill.Statement.{statement}
+use Rattle.replay_cases.proofs.cases.fill.Tie as tie
 
 abbrev Inv-loop : tie.InvT-loop
 Inv-loop output₀ end i₀ output i = length output ≡ length output₀

@@ -2,8 +2,8 @@
 -- Assumes nothing.
 use Prim.Native.Nat.{_-_, _≤_}
 use borrow.Author.Needs.{needs}
-use Rattle.replay.proofs.report.print_kinds.Statement.{statement}
-use Rattle.replay.proofs.report.print_kinds.Tie as tie
+use Rattle.replay_cases.proofs.report.print_kinds.Statement.{statement}
+use Rattle.replay_cases.proofs.report.print_kinds.Tie as tie
 
 abbrev Inv-loop : tie.InvT-loop
 Inv-loop tally kind₀ kind = kind ≤ 128
