@@ -30,7 +30,7 @@ use Rattle.rules.proofs.Names.{looked-up, empty-unnamed}
 use Rattle.decode_html.specs.declared.Numbers.{Numbers}
 use Rattle.decode_html.specs.declared.Numbers.the-variants.{Decoded, Browsed}
 use Rattle.decode_html.specs.Taking.{charBy, stepBy, RealMeaning, Reads}
-use Rattle.decode_html.specs.Bodies.{Ends}
+use Rattle.decode_html.specs.Bodies.{Begun, Ends}
 
 -- ---- the rule at a byte
 
@@ -138,3 +138,33 @@ name-real body (Value (Character n)) e = go (leb n 0x10FFFF) refl
         let big : 0x10FFFF < n = leb-false n 0x10FFFF q in
         let first : 0xF0 + n / 262144 ≤ 0xF0 = rw (le-ltb n 0x80 (omega arith), le-ltb n 0x800 (omega arith), le-ltb n 0x10000 (omega arith)) at (leb→le (getD (utf8 n) 0 0) 0xF0 (all-in low names names-low (body, utf8 n) (looked-up names body (utf8 n) (sym e)))) in
         absurd (omega (arith, div-add-mod' n 262144))
+
+-- ---- a reference whose body begins with neither `;` nor `&`, by the end that is found from its second byte on
+
+module _ (numbers : Numbers) (t : List ℕ) (i r : ℕ) (amp : getD t i 0 ≡ 38) (begun : Begun t i) (end : Ends t (i + 1 + 1) r) where
+  whole : Ends t (i + 1) r
+  whole = ends-more t (i + 1) r (begun .within) (begun .end) (begun .amp) end
+
+  within : i < length t
+  within = let h = begun .within in omega arith
+
+  pub begun-nobody : r ≡ length t → Reads numbers t i Nothing
+  begun-nobody e = reads-nobody numbers t i within amp (whole .nobody e)
+
+  -- A number is what follows the `#`.
+  pub begun-number : getD t (i + 1) 0 ≡ 35 → r < length t → (m : Meaning) → meaningBytes m ≡ meaning (charBy numbers) (35 ∷ take (r - (i + 1 + 1)) (drop (i + 1 + 1) t)) → RealMeaning m
+      → Reads numbers t i (answer i r m)
+  begun-number hash l m e real =
+      let h : i + 1 + 1 ≤ r = end .after in
+      let n : r - (i + 1) ≡ suc (r - (i + 1 + 1)) = omega arith in
+      let body : take (r - (i + 1)) (drop (i + 1) t) ≡ 35 ∷ take (r - (i + 1 + 1)) (drop (i + 1 + 1) t) = rw (n, drop-next t (i + 1) (begun .within), hash) in
+      reads-meaning numbers t i within amp r whole l m (e ∙ ap (meaning (charBy numbers)) (sym body)) real
+
+  -- Any other body is a name.
+  pub begun-name : (getD t (i + 1) 0 ≡ 35 → ⊥) → r < length t → (m : Meaning) → meaningBytes m ≡ lookup names (take (r - (i + 1)) (drop (i + 1) t)) → Reads numbers t i (answer i r m)
+  begun-name plain l m e =
+      let h : i + 1 + 1 ≤ r = end .after in
+      let n : r - (i + 1) ≡ suc (r - (i + 1 + 1)) = omega arith in
+      let first : getD (take (r - (i + 1)) (drop (i + 1) t)) 0 0 ≡ getD t (i + 1) 0 = rw (n, drop-next t (i + 1) (begun .within)) in
+      reads-meaning numbers t i within amp r whole l m
+      (e ∙ sym (not-number (charBy numbers) (take (r - (i + 1)) (drop (i + 1) t)) (λ z. plain (sym first ∙ z)))) (name-real (take (r - (i + 1)) (drop (i + 1) t)) m e)

@@ -5,10 +5,10 @@ ghost use mathlib.Core.Path.{_≡_};
 ghost use mathlib.Core.List.{[], _∷_};
 ghost use lib.Dec.{leb, eqb};
 ghost use Rattle.rules.specs.Bytes.{oneOf};
-ghost use Rattle.rules.specs.References.{digit, hexDigitAt, number, scalar, decodeChar, browseChar, meaning};
+ghost use Rattle.rules.specs.References.{digit, hexDigitAt, number, numberOf, scalar, decodeChar, browseChar, meaning};
 ghost use Rattle.rules.specs.Answers.{meaningBytes};
 ghost use Rattle.base.specs.Digits.{below};
-ghost use Rattle.decode_html.specs.Taking.{charBy, charOf, RealMeaning};
+ghost use Rattle.decode_html.specs.Taking.{charBy, RealMeaning};
 ghost use Rattle.decode_html.specs.Digits.{digitBy, ceilingOf, found, capped};
 use crate::Numbers;
 use rules::DecodedEntityValue;
@@ -118,26 +118,6 @@ fn decode_character(numbers: Numbers, number: u32) -> Meaning
     }
 }
 
-// Returns the character of decimal digits. There is a function for each base, so that the compiler makes a loop for each.
-fn decode_decimal_entity(numbers: Numbers, digits: &[u8]) -> Meaning
-    ensures { λ r. ⌜ (meaningBytes r ≡ charOf (charBy numbers) (number digit 10 (now (digits .entry)))) × RealMeaning r ⌝ }
-{
-    let Number::Is(n) = read_digits(10, digits) else {
-        return Meaning::Nothing;
-    };
-    decode_character(numbers, n)
-}
-
-// Returns the character of hex digits.
-fn decode_hex_entity(numbers: Numbers, digits: &[u8]) -> Meaning
-    ensures { λ r. ⌜ (meaningBytes r ≡ charOf (charBy numbers) (number hexDigitAt 16 (now (digits .entry)))) × RealMeaning r ⌝ }
-{
-    let Number::Is(n) = read_digits(16, digits) else {
-        return Meaning::Nothing;
-    };
-    decode_character(numbers, n)
-}
-
 // Reports whether hex digits follow: the byte after `#` is `x` or `X`.
 fn is_hex_mark(b: u8) -> bool
     ensures { λ r. ⌜ r ≡ (eqb b 120 || eqb b 88) ⌝ }
@@ -145,15 +125,39 @@ fn is_hex_mark(b: u8) -> bool
     (b == b'x') | (b == b'X')
 }
 
+// Reads decimal digits.
+fn read_decimal(digits: &[u8]) -> Number
+    ensures { λ r. ⌜ found r ≡ capped (number digit 10 (now (digits .entry))) ⌝ }
+{
+    read_digits(10, digits)
+}
+
+// Reads hex digits.
+fn read_hex(digits: &[u8]) -> Number
+    ensures { λ r. ⌜ found r ≡ capped (number hexDigitAt 16 (now (digits .entry))) ⌝ }
+{
+    read_digits(16, digits)
+}
+
+// Reads the number of a body from after its `#` on: decimal digits, or hex digits after `x` or `X`.
+fn read_number(body: &[u8]) -> Number
+    ensures { λ r. ⌜ found r ≡ capped (numberOf (35 ∷ now (body .entry))) ⌝ }
+{
+    if body.len() == 0 {
+        return Number::Nothing;
+    }
+    if is_hex_mark(body[0]) {
+        return read_hex(&body[1..]);
+    }
+    read_decimal(body)
+}
+
 // Returns what a body stands for that begins with `#`; `body` is what follows.
 pub fn decode_number(numbers: Numbers, body: &[u8]) -> Meaning
     ensures { λ r. ⌜ (meaningBytes r ≡ meaning (charBy numbers) (35 ∷ now (body .entry))) × RealMeaning r ⌝ }
 {
-    if body.len() == 0 {
+    let Number::Is(n) = read_number(body) else {
         return Meaning::Nothing;
-    }
-    if is_hex_mark(body[0]) {
-        return decode_hex_entity(numbers, &body[1..]);
-    }
-    decode_decimal_entity(numbers, body)
+    };
+    decode_character(numbers, n)
 }

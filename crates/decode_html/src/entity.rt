@@ -93,20 +93,9 @@ fn body_end(text: &[u8], from: usize) -> usize
     i
 }
 
-// Returns what a body stands for: the character of a number, or the value of a name.
-fn decode_body(numbers: Numbers, body: &[u8]) -> Meaning
-    requires { ⌜ 0 < length (now body) ⌝ }
-    ensures { λ r. ⌜ (meaningBytes r ≡ meaning (charBy numbers) (now (body .entry))) × RealMeaning r ⌝ }
-{
-    if body[0] == b'#' {
-        return digits::decode_number(numbers, &body[1..]);
-    }
-    names::decode_named_entity(body)
-}
-
-// Reads the reference at `start` by its body, of which the first byte is known to be neither `&` nor `;`.
-fn find_by_body(numbers: Numbers, text: &[u8], start: usize) -> Reference
-    requires { ⌜ (getD (now text) start 0 ≡ 38) × Begun (now text) start ⌝ }
+// Reads the reference of a number at `start`, which begins with `&#`.
+fn find_number(numbers: Numbers, text: &[u8], start: usize) -> Reference
+    requires { ⌜ (getD (now text) start 0 ≡ 38) × Begun (now text) start × (getD (now text) (start + 1) 0 ≡ 35) ⌝ }
     ensures { λ r. ⌜ Reads numbers (now (text .entry)) start r ⌝ }
 {
     let first = start + 1;
@@ -114,7 +103,28 @@ fn find_by_body(numbers: Numbers, text: &[u8], start: usize) -> Reference
     if end == text.len() {
         return Reference::Nothing;
     }
-    let Meaning::Value(value) = decode_body(numbers, &text[first..end]) else {
+    let digits = first + 1;
+    let Meaning::Value(value) = digits::decode_number(numbers, &text[digits..end]) else {
+        return Reference::Nothing;
+    };
+    Reference::Found(DecodedEntity {
+        start: start,
+        end: end + 1,
+        value: value,
+    })
+}
+
+// Reads the reference of a name at `start`; the first byte of its body is known to be neither `&` nor `;` nor `#`.
+fn find_name(numbers: Numbers, text: &[u8], start: usize) -> Reference
+    requires { ⌜ (getD (now text) start 0 ≡ 38) × Begun (now text) start × (getD (now text) (start + 1) 0 ≡ 35 → ⊥) ⌝ }
+    ensures { λ r. ⌜ Reads numbers (now (text .entry)) start r ⌝ }
+{
+    let first = start + 1;
+    let end = body_end(text, first + 1);
+    if end == text.len() {
+        return Reference::Nothing;
+    }
+    let Meaning::Value(value) = names::decode_named_entity(&text[first..end]) else {
         return Reference::Nothing;
     };
     Reference::Found(DecodedEntity {
@@ -133,15 +143,16 @@ pub fn find_decoded_entity(numbers: Numbers, text: &[u8], start: usize) -> Refer
         return Reference::Nothing;
     }
     let letter = text[start + 1];
-    if letter != b'#' {
-        let length = known_length(text, start);
-        if length != 0 {
-            return Reference::Found(DecodedEntity {
-                start: start,
-                end: start + length,
-                value: DecodedEntityValue::Named(known_value(letter)),
-            });
-        }
+    if letter == b'#' {
+        return find_number(numbers, text, start);
     }
-    find_by_body(numbers, text, start)
+    let length = known_length(text, start);
+    if length == 0 {
+        return find_name(numbers, text, start);
+    }
+    Reference::Found(DecodedEntity {
+        start: start,
+        end: start + length,
+        value: DecodedEntityValue::Named(known_value(letter)),
+    })
 }

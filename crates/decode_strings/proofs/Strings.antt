@@ -285,16 +285,16 @@ before-at t (suc i) h = let e : suc i - 1 ≡ i = omega arith in rw e
 -- ---- an escape as a number
 
 -- A number that is not 0 is one.
-pub escape-some : (n : ℕ) → (n ≡ 0 → ⊥) → escapeOf n ≡ Taken (n / 0x200000) (n % 0x200000)
+pub escape-some : (n : ℕ) → (n ≡ 0 → ⊥) → escapeOf n ≡ Taken (n % 256) (n / 256)
 escape-some zero h = absurd (h refl)
 escape-some (suc n) h = refl
 
 -- What is packed is taken apart again.
-pub escape-packed : (n v : ℕ) → 1 ≤ n → v < 0x200000 → escapeOf (packOf n v) ≡ Taken n v
+pub escape-packed : (n v : ℕ) → 1 ≤ n → n < 256 → escapeOf (packOf n v) ≡ Taken n v
 escape-packed n v h l =
-    let d : (n * 0x200000 + v) / 0x200000 ≡ n = omega arith in
-    let m : (n * 0x200000 + v) % 0x200000 ≡ v = omega arith in
-    escape-some (n * 0x200000 + v) (λ z. omega arith) ∙ rw (d, m)
+    let d : (v * 256 + n) / 256 ≡ v = omega arith in
+    let m : (v * 256 + n) % 256 ≡ n = omega arith in
+    escape-some (v * 256 + n) (λ z. omega arith) ∙ rw (d, m)
 
 -- The byte after a backslash, by the first two bytes.
 pub slash-taken : (s : List ℕ) (b : ℕ) → take 2 s ≡ 0x5C ∷ b ∷ [] → afterSlash s ≡ b

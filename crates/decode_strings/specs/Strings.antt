@@ -77,11 +77,11 @@ hexRows language = map (hexRow language) (hexedBytes language)
 abbrev pub unslashedRows : Language → List Row
 unslashedRows language = hexRows language ++ separators language
 
--- An escape as one number, by how many bytes it takes and the number of its character; every character is below 2^21.
+-- An escape as one number, by how many bytes it takes and the number of its character: the character above the lowest byte, which is the length.
 abbrev pub packOf : ℕ → ℕ → ℕ
-packOf taken char = taken * 0x200000 + char
+packOf taken char = char * 256 + taken
 
 -- The escape of such a number; 0 is none.
 abbrev pub escapeOf : ℕ → Escape
 escapeOf zero = Nothing
-escapeOf (suc n) = Taken (suc n / 0x200000) (suc n % 0x200000)
+escapeOf (suc n) = Taken (suc n % 256) (suc n / 256)

@@ -3,13 +3,6 @@ ghost use mathlib.Core.Path.{_≡_};
 ghost use Prim.Native.Nat.{_≤_};
 ghost use Rattle.decode_strings.specs.Hex.{pairOf};
 
-// Returns a byte as a number of 32 bits.
-fn wide(byte: u8) -> u32
-    ensures { λ r. ⌜ r ≡ byte ⌝ }
-{
-    byte as u32
-}
-
 // Returns the value of two upper-case hex digits, 256 if one of the bytes is none.
 pub fn pair(a: u8, b: u8) -> u32
     ensures { λ r. ⌜ (r ≡ pairOf a b) × (r ≤ 256) ⌝ }
@@ -22,5 +15,5 @@ pub fn pair(a: u8, b: u8) -> u32
     if 16 <= low {
         return 256;
     }
-    16 * wide(high) + wide(low)
+    (16 * high + low) as u32
 }

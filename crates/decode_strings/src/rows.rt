@@ -100,10 +100,10 @@ fn is_hexed(language: Language, v: u32) -> bool
 // Returns an escape as one number that is not 0, by how many bytes it takes and the number of its character (`escape_of` takes it apart). Such a
 // number stays in a register where an enum would pass through memory.
 pub fn packed(taken: u32, character: u32) -> u32
-    requires { ⌜ (taken < 2048) × (character < 0x200000) ⌝ }
+    requires { ⌜ (taken < 256) × (character < 0x200000) ⌝ }
     ensures { λ r. ⌜ r ≡ packOf taken character ⌝ }
 {
-    taken * 0x200000 + character
+    character * 256 + taken
 }
 
 // Returns the escape of such a number, Nothing for 0.
@@ -113,7 +113,7 @@ pub fn escape_of(code: u32) -> Escape
     if code == 0 {
         return Escape::Nothing;
     }
-    Escape::Taken((code / 0x200000) as usize, code % 0x200000)
+    Escape::Taken((code % 256) as usize, code / 256)
 }
 
 // Reads the hex escape at the start of `rest`, if the string writes its byte so. Returns it packed, 0 if there is none.

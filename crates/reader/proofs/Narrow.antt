@@ -124,14 +124,14 @@ module _ (h : Html) (s set : List ℕ) (right : Leads (InHtml h) (inSet set)) wh
   replaced-byte b r l e = ap (replaces h) (utf8-ascii b l) ∙ sym (begins-alone h b (omega arith)) ∙ sym (right b (omega arith)) ∙ e
 
   -- What a packed number is in the larger table it is in the smaller one, where its character is in the set,
-  pub html-kept : (code : ℕ) → code % 0x200000 < 128 → inSet set (code % 0x200000) ≡ true → Finds (htmlRows Unquoted) s (escapeOf code) → Finds (htmlRows h) s (escapeOf code)
+  pub html-kept : (code : ℕ) → code / 256 < 128 → inSet set (code / 256) ≡ true → Finds (htmlRows Unquoted) s (escapeOf code) → Finds (htmlRows h) s (escapeOf code)
   html-kept zero l e f = rw (html-rows h) (finds-neither (replaces h) (htmlRows Unquoted) tt s f)
-  html-kept (suc k) l e f = rw (html-rows h) (finds-kept (replaces h) (htmlRows Unquoted) tt s (suc k / 0x200000) (suc k % 0x200000) f (replaced-byte (suc k % 0x200000) true l e))
+  html-kept (suc k) l e f = rw (html-rows h) (finds-kept (replaces h) (htmlRows Unquoted) tt s (suc k % 256) (suc k / 256) f (replaced-byte (suc k / 256) true l e))
 
   -- and else nothing is found there.
-  pub html-dropped : (code : ℕ) → code % 0x200000 < 128 → inSet set (code % 0x200000) ≡ false → Finds (htmlRows Unquoted) s (escapeOf code) → Finds (htmlRows h) s Nothing
+  pub html-dropped : (code : ℕ) → code / 256 < 128 → inSet set (code / 256) ≡ false → Finds (htmlRows Unquoted) s (escapeOf code) → Finds (htmlRows h) s Nothing
   html-dropped zero l e f = rw (html-rows h) (finds-neither (replaces h) (htmlRows Unquoted) tt s f)
-  html-dropped (suc k) l e f = rw (html-rows h) (finds-dropped (replaces h) (htmlRows Unquoted) tt s (suc k / 0x200000) (suc k % 0x200000) f (replaced-byte (suc k % 0x200000) false l e))
+  html-dropped (suc k) l e f = rw (html-rows h) (finds-dropped (replaces h) (htmlRows Unquoted) tt s (suc k % 256) (suc k / 256) f (replaced-byte (suc k / 256) false l e))
 
 -- ---- `&#xHH;`
 

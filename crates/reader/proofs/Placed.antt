@@ -6,7 +6,7 @@ use mathlib.Core.Logic.{inl, inr}
 use mathlib.Core.Option.{Option, none, some}
 use mathlib.Core.Path.{_≡_, refl, sym, ap, _∙_, subst}
 use mathlib.Core.List.{List, [], _∷_, map}
-use Prim.Native.Nat.{ℕ, zero, suc, _%_, _<_}
+use Prim.Native.Nat.{ℕ, zero, suc, _/_, _<_}
 use native.Mathlib.Omega.{arith}
 use lib.Dec.{T, ltb, eqb, eqb→eq, eqb-refl, ltb→lt}
 use lib.ListN.{length, getD}
@@ -79,11 +79,11 @@ module _ (s : List ℕ) where
   }
 
   -- A second byte that only the row e has: that row, or nothing.
-  pub finds-named : (e : Row) (x code r : ℕ) → getD s 1 0 ≡ x → rowsBy x ≡ e ∷ [] → (stands (value e) s ≡ true → Finds (e ∷ []) s (escapeOf code)) → code % 0x200000 < 128
-      → r ≡ cond (stands (value e) s) code 0 → Finds (htmlRows Unquoted) s (escapeOf r) × (r % 0x200000 < 128)
+  pub finds-named : (e : Row) (x code r : ℕ) → getD s 1 0 ≡ x → rowsBy x ≡ e ∷ [] → (stands (value e) s ≡ true → Finds (e ∷ []) s (escapeOf code)) → code / 256 < 128
+      → r ≡ cond (stands (value e) s) code 0 → Finds (htmlRows Unquoted) s (escapeOf r) × (r / 256 < 128)
   finds-named e x code r h o f l q = rw q (go (stands (value e) s) refl)
     where
-      go : (b : Bool) → stands (value e) s ≡ b → Finds (htmlRows Unquoted) s (escapeOf (cond b code 0)) × (cond b code 0 % 0x200000 < 128)
+      go : (b : Bool) → stands (value e) s ≡ b → Finds (htmlRows Unquoted) s (escapeOf (cond b code 0)) × (cond b code 0 / 256 < 128)
       go true t = (finds-by x h (rw o (f t)), l)
       go false t = (finds-by x h (rw o (finds-later t finds-end)), omega arith)
 

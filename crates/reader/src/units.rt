@@ -2,7 +2,7 @@
 ghost use mathlib.Core.Bool.{cond};
 ghost use mathlib.Core.List.{map};
 ghost use mathlib.Core.Path.{_≡_};
-ghost use Prim.Native.Nat.{_%_, _≤_, _<_};
+ghost use Prim.Native.Nat.{_/_, _≤_, _<_};
 ghost use lib.ListN.{length, drop};
 ghost use Rattle.rules.specs.Bytes.{ascii, oneOf, stands};
 ghost use Rattle.rules.specs.Tables.{reference, others, htmlRows, rows};
@@ -89,7 +89,7 @@ fn named(value: &[u8], code: u32, rest: &[u8]) -> u32
 
 // Reads `&#xHH;` at the start of `rest`, for a byte that `unquoted` writes so. Returns it packed, 0 if there is none.
 fn numbered(rest: &[u8]) -> u32
-    ensures { λ r. ⌜ Finds (map reference others) (now (rest .entry)) (escapeOf r) × (r % 0x200000 < 128) ⌝ }
+    ensures { λ r. ⌜ Finds (map reference others) (now (rest .entry)) (escapeOf r) × (r / 256 < 128) ⌝ }
 {
     let v = hex_between(b"&#x", b";", rest);
     if is_other(v) {
@@ -101,7 +101,7 @@ fn numbered(rest: &[u8]) -> u32
 // Reads the unit of `unquoted` at the start of `rest`, which has units for all HTML contexts. Returns it packed, 0 if there is none. The second
 // byte tells which it can be.
 fn reference(rest: &[u8]) -> u32
-    ensures { λ r. ⌜ Finds (htmlRows Unquoted) (now (rest .entry)) (escapeOf r) × (r % 0x200000 < 128) ⌝ }
+    ensures { λ r. ⌜ Finds (htmlRows Unquoted) (now (rest .entry)) (escapeOf r) × (r / 256 < 128) ⌝ }
 {
     if rest.len() < 2 {
         return 0;
@@ -122,7 +122,7 @@ fn html_unit(h: Html, set: &[u64; 4], text: &[u8], at: usize) -> u32
     ensures { λ r. ⌜ Finds (htmlRows h) (drop at (now (text .entry))) (escapeOf r) ⌝ }
 {
     let code = reference(&text[at..]);
-    if replaced::is_in(set, (code % 0x200000) as u8) {
+    if replaced::is_in(set, (code / 256) as u8) {
         return code;
     }
     0

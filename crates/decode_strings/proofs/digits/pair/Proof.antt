@@ -2,7 +2,6 @@
 -- Assumes nothing.
 use borrow.Author.Tests.{lt-ltb, le-ltb}
 use borrow.Author.Needs.{needs}
-use native.Mathlib.Omega.{arith}
 use Rattle.decode_strings.specs.Hex.{pairOf}
 use Rattle.decode_strings.proofs.digits.pair.Statement.{statement}
 use Rattle.decode_strings.proofs.digits.pair.Tie as tie
@@ -23,32 +22,20 @@ returns-2 c =
     let digit = c .before .before .before .upper-digit-value in
     (rw (← digit .ensures, ← c .before .before .upper-digit-value2 .ensures, lt-ltb _ 16 (c .before .if1 .left), le-ltb _ 16 (c .if2 .taken)), search needs)
 
-wide-requires : tie.Need-wide-requires
-wide-requires c κs = search needs
-
 mul-result : tie.Need-mul-result
 mul-result c = search needs
-
-wide-requires-2 : tie.Need-wide-requires-2
-wide-requires-2 c κs = search needs
 
 add-result : tie.Need-add-result
 add-result c = search needs
 
+cast-result : tie.Need-cast-result
+cast-result c = search needs
+
 returns-3 : tie.Need-returns-3
 unfolding pairOf
 returns-3 c =
-    let c₀ = c .before .before in (
-      rw (
-        c .before .wide .ensures,
-        c .wide2 .ensures,
-        ← c₀ .before .before .before .upper-digit-value .ensures,
-        ← c₀ .before .before .upper-digit-value2 .ensures,
-        lt-ltb _ 16 (c₀ .before .if1 .left),
-        lt-ltb _ 16 (c₀ .if2 .left),
-      ),
-      omega (arith, c .before .wide .ensures, c .wide2 .ensures),
-    )
+    let digit = c .before .before .before .upper-digit-value in
+    (rw (← digit .ensures, ← c .before .before .upper-digit-value2 .ensures, lt-ltb _ 16 (c .before .if1 .left), lt-ltb _ 16 (c .if2 .left)), search needs)
 
 pub pair-spec : {M : Type 1} → statement M
 pair-spec =
@@ -58,8 +45,7 @@ pair-spec =
     upper-digit-value-requires-2
     returns
     returns-2
-    wide-requires
     mul-result
-    wide-requires-2
     add-result
+    cast-result
     returns-3)
