@@ -2,7 +2,7 @@
 -- Assumes nothing.
 use mathlib.Core.Bool.{true, false, _||_, and-true}
 use mathlib.Core.Option.{Option, none, some}
-use mathlib.Core.Path.{_≡_, refl, sym, ap, _∙_}
+use mathlib.Core.Path.{_≡_, refl, ap, _∙_}
 use mathlib.Core.List.{List, [], _∷_, _++_, append-nil}
 use Prim.Native.Nat.{ℕ, zero, suc, _+_, _-_, _≤_, _<_}
 use native.Mathlib.Omega.{arith}
@@ -91,8 +91,3 @@ number-hex (b ∷ s) h e = rw (eqb-comm 120 b, eqb-comm 88 b, and-true (eqb b 12
 pub number-decimal : (s : List ℕ) → (length s ≡ 0 → ⊥) → (eqb (getD s 0 0) 120 || eqb (getD s 0 0) 88) ≡ false → numberOf (35 ∷ s) ≡ number digit 10 s
 number-decimal [] h e = absurd (h refl)
 number-decimal (b ∷ s) h e = rw (eqb-comm 120 b, eqb-comm 88 b, and-true (eqb b 120), and-true (eqb b 88), e)
-
--- A body that begins with `#` is that byte and what follows it.
-pub hash-first : (s : List ℕ) → 0 < length s → getD s 0 0 ≡ 35 → s ≡ 35 ∷ drop 1 s
-hash-first [] h e = absurd (omega arith)
-hash-first (b ∷ s) h e = rw e

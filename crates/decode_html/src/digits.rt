@@ -125,20 +125,6 @@ fn is_hex_mark(b: u8) -> bool
     (b == b'x') | (b == b'X')
 }
 
-// Reads decimal digits.
-fn read_decimal(digits: &[u8]) -> Number
-    ensures { λ r. ⌜ found r ≡ capped (number digit 10 (now (digits .entry))) ⌝ }
-{
-    read_digits(10, digits)
-}
-
-// Reads hex digits.
-fn read_hex(digits: &[u8]) -> Number
-    ensures { λ r. ⌜ found r ≡ capped (number hexDigitAt 16 (now (digits .entry))) ⌝ }
-{
-    read_digits(16, digits)
-}
-
 // Reads the number of a body from after its `#` on: decimal digits, or hex digits after `x` or `X`.
 fn read_number(body: &[u8]) -> Number
     ensures { λ r. ⌜ found r ≡ capped (numberOf (35 ∷ now (body .entry))) ⌝ }
@@ -147,9 +133,9 @@ fn read_number(body: &[u8]) -> Number
         return Number::Nothing;
     }
     if is_hex_mark(body[0]) {
-        return read_hex(&body[1..]);
+        return read_digits(16, &body[1..]);
     }
-    read_decimal(body)
+    read_digits(10, body)
 }
 
 // Returns what a body stands for that begins with `#`; `body` is what follows.

@@ -1,6 +1,7 @@
 -- After `x` or `X` the digits are hex, else decimal.
 -- Assumes nothing.
-use mathlib.Core.Path.{sym, ap, _∙_}
+use mathlib.Core.Logic.{inl, inr}
+use mathlib.Core.Path.{refl, sym, ap, _∙_}
 use borrow.Author.Needs.{needs}
 use Rattle.base.proofs.Filled.{lent-rest}
 use Rattle.decode_html.specs.Digits.{capped}
@@ -17,32 +18,32 @@ shared-slice-read-is-hex-mark c = search needs
 is-hex-mark-requires : tie.Need-is-hex-mark-requires
 is-hex-mark-requires c κs = search needs
 
-sub-read-hex : tie.Need-sub-read-hex
-sub-read-hex c = search needs
+sub-read-digits : tie.Need-sub-read-digits
+sub-read-digits c = search needs
 
-part-read-hex-start : tie.Need-part-read-hex-start
-part-read-hex-start c = search needs
+part-read-digits-start : tie.Need-part-read-digits-start
+part-read-digits-start c = search needs
 
-part-read-hex-end : tie.Need-part-read-hex-end
-part-read-hex-end c = search needs
+part-read-digits-end : tie.Need-part-read-digits-end
+part-read-digits-end c = search needs
 
-read-hex-requires : tie.Need-read-hex-requires
-read-hex-requires c κs = search needs
+read-digits-requires : tie.Need-read-digits-requires
+read-digits-requires c κs = inr refl
 
 returns-2 : tie.Need-returns-2
 returns-2 c =
     let s = c .before .before .before .before .before .before .before .args .body .now in
     let mark = sym (c .before .before .before .is-hex-mark .ensures) ∙ c .before .before .if2 .taken in
-    rw (lent-rest 1 s) at (c .read-hex .ensures) ∙ ap capped (sym (number-hex s (c .before .before .before .before .before .if1 .left) mark))
+    rw (lent-rest 1 s) at (c .read-digits .ensures) ∙ ap capped (sym (number-hex s (c .before .before .before .before .before .if1 .left) mark))
 
-read-decimal-requires : tie.Need-read-decimal-requires
-read-decimal-requires c κs = search needs
+read-digits-requires-2 : tie.Need-read-digits-requires-2
+read-digits-requires-2 c κs = inl refl
 
 returns-3 : tie.Need-returns-3
 returns-3 c =
     let s = c .before .before .before .before .before .before .args .body .now in
     let mark = sym (c .before .before .is-hex-mark .ensures) ∙ c .before .if2 .left in
-    c .read-decimal .ensures ∙ ap capped (sym (number-decimal s (c .before .before .before .before .if1 .left) mark))
+    c .read-digits2 .ensures ∙ ap capped (sym (number-decimal s (c .before .before .before .before .if1 .left) mark))
 
 pub read-number-spec : {M : Type 1} → statement M
 read-number-spec =
@@ -51,10 +52,10 @@ read-number-spec =
     returns
     shared-slice-read-is-hex-mark
     is-hex-mark-requires
-    sub-read-hex
-    part-read-hex-start
-    part-read-hex-end
-    read-hex-requires
+    sub-read-digits
+    part-read-digits-start
+    part-read-digits-end
+    read-digits-requires
     returns-2
-    read-decimal-requires
+    read-digits-requires-2
     returns-3)
