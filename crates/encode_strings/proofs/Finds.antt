@@ -1,19 +1,18 @@
--- What is found at the head of a text. One test, computed for every ASCII byte in every string: its flags say whether a key begins with it, its kind
--- makes the move of the rules, and it grows as much as the code counts. Of the other bytes only E2 begins keys, those of the line separators.
+-- What is found at the head of a text. One test, computed for every ASCII byte in every string: the rule makes the move of the definition, and the byte
+-- grows as much as the code counts. Of the other bytes only E2 begins keys, those of the line separators.
 -- Assumes nothing.
-use mathlib.Core.Bool.{Bool, true, false, not, _&&_, _||_, cond}
+use mathlib.Core.Bool.{Bool, true, false, _&&_, _||_, cond}
 use mathlib.Core.Logic.{_⊎_, inl, inr}
 use mathlib.Core.Option.{Option, none, some}
 use mathlib.Core.Path.{_≡_, refl, sym, ap, _∙_, subst}
 use mathlib.Core.List.{List, [], _∷_, _++_}
 use Prim.Native.Nat.{ℕ, _+_, _-_, _<_, _≤_}
-use native.Mathlib.Nat.{zero-add, not-suc-le-zero}
+use native.Mathlib.Nat.{not-suc-le-zero}
 use native.Mathlib.Omega.{arith}
-use borrow.Author.Tests.{ne-eqb, le-ltb, eqb-true, eqb-false, ltb-true, ltb-false}
-use lib.Bits.{bitAnd, and-zero-l}
-use lib.Dec.{T, eqb, ltb, eqb→eq}
+use borrow.Author.Tests.{ne-eqb, lt-ltb, le-ltb, eqb-true, eqb-false, ltb-true, ltb-false}
+use lib.Dec.{T, eqb, leb, ltb, eqb→eq, leb→le}
 use lib.ListN.{length, drop, getD}
-use Rattle.rules.specs.Bytes.{ascii, stands, sameBytes}
+use Rattle.rules.specs.Bytes.{ascii, inside, stands, sameBytes}
 use Rattle.rules.specs.Moves.{Move, keep, swap, stop, takes, gives}
 use Rattle.rules.specs.Tables.{Row, rowAt, key, value, table, lineSeparator, paragraphSeparator}
 use Rattle.rules.specs.Encoding.{write, keepByte, encodeStep}
@@ -26,8 +25,8 @@ use Rattle.rules.specs.declared.Replacement.the-variants.{Slashed, Hex, Separat
 use Rattle.rules.specs.declared.Replaced.{Replaced}
 use Rattle.rules.specs.declared.Replaced.the-variants.{By, Nothing}
 use Rattle.rules.proofs.Tests.{and-left, and-right, or-cases, same-bytes}
-use Rattle.rules.proofs.Below.{below, counted, agree, agrees, eqb-comm}
-use Rattle.encode_strings.specs.Strings.{nulBy, flagOf, escapeFlags, maskOf, starts, Held, singleKey, doubleKey, gainOf, sameOf, endsOf, ended}
+use Rattle.rules.proofs.Below.{below, eqb-comm}
+use Rattle.encode_strings.specs.Strings.{isSlashed, isHexed, hexBy, replacedBy, starts, Held, HeldAt, singleKey, doubleKey, weightOf, gainOf, sameOf, endsOf, ended}
 use Rattle.encode_strings.proofs.Heads.{not-ascii, kept, no-start, lone}
 use Rattle.rules.specs.Contexts.{stringOf}
 use Rattle.rules.specs.declared.Language.{Language}
@@ -60,10 +59,6 @@ same-move stop stop t = refl
 
 -- ---- the test
 
--- The kind of a byte that begins a key, but E2.
-abbrev pub kindOf : Language → ℕ → Replacement
-kindOf language b = cond (eqb b 34 || eqb b 39 || eqb b 92) Slashed (cond (eqb b 0) (nulBy language) Hex)
-
 -- By how much less than it counts a byte grows: NUL in a style sheet.
 abbrev pub less : Language → ℕ → ℕ
 less Script b = 0
@@ -73,12 +68,8 @@ less Style b = sameOf 0 b
 abbrev pub alone : Language → Quotes → ℕ → Move
 alone language quotes b = encodeStep (stringOf language quotes) 0 (b ∷ [])
 
-abbrev flagged : Language → Quotes → ℕ → Bool
-flagged language quotes b = agree (not (eqb (bitAnd (flagOf b) (maskOf language quotes)) 0)) (starts (table (stringOf language quotes)) b)
-
-abbrev kinded : Language → Quotes → ℕ → Bool
-kinded language quotes b =
-    sameMove (replacedMove language (b ∷ []) (cond (starts (table (stringOf language quotes)) b) (By (kindOf language b)) Nothing)) (alone language quotes b)
+abbrev ruled : Language → Quotes → ℕ → Bool
+ruled language quotes b = sameMove (replacedMove language (b ∷ []) (replacedBy language quotes b)) (alone language quotes b)
 
 abbrev grown : Language → Quotes → ℕ → Bool
 grown language quotes b =
@@ -92,10 +83,10 @@ Grows language quotes b =
     × (length (gives (alone language quotes b)) + less language b ≡ 1 + gainOf (singleKey quotes) (doubleKey quotes) b)
 
 abbrev right : Language → Quotes → ℕ → Bool
-right language quotes b = flagged language quotes b && (kinded language quotes b && grown language quotes b)
+right language quotes b = ruled language quotes b && grown language quotes b
 
 all-right : (language : Language) (q : Quotes) (b : ℕ) → b < 0x80 → T (right language q b)
-unfolding encodeStep starts gainOf sameOf
+unfolding encodeStep isSlashed isHexed weightOf sameOf
 all-right Style Single = below (right Style Single) 0x80 tt
 all-right Style Double = below (right Style Double) 0x80 tt
 all-right Style Both = below (right Style Both) 0x80 tt
@@ -104,80 +95,101 @@ all-right Script Double = below (right Script Double) 0x80 tt
 all-right Script Both = below (right Script Both) 0x80 tt
 
 module _ (language : Language) (quotes : Quotes) (b : ℕ) (h : b < 0x80) where
-  byte-right : T (right language quotes b)
-  byte-right = all-right language quotes b h
-
-  ascii-flags : not (eqb (bitAnd (flagOf b) (maskOf language quotes)) 0) ≡ starts (table (stringOf language quotes)) b
-  ascii-flags =
-      agrees (not (eqb (bitAnd (flagOf b) (maskOf language quotes)) 0)) (starts (table (stringOf language quotes)) b)
-      (and-left (flagged language quotes b) (kinded language quotes b && grown language quotes b) byte-right)
-
   -- How much a byte grows by itself.
   pub ascii-grows : Grows language quotes b
   ascii-grows =
       let one = eqb (length (takes (alone language quotes b))) 1 in
       let more = eqb (length (gives (alone language quotes b)) + less language b) (1 + gainOf (singleKey quotes) (doubleKey quotes) b) in
-      let g = and-right (kinded language quotes b) (grown language quotes b) (and-right (flagged language quotes b) (kinded language quotes b && grown language quotes b) byte-right) in
+      let g = and-right (ruled language quotes b) (grown language quotes b) (all-right language quotes b h) in
       (eqb→eq _ _ (and-left one more g), eqb→eq _ _ (and-right one more g))
 
-  ascii-kind : starts (table (stringOf language quotes)) b ≡ true → replacementMove language (b ∷ []) (kindOf language b) ≡ alone language quotes b
-  ascii-kind e =
-      let k : replacedMove language (b ∷ []) (cond (starts (table (stringOf language quotes)) b) (By (kindOf language b)) Nothing) ≡ alone language quotes b =
-      same-move _ (alone language quotes b) (and-left (kinded language quotes b) (grown language quotes b) (and-right (flagged language quotes b) (kinded language quotes b && grown language quotes b) byte-right)) in
-      rw e at k
+  ascii-ruled : replacedMove language (b ∷ []) (replacedBy language quotes b) ≡ alone language quotes b
+  ascii-ruled = same-move _ (alone language quotes b) (and-left (ruled language quotes b) (grown language quotes b) (all-right language quotes b h))
 
--- ---- the flags of all bytes
+-- ---- the rule is the definition's
 
-lead-flags : (language : Language) (q : Quotes) → not (eqb (bitAnd (flagOf 0xE2) (maskOf language q)) 0) ≡ starts (table (stringOf language q)) 0xE2
-unfolding starts
-lead-flags Style Single = refl
-lead-flags Style Double = refl
-lead-flags Style Both = refl
-lead-flags Script Single = refl
-lead-flags Script Double = refl
-lead-flags Script Both = refl
+-- No byte above ASCII is escaped by itself.
+pub slashed-high : (q : Quotes) (b : ℕ) → 0x80 ≤ b → isSlashed (singleKey q) (doubleKey q) b ≡ false
+unfolding isSlashed
+slashed-high Single b h = rw (not-ascii b 0x5C h (omega arith), not-ascii b 0x27 h (omega arith))
+slashed-high Double b h = rw (not-ascii b 0x5C h (omega arith), not-ascii b 0x22 h (omega arith))
+slashed-high Both b h = rw (not-ascii b 0x5C h (omega arith), not-ascii b 0x27 h (omega arith), not-ascii b 0x22 h (omega arith))
 
-high-flags : (b : ℕ) → 0x80 ≤ b → (b ≡ 0xE2 → ⊥) → flagOf b ≡ 0
-high-flags b h ne =
-    let l : ltb b 32 ≡ false = le-ltb b 32 (omega arith) in
-    rw (
-      l,
-      not-ascii b 0x5C h (omega arith),
-      not-ascii b 0x3C h (omega arith),
-      not-ascii b 0x27 h (omega arith),
-      not-ascii b 0x22 h (omega arith),
-      ne-eqb b 0xE2 ne,
-    )
+pub hexed-high : (b : ℕ) → 0x80 ≤ b → isHexed b ≡ false
+unfolding isHexed
+hexed-high b h = rw (le-ltb b 32 (omega arith), not-ascii b 0x3C h (omega arith))
 
--- The flags of a byte that count say whether a key begins with it.
-pub flags-right : (language : Language) (quotes : Quotes) (b : ℕ) → b < 256 → not (eqb (bitAnd (getD escapeFlags b 0) (maskOf language quotes)) 0) ≡ starts (table (stringOf language quotes)) b
-unfolding escapeFlags
-flags-right language quotes b h = rw (counted flagOf 0 256 b h, zero-add) (go (ltb b 0x80) (eqb b 0xE2) refl refl)
+-- The rule makes the move of the definition at every byte but E2.
+byte-ruled : (language : Language) (quotes : Quotes) (b : ℕ) → (b ≡ 0xE2 → ⊥)
+    → (p : ℕ) (s : List ℕ) → replacedMove language (b ∷ s) (replacedBy language quotes b) ≡ encodeStep (stringOf language quotes) p (b ∷ s)
+byte-ruled language quotes b ne p s =
+    headmost language (isSlashed (singleKey quotes) (doubleKey quotes) b) (isHexed b) (eqb b 0) refl ∙ go (ltb b 0x80) refl ∙ sym (lone (stringOf language quotes) p b s ne)
   where
-    go : (t u : Bool) → ltb b 0x80 ≡ t → eqb b 0xE2 ≡ u → not (eqb (bitAnd (flagOf b) (maskOf language quotes)) 0) ≡ starts (table (stringOf language quotes)) b
-    go true u e f = ascii-flags language quotes b (ltb-true b 0x80 e)
-    go false true e f = rw (eqb-true b 0xE2 f) (lead-flags language quotes)
-    go false false e f =
-        let ne = eqb-false b 0xE2 f in
-        let l = ltb-false b 0x80 e in
-        rw (high-flags b l ne, no-start (stringOf language quotes) b l ne) (ap (λ (n : ℕ). not (eqb n 0)) (and-zero-l (maskOf language quotes)))
+    headmost : (language : Language) (t u v : Bool) → eqb b 0 ≡ v
+        → replacedMove language (b ∷ s) (cond t (By Slashed) (cond u (By (hexBy language b)) Nothing)) ≡ replacedMove language (b ∷ []) (cond t (By Slashed) (cond u (By (hexBy language b)) Nothing))
+    headmost language true u v e = refl
+    headmost Script false true v e = refl
+    headmost Style false true true e = rw e
+    headmost Style false true false e = rw e
+    headmost language false false v e = refl
 
--- The move at a byte that begins a key, but E2.
-byte-kind : (language : Language) (quotes : Quotes) (b : ℕ) → (b ≡ 0xE2 → ⊥) → starts (table (stringOf language quotes)) b ≡ true
-    → (p : ℕ) (s : List ℕ) → replacementMove language (b ∷ s) (kindOf language b) ≡ encodeStep (stringOf language quotes) p (b ∷ s)
-byte-kind language quotes b ne e p s =
-    headmost language (eqb b 34 || eqb b 39 || eqb b 92) (eqb b 0) ∙ go (ltb b 0x80) refl ∙ sym (lone (stringOf language quotes) p b s ne)
-  where
-    headmost : (language : Language) (t u : Bool)
-        → replacementMove language (b ∷ s) (cond t Slashed (cond u (nulBy language) Hex)) ≡ replacementMove language (b ∷ []) (cond t Slashed (cond u (nulBy language) Hex))
-    headmost language true u = refl
-    headmost Script false true = refl
-    headmost Style false true = refl
-    headmost language false false = refl
+    go : (t : Bool) → ltb b 0x80 ≡ t → replacedMove language (b ∷ []) (replacedBy language quotes b) ≡ alone language quotes b
+    go true l = ascii-ruled language quotes b (ltb-true b 0x80 l)
+    go false l =
+        let h = ltb-false b 0x80 l in
+        rw (slashed-high quotes b h, hexed-high b h) (sym (kept (stringOf language quotes) 0 b [] (no-start (stringOf language quotes) b h ne)))
 
-    go : (t : Bool) → ltb b 0x80 ≡ t → replacementMove language (b ∷ []) (kindOf language b) ≡ alone language quotes b
-    go true l = ascii-kind language quotes b (ltb-true b 0x80 l) e
-    go false l = absurd (subst T (sym e ∙ no-start (stringOf language quotes) b (ltb-false b 0x80 l) ne) tt)
+-- ---- what the rule says of the bytes that the code tells apart
+
+-- The test for the bytes from `]` to 7F.
+pub letter-bounds : (b : ℕ) → inside (0x5D, 0x7F) b ≡ true → (0x5D ≤ b) × (b ≤ 0x7F)
+letter-bounds b e =
+    let t : T (leb 0x5D b && leb b 0x7F) = subst T (sym e) tt in
+    (leb→le 0x5D b (and-left (leb 0x5D b) (leb b 0x7F) t), leb→le b 0x7F (and-right (leb 0x5D b) (leb b 0x7F) t))
+
+module _ (language : Language) where
+  -- The control bytes are written in hex.
+  pub ruled-control : (q : Quotes) (b : ℕ) → b ≤ 31 → replacedBy language q b ≡ By (hexBy language b)
+  unfolding isSlashed isHexed
+  ruled-control q b h = rw (lt-ltb b 32 (omega arith), ne-eqb b 0x5C (λ e. omega arith), below-quote q)
+    where
+      below-quote : (q : Quotes) → eqb b (singleKey q) || eqb b (doubleKey q) ≡ false
+      below-quote Single = rw (ne-eqb b 0x27 (λ e. omega arith), ne-eqb b 0x5C (λ e. omega arith))
+      below-quote Double = rw (ne-eqb b 0x5C (λ e. omega arith), ne-eqb b 0x22 (λ e. omega arith))
+      below-quote Both = rw (ne-eqb b 0x27 (λ e. omega arith), ne-eqb b 0x22 (λ e. omega arith))
+
+  -- From the space on four bytes alone are escaped.
+  pub ruled-other : (q : Quotes) (b : ℕ) → 32 ≤ b → (b ≡ 0x22 → ⊥) → (b ≡ 0x27 → ⊥) → (b ≡ 0x3C → ⊥) → (b ≡ 0x5C → ⊥) → replacedBy language q b ≡ Nothing
+  unfolding isSlashed isHexed
+  ruled-other Single b h d s l k = rw (le-ltb b 32 h, ne-eqb b 0x3C l, ne-eqb b 0x5C k, ne-eqb b 0x27 s)
+  ruled-other Double b h d s l k = rw (le-ltb b 32 h, ne-eqb b 0x3C l, ne-eqb b 0x5C k, ne-eqb b 0x22 d)
+  ruled-other Both b h d s l k = rw (le-ltb b 32 h, ne-eqb b 0x3C l, ne-eqb b 0x5C k, ne-eqb b 0x27 s, ne-eqb b 0x22 d)
+
+  -- The four.
+  pub ruled-double : (q : Quotes) → replacedBy language q 0x22 ≡ cond (eqb 0x22 (doubleKey q)) (By Slashed) Nothing
+  unfolding isSlashed isHexed
+  ruled-double Single = refl
+  ruled-double Double = refl
+  ruled-double Both = refl
+
+  pub ruled-single : (q : Quotes) → replacedBy language q 0x27 ≡ cond (eqb 0x27 (singleKey q)) (By Slashed) Nothing
+  unfolding isSlashed isHexed
+  ruled-single Single = refl
+  ruled-single Double = refl
+  ruled-single Both = refl
+
+  pub ruled-slash : (q : Quotes) → replacedBy language q 0x5C ≡ By Slashed
+  unfolding isSlashed
+  ruled-slash q = refl
+
+pub ruled-less : (language : Language) (q : Quotes) → replacedBy language q 0x3C ≡ By Hex
+unfolding isSlashed isHexed
+ruled-less Script Single = refl
+ruled-less Script Double = refl
+ruled-less Script Both = refl
+ruled-less Style Single = refl
+ruled-less Style Double = refl
+ruled-less Style Both = refl
 
 -- ---- the line separators
 
@@ -262,31 +274,40 @@ lead-style Single = refl
 lead-style Double = refl
 lead-style Both = refl
 
-lead-only : (language : Language) (q : Quotes) → starts (table (stringOf language q)) 0xE2 ≡ true → language ≡ Script
-lead-only Style q e = absurd (subst T (sym e ∙ lead-style q) tt)
-lead-only Script q e = refl
-
 -- ---- the same of the bytes that the code is lent
 
 module _ (language : Language) (quotes : Quotes) where
-  -- No key begins with the first byte.
-  pub found-none : (s : List ℕ) → 0 < length s → starts (table (stringOf language quotes)) (getD s 0 0) ≡ false → (p : ℕ) → keepByte s ≡ encodeStep (stringOf language quotes) p s
-  found-none [] h e p = absurd (not-suc-le-zero h)
-  found-none (x ∷ s) h e p = sym (kept (stringOf language quotes) p x s e)
+  -- At every byte but E2.
+  pub found-ruled : (s : List ℕ) (r : Replaced) → 0 < length s → (getD s 0 0 ≡ 0xE2 → ⊥) → replacedBy language quotes (getD s 0 0) ≡ r
+      → (p : ℕ) → replacedMove language s r ≡ encodeStep (stringOf language quotes) p s
+  found-ruled [] r h ne k p = absurd (not-suc-le-zero h)
+  found-ruled (x ∷ s) r h ne k p = rw (← k) (byte-ruled language quotes x ne p s)
 
-  -- A key begins with it, and it is not E2.
-  pub found-kind : (s : List ℕ) (r : Replacement) → 0 < length s → starts (table (stringOf language quotes)) (getD s 0 0) ≡ true → (getD s 0 0 ≡ 0xE2 → ⊥)
-      → kindOf language (getD s 0 0) ≡ r → (p : ℕ) → replacementMove language s r ≡ encodeStep (stringOf language quotes) p s
-  found-kind [] r h e ne k p = absurd (not-suc-le-zero h)
-  found-kind (x ∷ s) r h e ne k p = rw (← k) (byte-kind language quotes x ne e p s)
+  -- At a byte from the space on that is none of the five.
+  pub found-plain : (s : List ℕ) → 0 < length s → 32 ≤ getD s 0 0
+      → (getD s 0 0 ≡ 0x22 → ⊥) → (getD s 0 0 ≡ 0x27 → ⊥) → (getD s 0 0 ≡ 0x3C → ⊥) → (getD s 0 0 ≡ 0x5C → ⊥) → (getD s 0 0 ≡ 0xE2 → ⊥)
+      → (p : ℕ) → replacedMove language s Nothing ≡ encodeStep (stringOf language quotes) p s
+  found-plain s h l d g n k e = found-ruled s Nothing h e (ruled-other language quotes (getD s 0 0) l d g n k)
 
-  -- A key begins with it, and it is E2.
-  pub found-lead : (s : List ℕ) (r : Replaced) → 0 < length s → getD s 0 0 ≡ 0xE2 → starts (table (stringOf language quotes)) (getD s 0 0) ≡ true
-      → separatorAt (drop 1 s) ≡ r → (p : ℕ) → replacedMove language s r ≡ encodeStep (stringOf language quotes) p s
-  found-lead [] r h e l k p = absurd (not-suc-le-zero h)
-  found-lead (x ∷ s) r h e l k p =
-      let o : language ≡ Script = lead-only language quotes (rw e at l) in
-      rw (o, e, ← k) (lead-script quotes p s)
+  -- At a quote k, which is escaped if it is the key.
+  pub found-quote : (s : List ℕ) (r : Replaced) (k key : ℕ) → 0 < length s → getD s 0 0 ≡ k → (k ≡ 0xE2 → ⊥) → r ≡ cond (eqb (getD s 0 0) key) (By Slashed) Nothing
+      → replacedBy language quotes k ≡ cond (eqb k key) (By Slashed) Nothing → ((p : ℕ) → replacedMove language s r ≡ encodeStep (stringOf language quotes) p s) × HeldAt r s
+  found-quote s r k key h e ne f g = (found-ruled s r h (λ q. ne (sym e ∙ q)) (rw e (g ∙ rw (← e) (sym f))), rw f (held (eqb (getD s 0 0) key)))
+    where
+      held : (t : Bool) → HeldAt (cond t (By Slashed) Nothing) s
+      held true = h
+      held false = h
+
+-- At E2 in a script.
+pub found-lead : (q : Quotes) (s : List ℕ) (r : Replaced) → 0 < length s → getD s 0 0 ≡ 0xE2 → separatorAt (drop 1 s) ≡ r
+    → (p : ℕ) → replacedMove Script s r ≡ encodeStep (InScript q) p s
+found-lead q [] r h e k p = absurd (not-suc-le-zero h)
+found-lead q (x ∷ s) r h e k p = rw (e, ← k) (lead-script q p s)
+
+-- In a style sheet it is kept.
+pub found-style : (q : Quotes) (s : List ℕ) → 0 < length s → getD s 0 0 ≡ 0xE2 → (p : ℕ) → replacedMove Style s Nothing ≡ encodeStep (InStyle q) p s
+found-style q [] h e p = absurd (not-suc-le-zero h)
+found-style q (x ∷ s) h e p = rw e (sym (kept (InStyle q) p 0xE2 s (lead-style q)))
 
 -- Less than two bytes after it end no separator; otherwise the two tell.
 pub ended-short : (s : List ℕ) → length s < 3 → ended (drop 1 s) ≡ false
@@ -309,9 +330,13 @@ held-some Hex s h = h
 held-some Separator s h = omega (arith, h .0)
 held-some Substitute s h = h
 
-pub nul-held : (language : Language) (s : List ℕ) → 1 ≤ length s → Held (nulBy language) s
-nul-held Script s h = h
-nul-held Style s h = h
+pub hex-held : (language : Language) (b : ℕ) (s : List ℕ) → 1 ≤ length s → Held (hexBy language b) s
+hex-held Script b s h = h
+hex-held Style b s h = go (eqb b 0)
+  where
+    go : (t : Bool) → Held (cond t Substitute Hex) s
+    go true = h
+    go false = h
 
 -- Where nothing replaces it the first byte is given.
 pub kept-gives : (s : List ℕ) → 1 ≤ length s → gives (keepByte s) ≡ getD s 0 0 ∷ []

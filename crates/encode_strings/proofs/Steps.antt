@@ -1,5 +1,6 @@
 -- A turn of the writing loops: what is found at a place is what is written next.
 -- Assumes nothing.
+use mathlib.Core.Logic.{_⊎_, inl, inr}
 use mathlib.Core.Path.{_≡_, refl, sym, _∙_}
 use mathlib.Core.List.{List, [], _∷_}
 use Prim.Native.Nat.{ℕ, _+_, _-_, _≤_, _<_}
@@ -19,9 +20,9 @@ use Rattle.rules.specs.declared.Replaced.{Replaced}
 use Rattle.rules.proofs.Blind.{blind-result}
 use Rattle.rules.proofs.Growth.{encode-no-longer}
 use Rattle.base.proofs.Filled.{Next, lent-rest}
-use Rattle.encode_strings.specs.Strings.{takenBy, Held, HeldAt}
+use Rattle.encode_strings.specs.Strings.{singleKey, doubleKey, leadOf, weightOf, sameOf, total, separatorsIn, takenBy, Held, HeldAt}
 use Rattle.encode_strings.proofs.Finds.{kept-gives, separator-sizes}
-use Rattle.encode_strings.proofs.Sums.{encode-blind}
+use Rattle.encode_strings.proofs.Sums.{encode-blind, weightless, lead-free, gained-style, gained-script}
 use Rattle.rules.specs.declared.Quotes.{Quotes}
 use Rattle.rules.specs.Contexts.{stringOf}
 use Rattle.rules.specs.declared.Language.{Language}
@@ -87,3 +88,15 @@ encode-end c t i h = rw (drop-of-length-le t h)
 -- What does not grow is copied.
 pub no-growth : (c : Context) (s : List ℕ) (n : ℕ) → length s + n ≡ length (encodeOf c s) → n ≡ 0 → encodeOf c s ≡ s
 no-growth c s n e z = encode-no-longer c s (omega arith)
+
+-- Where its bytes weigh nothing a text is copied, unless a script has a line separator in it.
+pub unescaped : (language : Language) (quotes : Quotes) (s : List ℕ) → total (weightOf 1 (singleKey quotes) (doubleKey quotes)) s ≡ 0
+    → (total (sameOf (leadOf language)) s ≡ 0) ⊎ (separatorsIn s ≡ 0) → encodeOf (stringOf language quotes) s ≡ s
+unescaped Script quotes s w h = no-growth (stringOf Script quotes) s 0 (gained-script Script quotes s 0 (sym (weightless (singleKey quotes) (doubleKey quotes) s w)) refl 0 (sym (none h))) refl
+  where
+    none : (total (sameOf 0xE2) s ≡ 0) ⊎ (separatorsIn s ≡ 0) → separatorsIn s ≡ 0
+    none (inl e) = lead-free s e
+    none (inr e) = e
+unescaped Style quotes s w h =
+    let g = gained-style Style quotes s 0 (sym (weightless (singleKey quotes) (doubleKey quotes) s w)) refl (total (sameOf 0) s) refl in
+    no-growth (stringOf Style quotes) s (0 - total (sameOf 0) s) (g .1) (omega arith)

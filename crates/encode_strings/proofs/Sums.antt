@@ -20,9 +20,9 @@ use Rattle.rules.specs.declared.Replacement.the-variants.{Separator}
 use Rattle.rules.proofs.Blind.{Blind, blind-next}
 use Rattle.rules.proofs.Loops.{drop-next}
 use Rattle.rules.proofs.Growth.{encode-sum}
-use Rattle.encode_strings.specs.Strings.{singleKey, doubleKey, gainOf, sameOf, total, endsOf, ended, separatorsIn}
+use Rattle.encode_strings.specs.Strings.{singleKey, doubleKey, isSlashed, isHexed, weightOf, gainOf, sameOf, total, endsOf, ended, separatorsIn}
 use Rattle.encode_strings.proofs.Heads.{not-ascii, kept, no-start, lone}
-use Rattle.encode_strings.proofs.Finds.{less, alone, Grows, ascii-grows, ends-are, lead-kept, lead-taken, lead-style, separator-sizes}
+use Rattle.encode_strings.proofs.Finds.{less, alone, Grows, ascii-grows, slashed-high, hexed-high, ends-are, lead-kept, lead-taken, lead-style, separator-sizes}
 use Rattle.rules.specs.Contexts.{stringOf}
 use Rattle.rules.specs.declared.Language.{Language}
 use Rattle.rules.specs.declared.Language.the-variants.{Script, Style}
@@ -68,24 +68,10 @@ pub encode-blind : (c : Context) → Blind (encodeStep c)
 unfolding encodeStep
 encode-blind c p q s = refl
 
-key-low : (q : Quotes) → (singleKey q < 0x80) × (doubleKey q < 0x80)
-key-low Single = (omega arith, omega arith)
-key-low Double = (omega arith, omega arith)
-key-low Both = (omega arith, omega arith)
-
 -- Only ASCII bytes grow by themselves.
 gain-high : (q : Quotes) (b : ℕ) → 0x80 ≤ b → gainOf (singleKey q) (doubleKey q) b ≡ 0
-unfolding gainOf
-gain-high q b h =
-    let k = key-low q in
-    let l : ltb b 32 ≡ false = le-ltb b 32 (omega arith) in
-    rw (
-      not-ascii b 0x5C h (omega arith),
-      not-ascii b (singleKey q) h (k .0),
-      not-ascii b (doubleKey q) h (k .1),
-      not-ascii b 0x3C h (omega arith),
-      l,
-    )
+unfolding weightOf
+gain-high q b h = rw (slashed-high q b h, hexed-high b h)
 
 module _ (language : Language) (quotes : Quotes) where
   -- The other bytes are copied.
@@ -194,6 +180,18 @@ lead-free (b ∷ s) h = go (eqb b 0xE2) refl (lead-free s)
     go : (t : Bool) → eqb b 0xE2 ≡ t → (total (sameOf 0xE2) s ≡ 0 → separatorsIn s ≡ 0) → cond (eqb b 0xE2 && ended s) 1 0 + separatorsIn s ≡ 0
     go true e ih = let z : _≡_ {A = ℕ} (cond (eqb 0xE2 b) 1 0) 1 = rw (eqb-true b 0xE2 e) in absurd (omega arith)
     go false e ih = let z : _≡_ {A = ℕ} (cond (eqb 0xE2 b) 1 0) 0 = rw (ne-eqb 0xE2 b (λ q. eqb-false b 0xE2 e (sym q))) in rw (e, ih (omega arith))
+
+-- Where the bytes weigh nothing they do not grow.
+pub weightless : (single double : ℕ) (s : List ℕ) → total (weightOf 1 single double) s ≡ 0 → total (gainOf single double) s ≡ 0
+unfolding weightOf
+weightless single double [] h = refl
+weightless single double (b ∷ s) h = go (isSlashed single double b) (isHexed b) h (weightless single double s)
+  where
+    go : (t u : Bool) → cond t 1 (cond u 1 0) + total (weightOf 1 single double) s ≡ 0 → (total (weightOf 1 single double) s ≡ 0 → total (gainOf single double) s ≡ 0)
+        → cond t 1 (cond u 3 0) + total (gainOf single double) s ≡ 0
+    go true u e ih = absurd (omega arith)
+    go false true e ih = absurd (omega arith)
+    go false false e ih = let r = ih (omega arith) in omega arith
 
 module _ (language : Language) (quotes : Quotes) (s : List ℕ) (g : ℕ) (e : g ≡ total (gainOf (singleKey quotes) (doubleKey quotes)) s) where
   pub gained-style : language ≡ Style → (z : ℕ) → z ≡ total (sameOf 0) s → (z ≤ g) × (length s + (g - z) ≡ length (encodeOf (stringOf language quotes) s))

@@ -1,13 +1,13 @@
--- The escape flags of the string encoder, what a replacement takes, and how bytes grow.
+-- The rule of the string encoder, what a replacement takes, and how bytes grow.
 -- Assumes nothing.
 use mathlib.Core.Bool.{Bool, true, false, _&&_, _||_, cond}
 use mathlib.Core.Logic.{_⊎_}
 use mathlib.Core.Path.{_≡_}
-use mathlib.Core.List.{List, [], _∷_, map}
+use mathlib.Core.List.{List, [], _∷_}
 use Prim.Native.Nat.{ℕ, _+_, _≤_, _<_}
 use lib.Dec.{eqb, ltb}
 use lib.ListN.{length, getD}
-use Rattle.rules.specs.Bytes.{ascii, count, any, oneOf}
+use Rattle.rules.specs.Bytes.{any}
 use Rattle.rules.specs.Tables.{Row, key, value, hexRow}
 use Rattle.rules.specs.declared.Quotes.{Quotes}
 use Rattle.rules.specs.declared.Quotes.the-variants.{Single, Double, Both}
@@ -18,26 +18,41 @@ use Rattle.rules.specs.declared.Replacement.the-variants.{Slashed, Hex, Separat
 use Rattle.rules.specs.declared.Replaced.{Replaced}
 use Rattle.rules.specs.declared.Replaced.the-variants.{By, Nothing}
 
--- ---- the escape flags
+-- ---- the rule
 
--- The rule of the flags: `\`, `<` and the bytes 0 to 31 have 1, `'` has 2, `"` has 4, and the first byte of U+2028 and U+2029 has 8.
-abbrev pub flagOf : ℕ → ℕ
-flagOf b = cond (ltb b 32 || oneOf (ascii "\\<") b) 1 (cond (eqb b 0x27) 2 (cond (eqb b 0x22) 4 (cond (eqb b 0xE2) 8 0)))
+-- The single quote where it is escaped, else the backslash, which every string escapes.
+abbrev pub singleKey : Quotes → ℕ
+singleKey Single = 0x27
+singleKey Double = 0x5C
+singleKey Both = 0x27
 
--- The flags of all bytes.
-unfoldable pub escapeFlags : List ℕ
-escapeFlags = map flagOf (count 0 256)
+-- The same of the double quote.
+abbrev pub doubleKey : Quotes → ℕ
+doubleKey Single = 0x5C
+doubleKey Double = 0x22
+doubleKey Both = 0x22
 
--- The flags of the quotes that are escaped.
-abbrev pub quoteFlags : Quotes → ℕ
-quoteFlags Single = 2
-quoteFlags Double = 4
-quoteFlags Both = 6
+-- The byte is escaped by a backslash before it: the backslash itself, and these quotes.
+unfoldable pub isSlashed : ℕ → ℕ → ℕ → Bool
+isSlashed single double b = eqb b 0x5C || eqb b single || eqb b double
 
--- The flags that count in a string: 1 in every one, 8 in a script.
-abbrev pub maskOf : Language → Quotes → ℕ
-maskOf Script q = quoteFlags q + 9
-maskOf Style q = quoteFlags q + 1
+-- It is escaped by its hex digits: bytes 0 to 31 and `<`.
+unfoldable pub isHexed : ℕ → Bool
+isHexed b = ltb b 32 || eqb b 0x3C
+
+-- How such a byte is written: NUL in a style string becomes U+FFFD.
+abbrev pub hexBy : Language → ℕ → Replacement
+hexBy Script b = Hex
+hexBy Style b = cond (eqb b 0) Substitute Hex
+
+-- The byte that begins the line separators in a script; a style string escapes none, and has the backslash once more.
+abbrev pub leadOf : Language → ℕ
+leadOf Script = 0xE2
+leadOf Style = 0x5C
+
+-- What replaces a character of one byte.
+abbrev pub replacedBy : Language → Quotes → ℕ → Replaced
+replacedBy language quotes b = cond (isSlashed (singleKey quotes) (doubleKey quotes) b) (By Slashed) (cond (isHexed b) (By (hexBy language b)) Nothing)
 
 -- The bytes begin with b, if there are any.
 abbrev pub headed : ℕ → List ℕ → Bool
@@ -49,11 +64,6 @@ unfoldable pub starts : List Row → ℕ → Bool
 starts rows b = any (λ (row : Row). headed b (key row)) rows
 
 -- ---- one replacement
-
--- How NUL is replaced.
-abbrev pub nulBy : Language → Replacement
-nulBy Script = Hex
-nulBy Style = Substitute
 
 -- How many bytes of the text a replacement takes.
 abbrev pub takenBy : Replacement → ℕ
@@ -80,21 +90,13 @@ HeldAt Nothing s = 1 ≤ length s
 
 -- ---- growth
 
--- The single quote where it is escaped, else the backslash, which grows as much.
-abbrev pub singleKey : Quotes → ℕ
-singleKey Single = 0x27
-singleKey Double = 0x5C
-singleKey Both = 0x27
-
--- The same of the double quote.
-abbrev pub doubleKey : Quotes → ℕ
-doubleKey Single = 0x5C
-doubleKey Double = 0x22
-doubleKey Both = 0x22
+-- The weight of a byte: one where a backslash escapes it, `hexed` where its hex digits do.
+unfoldable pub weightOf : ℕ → ℕ → ℕ → ℕ → ℕ
+weightOf hexed single double b = cond (isSlashed single double b) 1 (cond (isHexed b) hexed 0)
 
 -- By how much a byte grows: the backslash and the quotes by one, `<` and the bytes 0 to 31 by three.
-unfoldable pub gainOf : ℕ → ℕ → ℕ → ℕ
-gainOf single double b = cond (eqb b 0x5C || eqb b single || eqb b double) 1 (cond (eqb b 0x3C || ltb b 32) 3 0)
+abbrev pub gainOf : ℕ → ℕ → ℕ → ℕ
+gainOf = weightOf 3
 
 -- 1 where the two bytes are the same.
 unfoldable pub sameOf : ℕ → ℕ → ℕ

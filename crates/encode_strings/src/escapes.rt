@@ -1,19 +1,25 @@
 // Finds what escapes the start of a text in a string, and writes a text byte by byte.
-use crate::flags;
+use crate::rule;
 use rules::Language;
 use rules::Quotes;
 use rules::Replaced;
 use rules::Replacement;
+ghost use mathlib.Core.Bool.{cond};
 ghost use mathlib.Core.Path.{_≡_};
 ghost use Prim.Native.Nat.{ℕ, _≤_, _<_};
-ghost use lib.ListN.{length};
+ghost use lib.Dec.{eqb};
+ghost use lib.ListN.{length, getD};
 ghost use Rattle.rules.specs.Bytes.{over};
 ghost use Rattle.rules.specs.Contexts.{stringOf};
 ghost use Rattle.rules.specs.Moves.{gives};
 ghost use Rattle.rules.specs.Encoding.{encodeStep};
 ghost use Rattle.rules.specs.Operations.{encodeOf};
 ghost use Rattle.rules.specs.Answers.{replacementMove, replacedMove};
-ghost use Rattle.encode_strings.specs.Strings.{escapeFlags, nulBy, takenBy, Held, HeldAt, hexIn, endsOf};
+ghost use Rattle.rules.specs.declared.Quotes.{Quotes};
+ghost use Rattle.rules.specs.declared.Language.the-variants.{Script};
+ghost use Rattle.rules.specs.declared.Replaced.the-variants.{By, Nothing};
+ghost use Rattle.rules.specs.declared.Replacement.the-variants.{Slashed};
+ghost use Rattle.encode_strings.specs.Strings.{takenBy, Held, HeldAt, hexIn, endsOf};
 
 // Whether the two bytes after E2 make it a line separator, U+2028 or U+2029.
 pub fn ends_separator(b: u8, c: u8) -> bool
@@ -28,40 +34,64 @@ pub fn ends_separator(b: u8, c: u8) -> bool
     c == 0xA9
 }
 
-// Returns how NUL is replaced.
-fn nul_by(language: Language) -> Replacement
-    ensures { λ r. ⌜ r ≡ nulBy language ⌝ }
+// Finds U+2028 or U+2029 at the start of `rest`, which begins with E2.
+fn separator_at(rest: &[u8]) -> Replaced
+    requires { ⌜ (0 < length (now rest)) × (getD (now rest) 0 0 ≡ 0xE2) ⌝ }
+    ensures { λ r. ⌜ ((quotes : Quotes) (p : ℕ) → replacedMove Script (now (rest .entry)) r ≡ encodeStep (stringOf Script quotes) p (now (rest .entry))) × HeldAt r (now (rest .entry)) ⌝ }
+{
+    if rest.len() < 3 {
+        return Replaced::Nothing;
+    }
+    if ends_separator(rest[1], rest[2]) {
+        return Replaced::By(Replacement::Separator);
+    }
+    Replaced::Nothing
+}
+
+// Finds what replaces the start of `rest`, which begins with E2: only script strings escape line separators.
+fn separator(language: Language, rest: &[u8]) -> Replaced
+    requires { ⌜ (0 < length (now rest)) × (getD (now rest) 0 0 ≡ 0xE2) ⌝ }
+    ensures { λ r. ⌜ ((quotes : Quotes) (p : ℕ) → replacedMove language (now (rest .entry)) r ≡ encodeStep (stringOf language quotes) p (now (rest .entry))) × HeldAt r (now (rest .entry)) ⌝ }
 {
     match language {
-        Language::Script => Replacement::Hex,
-        Language::Style => Replacement::Substitute,
+        Language::Script => separator_at(rest),
+        Language::Style => Replaced::Nothing,
     }
 }
 
-// Finds what replaces the start of `rest`: the flags of its first byte tell whether anything can, the byte itself what.
-fn escape(language: Language, quotes: Quotes, flags: &[u8; 256], rest: &[u8]) -> Replaced
-    requires { ⌜ (0 < length (now rest)) × (now flags ≡ escapeFlags) ⌝ }
+// Returns what replaces a quote, which is escaped if it is the key.
+fn quoted(key: u8, b: u8) -> Replaced
+    ensures { λ r. ⌜ r ≡ cond (eqb b key) (By Slashed) Nothing ⌝ }
+{
+    if b == key {
+        return Replaced::By(Replacement::Slashed);
+    }
+    Replaced::Nothing
+}
+
+// Finds what replaces the start of `rest`, by its first byte. No string escapes the bytes from `]` to 7F, nor the space and `!`: in most of a text that
+// settles it.
+fn escape(language: Language, quotes: Quotes, rest: &[u8]) -> Replaced
+    requires { ⌜ 0 < length (now rest) ⌝ }
     ensures { λ r. ⌜ ((p : ℕ) → replacedMove language (now (rest .entry)) r ≡ encodeStep (stringOf language quotes) p (now (rest .entry))) × HeldAt r (now (rest .entry)) ⌝ }
 {
     let b = rest[0];
-    if !flags::needs_escape(language, quotes, flags, b) {
+    if base::is_within(b']', 0x7F, b) {
+        return Replaced::Nothing;
+    }
+    if b <= b'!' {
+        if b < b' ' {
+            return Replaced::By(rule::hex_by(language, b));
+        }
         return Replaced::Nothing;
     }
     match b {
-        b'"' => Replaced::By(Replacement::Slashed),
-        b'\'' => Replaced::By(Replacement::Slashed),
+        b'"' => quoted(rule::double_key(quotes), b),
+        b'\'' => quoted(rule::single_key(quotes), b),
+        b'<' => Replaced::By(Replacement::Hex),
         b'\\' => Replaced::By(Replacement::Slashed),
-        0 => Replaced::By(nul_by(language)),
-        0xE2 => {
-            if rest.len() < 3 {
-                return Replaced::Nothing;
-            }
-            if ends_separator(rest[1], rest[2]) {
-                return Replaced::By(Replacement::Separator);
-            }
-            Replaced::Nothing
-        }
-        _ => Replaced::By(Replacement::Hex),
+        rule::SEPARATOR_LEAD => separator(language, rest),
+        _ => Replaced::Nothing,
     }
 }
 
@@ -108,20 +138,14 @@ fn put_found(language: Language, found: Replacement, rest: &[u8], output: &mut [
 }
 
 // Writes the escaped text to the start of `output`, byte by byte; where nothing is found the byte is copied on.
-pub fn write_bytes(
-    language: Language,
-    quotes: Quotes,
-    flags: &[u8; 256],
-    text: &[u8],
-    output: &mut [u8],
-) -> usize
-    requires { ⌜ (now flags ≡ escapeFlags) × (length (encodeOf (stringOf language quotes) (now text)) ≤ length (now output)) ⌝ }
+pub fn write_bytes(language: Language, quotes: Quotes, text: &[u8], output: &mut [u8]) -> usize
+    requires { ⌜ length (encodeOf (stringOf language quotes) (now text)) ≤ length (now output) ⌝ }
     ensures { λ r. ⌜ (r ≡ length (encodeOf (stringOf language quotes) (now (text .entry)))) × (now (output .exit) ≡ over (encodeOf (stringOf language quotes) (now (text .entry))) (now (output .entry))) ⌝ }
 {
     let mut at: usize = 0;
     let mut i: usize = 0;
     while i < text.len() {
-        let Replaced::By(found) = escape(language, quotes, flags, &text[i..]) else {
+        let Replaced::By(found) = escape(language, quotes, &text[i..]) else {
             at += base::put(&[text[i]], &mut output[at..]);
             i += 1;
             continue;

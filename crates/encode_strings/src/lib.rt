@@ -1,7 +1,7 @@
 // Escapes a text for a string of a script or a style sheet.
 mod escapes;
-mod flags;
 mod growth;
+mod rule;
 
 use rules::Language;
 use rules::Quotes;
@@ -11,7 +11,7 @@ ghost use lib.ListN.{length};
 ghost use Rattle.rules.specs.Bytes.{over};
 ghost use Rattle.rules.specs.Contexts.{stringOf};
 ghost use Rattle.rules.specs.Operations.{encodeOf};
-ghost use Rattle.encode_strings.specs.Strings.{escapeFlags, Apart};
+ghost use Rattle.encode_strings.specs.Strings.{Apart};
 
 // Returns the end of a part of at most `step` bytes from offset `at` on that splits no line separator: E2 in its last two bytes is left to the next.
 fn cut(text: &[u8], at: usize, step: usize) -> usize
@@ -22,10 +22,10 @@ fn cut(text: &[u8], at: usize, step: usize) -> usize
         return text.len();
     }
     let end = at + step;
-    if text[end - 1] == 0xE2 {
+    if text[end - 1] == rule::SEPARATOR_LEAD {
         return end - 1;
     }
-    if text[end - 2] == 0xE2 {
+    if text[end - 2] == rule::SEPARATOR_LEAD {
         return end - 2;
     }
     end
@@ -46,21 +46,15 @@ pub fn measure(language: Language, quotes: Quotes, text: &[u8]) -> usize
     n
 }
 
-// Writes the escaped part; one that does not grow is copied.
-fn write_part(
-    language: Language,
-    quotes: Quotes,
-    flags: &[u8; 256],
-    part: &[u8],
-    output: &mut [u8],
-) -> usize
-    requires { ⌜ (length (now part) ≤ 64) × (now flags ≡ escapeFlags) × (length (encodeOf (stringOf language quotes) (now part)) ≤ length (now output)) ⌝ }
+// Writes the escaped part; one in which nothing is escaped is copied.
+fn write_part(language: Language, quotes: Quotes, part: &[u8], output: &mut [u8]) -> usize
+    requires { ⌜ (length (now part) ≤ 64) × (length (encodeOf (stringOf language quotes) (now part)) ≤ length (now output)) ⌝ }
     ensures { λ r. ⌜ (r ≡ length (encodeOf (stringOf language quotes) (now (part .entry)))) × (now (output .exit) ≡ over (encodeOf (stringOf language quotes) (now (part .entry))) (now (output .entry))) ⌝ }
 {
-    if growth::gained(language, quotes, part) == 0 {
+    if growth::is_copied(language, quotes, part) {
         return base::put(part, output);
     }
-    escapes::write_bytes(language, quotes, flags, part, output)
+    escapes::write_bytes(language, quotes, part, output)
 }
 
 // Writes the escaped text to the start of `output`, part by part, leaves the bytes after it as they were, and returns its length.
@@ -68,12 +62,11 @@ pub fn write(language: Language, quotes: Quotes, text: &[u8], output: &mut [u8])
     requires { ⌜ length (encodeOf (stringOf language quotes) (now text)) ≤ length (now output) ⌝ }
     ensures { λ r. ⌜ (r ≡ length (encodeOf (stringOf language quotes) (now (text .entry)))) × (now (output .exit) ≡ over (encodeOf (stringOf language quotes) (now (text .entry))) (now (output .entry))) ⌝ }
 {
-    let flags = flags::ESCAPE_FLAGS;
     let mut at: usize = 0;
     let mut i: usize = 0;
     while i < text.len() {
         let end = cut(text, i, 32);
-        at += write_part(language, quotes, &flags, &text[i..end], &mut output[at..]);
+        at += write_part(language, quotes, &text[i..end], &mut output[at..]);
         i = end;
     }
     at

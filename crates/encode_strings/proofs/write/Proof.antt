@@ -1,5 +1,5 @@
 -- `encode_strings::write` meets its contract: the parts are written one after the other. The invariant is that of every writing loop, `Filled`; the measure
--- is what is left of the text. The table is the list of its rule, by computation.
+-- is what is left of the text.
 -- Assumes nothing.
 use mathlib.Core.Path.{refl}
 use Prim.Native.Nat.{_-_, _≤_}
@@ -9,7 +9,6 @@ use lib.ListN.{length, drop}
 use Rattle.rules.specs.Operations.{encodeOf}
 use Rattle.base.proofs.Part.{part-length}
 use Rattle.base.proofs.Filled.{Filled, filled-start, filled-next, filled-room, filled-put, filled-end}
-use Rattle.encode_strings.specs.Strings.{escapeFlags}
 use Rattle.rules.specs.Contexts.{stringOf}
 use Rattle.encode_strings.proofs.Steps.{encode-end}
 use Rattle.encode_strings.proofs.Cuts.{next-part}
@@ -17,11 +16,11 @@ use Rattle.encode_strings.proofs.write.Statement.{statement}
 use Rattle.encode_strings.proofs.write.Tie as tie
 
 abbrev Inv-loop : tie.InvT-loop
-Inv-loop language quotes text output₀ flags at₀ i₀ output at i =
+Inv-loop language quotes text output₀ at₀ i₀ output at i =
     (i ≤ length text) × Filled (encodeOf (stringOf language quotes) text) (encodeOf (stringOf language quotes) (drop i text)) output₀ output at
 
 abbrev μ-loop : tie.MeasureT-loop
-μ-loop language quotes text output₀ flags at₀ i₀ output at i = length text - i
+μ-loop language quotes text output₀ at₀ i₀ output at i = length text - i
 
 loop-holds : tie.Need-loop-holds Inv-loop μ-loop
 loop-holds c = (search needs, filled-start _ _ (c .before .before .pre))
@@ -30,13 +29,13 @@ cut-requires : tie.Need-cut-requires Inv-loop μ-loop
 cut-requires c κs = search needs
 
 sub-write-part : tie.Need-sub-write-part Inv-loop μ-loop
-sub-write-part c = omega (arith, c .before .cut .ensures .0)
+sub-write-part c = omega (arith, c .cut .ensures .0)
 
 part-write-part-start : tie.Need-part-write-part-start Inv-loop μ-loop
-part-write-part-start c = omega (arith, c .before .cut .ensures .0)
+part-write-part-start c = omega (arith, c .cut .ensures .0)
 
 part-write-part-end : tie.Need-part-write-part-end Inv-loop μ-loop
-part-write-part-end c = c .before .cut .ensures .1
+part-write-part-end c = c .cut .ensures .1
 
 sub-write-part-2 : tie.Need-sub-write-part-2 Inv-loop μ-loop
 sub-write-part-2 c = search needs
@@ -48,20 +47,19 @@ part-write-part-end-2 : tie.Need-part-write-part-end-2 Inv-loop μ-loop
 part-write-part-end-2 c = search needs
 
 write-part-requires : tie.Need-write-part-requires Inv-loop μ-loop
-unfolding escapeFlags
 write-part-requires c κs =
-    let c₁ = c .before .before .before in
+    let c₁ = c .before .before in
     let c₂ = c₁ .before .before .before .before .before in
     let a = c₂ .args in
     let t = a .text .now in
     let l = c₁ .before .before .loop in
     let e = c₁ .cut .ensures in
     let x = next-part (a .language) (a .quotes) t (l .i) (c₁ .cut .result) (search needs) (e .1) (e .3) in
-    (omega (arith, part-length t (l .i) (c₁ .cut .result) (search needs) (e .1), e .2), refl, filled-room (l .inv .1) x)
+    (omega (arith, part-length t (l .i) (c₁ .cut .result) (search needs) (e .1), e .2), filled-room (l .inv .1) x)
 
 add-at : tie.Need-add-at Inv-loop μ-loop
 add-at c =
-    let c₁ = c .before .before .before .before .before .before in
+    let c₁ = c .before .before .before .before .before in
     let c₂ = c₁ .before .before .before .before .before in
     let a = c₂ .args in
     let t = a .text .now in
@@ -72,12 +70,12 @@ add-at c =
 
 loop-less : tie.Need-loop-less Inv-loop μ-loop
 loop-less c =
-    let c₁ = c .before .before .before .before .before .before in
+    let c₁ = c .before .before .before .before .before in
     omega (arith, c₁ .cut .ensures .0, c₁ .cut .ensures .1)
 
 loop-again : tie.Need-loop-again Inv-loop μ-loop
 loop-again c =
-    let c₁ = c .before .before .before .before .before .before in
+    let c₁ = c .before .before .before .before .before in
     let c₂ = c₁ .before .before .before .before .before in
     let a = c₂ .args in
     let t = a .text .now in
@@ -85,7 +83,7 @@ loop-again c =
     let e = c₁ .cut .ensures in
     let x = next-part (a .language) (a .quotes) t (l .i) (c₁ .cut .result) (search needs) (e .1) (e .3) in
     let p = c .before .before .write-part in
-    (e .1, filled-put (l .inv .1) x (p .last .1 .1 .1 .1 .0) (p .result) (p .ensures .0) (p .ensures .1))
+    (e .1, filled-put (l .inv .1) x (p .last .1 .1 .1 .0) (p .result) (p .ensures .0) (p .ensures .1))
 
 same-length : tie.Need-same-length Inv-loop μ-loop
 same-length c = search needs

@@ -1,140 +1,113 @@
--- `escape` meets its contract: a byte that begins no key is kept, E2 is settled by the two bytes after it, and any other byte by its kind.
+-- `encode_strings::escapes::escape` meets its contract: at every byte but E2 the tests say what the rule says, and at E2 `separator` decides.
 -- Assumes nothing.
-use mathlib.Core.Bool.{true}
-use mathlib.Core.Path.{_≡_, sym, _∙_}
-use Prim.Native.Nat.{_≤_}
+use mathlib.Core.Path.{_≡_}
 use native.Mathlib.Omega.{arith}
-use borrow.Author.Tests.{ne-eqb, not-true, not-false}
 use borrow.Author.Needs.{needs}
-use lib.ListN.{length, getD}
-use Rattle.rules.specs.declared.Replacement.the-variants.{Slashed, Hex, Separator}
-use Rattle.rules.specs.declared.Replaced.the-variants.{By, Nothing}
-use Rattle.encode_strings.specs.Strings.{endsOf, nulBy}
-use Rattle.encode_strings.proofs.Finds.{nul-held, found-none, found-kind, found-lead, ended-short, ended-long, ends-are}
+use lib.ListN.{getD}
+use Rattle.rules.specs.declared.Replacement.the-variants.{Slashed, Hex}
+use Rattle.rules.specs.declared.Replaced.the-variants.{By}
+use Rattle.encode_strings.specs.Strings.{singleKey, doubleKey, hexBy}
+use Rattle.encode_strings.proofs.Finds.{found-ruled, found-plain, found-quote, ruled-control, ruled-double, ruled-single, ruled-less, ruled-slash, letter-bounds, hex-held}
 use Rattle.encode_strings.proofs.escapes.escape.Statement.{statement}
 use Rattle.encode_strings.proofs.escapes.escape.Tie as tie
 
 shared-slice-read-b : tie.Need-shared-slice-read-b
 shared-slice-read-b c = search needs
 
-needs-escape-requires : tie.Need-needs-escape-requires
-needs-escape-requires c κs = search needs
+is-within-requires : tie.Need-is-within-requires
+is-within-requires c κs = search needs
 
 returns : tie.Need-returns
 returns c =
-    let a = c .before .before .before .before .args in
-    let pre = c .before .before .before .before .pre in
-    (found-none (a .language) (a .quotes) (a .rest .now) (pre .0) (sym (c .before .needs-escape .ensures) ∙ not-true _ (c .if1 .taken)), search needs)
+    let c₀ = c .before .before .before .before in
+    let a = c₀ .args in
+    let (l, u) = letter-bounds (getD (a .rest .now) 0 0) (rw (c .before .is-within .ensures) at (c .if1 .taken)) in
+    (found-plain (a .language) (a .quotes) (a .rest .now) (c₀ .pre) (omega arith) (λ e. omega arith) (λ e. omega arith) (λ e. omega arith) (λ e. omega arith) (λ e. omega arith), c₀ .pre)
 
-nul-by-requires : tie.Need-nul-by-requires
-nul-by-requires c κs = search needs
+hex-by-requires : tie.Need-hex-by-requires
+hex-by-requires c κs = search needs
 
 returns-2 : tie.Need-returns-2
 returns-2 c =
-    let a′ = c .before .before .before .before .before .before .args in
-    let pre = c .before .before .before .before .before .before .pre in
-    let needs-escape = c .before .before .before .needs-escape in
-    let a = a′ in
-    let s = a .rest .now in
-    (found-lead (a .language) (a .quotes) s Nothing (pre .0) (c .before .match .keys5) (sym (needs-escape .ensures) ∙ not-false _ (c .before .before .if1 .left)) (rw (ended-short s (c .if2 .taken))), search needs)
-
-shared-slice-read-ends-separator : tie.Need-shared-slice-read-ends-separator
-shared-slice-read-ends-separator c = search needs
-
-shared-slice-read-ends-separator-2 : tie.Need-shared-slice-read-ends-separator-2
-shared-slice-read-ends-separator-2 c = search needs
-
-ends-separator-requires : tie.Need-ends-separator-requires
-ends-separator-requires c κs = search needs
+    let c₀ = c .before .before .before .before .before .before .before in
+    let a = c₀ .args in
+    let b = getD (a .rest .now) 0 0 in
+    let h = c .before .if3 .taken in
+    rw (c .hex-by .ensures) (found-ruled (a .language) (a .quotes) (a .rest .now) (By (hexBy (a .language) b)) (c₀ .pre) (λ e. omega arith) (ruled-control (a .language) (a .quotes) b (omega arith)), hex-held (a .language) b (a .rest .now) (c₀ .pre))
 
 returns-3 : tie.Need-returns-3
 returns-3 c =
-    let a′ = c .before .before .before .before .before .before .before .before .before .before .args in
-    let if2 = c .before .before .before .before .if2 in
-    let pre = c .before .before .before .before .before .before .before .before .before .before .pre in
-    let match = c .before .before .before .before .before .match in
-    let needs-escape = c .before .before .before .before .before .before .before .needs-escape in
-    let if1 = c .before .before .before .before .before .before .if1 in
-    let a = a′ in
-    let s = a .rest .now in
-    let l : 3 ≤ length s = if2 .left in
-    let e : endsOf (getD s 1 0) (getD s 2 0) ≡ true = sym (c .before .ends-separator .ensures) ∙ c .if3 .taken in
-    (found-lead (a .language) (a .quotes) s (By Separator) (pre .0) (match .keys5) (sym (needs-escape .ensures) ∙ not-false _ (if1 .left)) (rw (ended-long s l, e)), (l, ends-are (getD s 1 0) (getD s 2 0) e .1, ends-are (getD s 1 0) (getD s 2 0) e .2))
+    let c₀ = c .before .before .before .before .before .before in
+    let a = c₀ .args in
+    let u = c .before .if2 .taken in
+    (found-plain (a .language) (a .quotes) (a .rest .now) (c₀ .pre) (c .if3 .left) (λ e. omega arith) (λ e. omega arith) (λ e. omega arith) (λ e. omega arith) (λ e. omega arith), c₀ .pre)
+
+double-key-requires : tie.Need-double-key-requires
+double-key-requires c κs = search needs
+
+quoted-requires : tie.Need-quoted-requires
+quoted-requires c κs = search needs
+
+single-key-requires : tie.Need-single-key-requires
+single-key-requires c κs = search needs
+
+quoted-requires-2 : tie.Need-quoted-requires-2
+quoted-requires-2 c κs = search needs
+
+separator-requires : tie.Need-separator-requires
+separator-requires c κs = search needs
 
 returns-4 : tie.Need-returns-4
 returns-4 c =
-    let a′ = c .before .before .before .before .before .args in
-    let pre = c .before .before .before .before .before .pre in
-    let a = a′ in
-    let s = a .rest .now in
-    let k : getD s 0 0 ≡ 34 = c .match .keys1 in
-    (found-kind (a .language) (a .quotes) s Slashed (pre .0) (sym (c .before .before .needs-escape .ensures) ∙ not-false _ (c .before .if1 .left)) (λ e. omega arith) (rw k), search needs)
+    let c₀ = c .before .before .before .before .before .before .before .before in
+    let a = c₀ .args in
+    found-quote (a .language) (a .quotes) (a .rest .now) (c .quoted .result) 0x22 (doubleKey (a .quotes)) (c₀ .pre) (c .before .before .match .keys1) (λ e. omega arith) (rw (← c .before .double-key .ensures) (c .quoted .ensures)) (ruled-double (a .language) (a .quotes))
 
 returns-5 : tie.Need-returns-5
 returns-5 c =
-    let a′ = c .before .before .before .before .before .args in
-    let pre = c .before .before .before .before .before .pre in
-    let a = a′ in
-    let s = a .rest .now in
-    let k : getD s 0 0 ≡ 39 = c .match .keys2 in
-    (found-kind (a .language) (a .quotes) s Slashed (pre .0) (sym (c .before .before .needs-escape .ensures) ∙ not-false _ (c .before .if1 .left)) (λ e. omega arith) (rw k), search needs)
+    let c₀ = c .before .before .before .before .before .before .before .before in
+    let a = c₀ .args in
+    found-quote (a .language) (a .quotes) (a .rest .now) (c .quoted2 .result) 0x27 (singleKey (a .quotes)) (c₀ .pre) (c .before .before .match .keys2) (λ e. omega arith) (rw (← c .before .single-key .ensures) (c .quoted2 .ensures)) (ruled-single (a .language) (a .quotes))
 
 returns-6 : tie.Need-returns-6
 returns-6 c =
-    let a′ = c .before .before .before .before .before .args in
-    let pre = c .before .before .before .before .before .pre in
-    let a = a′ in
-    let s = a .rest .now in
-    let k : getD s 0 0 ≡ 92 = c .match .keys3 in
-    (found-kind (a .language) (a .quotes) s Slashed (pre .0) (sym (c .before .before .needs-escape .ensures) ∙ not-false _ (c .before .if1 .left)) (λ e. omega arith) (rw k), search needs)
+    let c₀ = c .before .before .before .before .before .before in
+    let a = c₀ .args in
+    let k : getD (a .rest .now) 0 0 ≡ 0x3C = c .match .keys3 in
+    (found-ruled (a .language) (a .quotes) (a .rest .now) (By Hex) (c₀ .pre) (λ e. omega arith) (rw k (ruled-less (a .language) (a .quotes))), c₀ .pre)
 
 returns-7 : tie.Need-returns-7
 returns-7 c =
-    let a′ = c .before .before .before .before .before .before .args in
-    let pre = c .before .before .before .before .before .before .pre in
-    let needs-escape = c .before .before .before .needs-escape in
-    let a = a′ in
-    let s = a .rest .now in
-    let k : getD s 0 0 ≡ 0 = c .before .match .keys4 in
-    rw (c .nul-by .ensures) (found-kind (a .language) (a .quotes) s (nulBy (a .language)) (pre .0) (sym (needs-escape .ensures) ∙ not-false _ (c .before .before .if1 .left)) (λ e. omega arith) (rw k), nul-held (a .language) s (pre .0))
+    let c₀ = c .before .before .before .before .before .before in
+    let a = c₀ .args in
+    let k : getD (a .rest .now) 0 0 ≡ 0x5C = c .match .keys4 in
+    (found-ruled (a .language) (a .quotes) (a .rest .now) (By Slashed) (c₀ .pre) (λ e. omega arith) (rw k (ruled-slash (a .language) (a .quotes))), c₀ .pre)
 
 returns-8 : tie.Need-returns-8
-returns-8 c =
-    let a′ = c .before .before .before .before .before .before .before .before .before .before .args in
-    let if2 = c .before .before .before .before .if2 in
-    let pre = c .before .before .before .before .before .before .before .before .before .before .pre in
-    let match = c .before .before .before .before .before .match in
-    let needs-escape = c .before .before .before .before .before .before .before .needs-escape in
-    let if1 = c .before .before .before .before .before .before .if1 in
-    let a = a′ in
-    let s = a .rest .now in
-    let l : 3 ≤ length s = if2 .left in
-    (found-lead (a .language) (a .quotes) s Nothing (pre .0) (match .keys5) (sym (needs-escape .ensures) ∙ not-false _ (if1 .left)) (rw (ended-long s l, ← c .before .ends-separator .ensures, c .if3 .left)), search needs)
+returns-8 c = (c .separator .ensures .0 _, c .separator .ensures .1)
 
 returns-9 : tie.Need-returns-9
 returns-9 c =
-    let a′ = c .before .before .before .before .before .args in
-    let pre = c .before .before .before .before .before .pre in
-    let a = a′ in
-    let r = c .match .rest in (
-      found-kind (a .language) (a .quotes) (a .rest .now) Hex (pre .0) (sym (c .before .before .needs-escape .ensures) ∙ not-false _ (c .before .if1 .left)) (r .1)
-          (rw (ne-eqb _ 34 (r .0 .0 .0 .0 .1), ne-eqb _ 39 (r .0 .0 .0 .1), ne-eqb _ 92 (r .0 .0 .1), ne-eqb _ 0 (r .0 .1))),
-      search needs,
-    )
+    let c₀ = c .before .before .before .before .before .before in
+    let a = c₀ .args in
+    let r = c .match .rest in
+    (found-plain (a .language) (a .quotes) (a .rest .now) (c₀ .pre) (omega (arith, c .before .if2 .left)) (r .0 .0 .0 .0 .1) (r .0 .0 .0 .1) (r .0 .0 .1) (r .0 .1) (r .1), c₀ .pre)
 
 pub escape-spec : {M : Type 1} → statement M
 escape-spec =
     tie.close
     (tie.spec
     shared-slice-read-b
-    needs-escape-requires
+    is-within-requires
     returns
-    nul-by-requires
+    hex-by-requires
     returns-2
-    shared-slice-read-ends-separator
-    shared-slice-read-ends-separator-2
-    ends-separator-requires
     returns-3
+    double-key-requires
+    quoted-requires
+    single-key-requires
+    quoted-requires-2
+    separator-requires
     returns-4
     returns-5
     returns-6

@@ -19,11 +19,11 @@ use Rattle.encode_strings.proofs.escapes.write_bytes.Statement.{stateme
 use Rattle.encode_strings.proofs.escapes.write_bytes.Tie as tie
 
 abbrev Inv-loop : tie.InvT-loop
-Inv-loop language quotes flags text output₀ at₀ i₀ output at i =
+Inv-loop language quotes text output₀ at₀ i₀ output at i =
     (i ≤ length text) × Filled (encodeOf (stringOf language quotes) text) (encodeOf (stringOf language quotes) (drop i text)) output₀ output at
 
 abbrev μ-loop : tie.MeasureT-loop
-μ-loop language quotes flags text output₀ at₀ i₀ output at i = length text - i
+μ-loop language quotes text output₀ at₀ i₀ output at i = length text - i
 
 -- What is found at a place.
 kind : (c : tie.After-found Inv-loop μ-loop)
@@ -61,7 +61,7 @@ byte c =
     next-byte (a .language) (a .quotes) (a .text .now) (l .i) (loop-test .taken) (f .0)
 
 loop-holds : tie.Need-loop-holds Inv-loop μ-loop
-loop-holds c = (search needs, filled-start _ _ (c .before .before .pre .1))
+loop-holds c = (search needs, filled-start _ _ (c .before .before .pre))
 
 sub-escape : tie.Need-sub-escape Inv-loop μ-loop
 sub-escape c = search needs
@@ -73,7 +73,7 @@ part-escape-end : tie.Need-part-escape-end Inv-loop μ-loop
 part-escape-end c = search needs
 
 escape-requires : tie.Need-escape-requires Inv-loop μ-loop
-escape-requires c κs = (rw (lent-rest, length-drop) (search needs), c .before .before .before .before .before .pre .0)
+escape-requires c κs = rw (lent-rest, length-drop) (search needs)
 
 enum-known-found : tie.Need-enum-known-found Inv-loop μ-loop
 enum-known-found c = search needs
@@ -81,8 +81,8 @@ enum-known-found c = search needs
 enum-told : tie.Need-enum-told Inv-loop μ-loop
 enum-told c = search needs
 
-shared-slice-read-t18 : tie.Need-shared-slice-read-t18 Inv-loop μ-loop
-shared-slice-read-t18 c = search needs
+shared-slice-read-t17 : tie.Need-shared-slice-read-t17 Inv-loop μ-loop
+shared-slice-read-t17 c = search needs
 
 slice-aggregate-put : tie.Need-slice-aggregate-put Inv-loop μ-loop
 slice-aggregate-put c = search needs
@@ -179,7 +179,7 @@ write-bytes-spec =
     escape-requires
     enum-known-found
     enum-told
-    shared-slice-read-t18
+    shared-slice-read-t17
     slice-aggregate-put
     sub-put
     part-put-start

@@ -31,7 +31,7 @@ returns c =
     let enum-told = c .before .before .before .before .enum-told in
     let e = rw (single-key .ensures, double-key .ensures) at (weigh .ensures .0) in
     let z = lead-free (a .part .now) (sym (weigh .ensures .1) ∙ c .if1 .taken) in
-    let g = gained-script (a .language) (a .quotes) (a .part .now) (weigh .result .growth) e (enum-told .given .1) 0 (sym z) in
+    let g = gained-script (a .language) (a .quotes) (a .part .now) (weigh .result .weight) e (enum-told .given .1) 0 (sym z) in
     omega arith
 
 separators-requires : tie.Need-separators-requires
@@ -56,7 +56,7 @@ sub-result c =
     let weigh2 = c .before .weigh2 in
     let a = c .before .before .before .before .before .before .before .args in
     let e = rw (single-key .ensures, double-key .ensures) at (weigh2 .ensures .0) in
-    let g = gained-style (a .language) (a .quotes) (a .part .now) (weigh2 .result .growth) e (c .before .before .enum-told2 .given .1) (weigh2 .result .odd) (weigh2 .ensures .1) in
+    let g = gained-style (a .language) (a .quotes) (a .part .now) (weigh2 .result .weight) e (c .before .before .enum-told2 .given .1) (weigh2 .result .odd) (weigh2 .ensures .1) in
     g .0
 
 cast-result : tie.Need-cast-result
@@ -70,7 +70,7 @@ returns-2 c =
     let a = c .before .before .before .before .before .before .before .before .before .before .args in
     let enum-told = c .before .before .before .before .before .enum-told in
     let e = rw (single-key .ensures, double-key .ensures) at (weigh .ensures .0) in
-    gained-script (a .language) (a .quotes) (a .part .now) (weigh .result .growth) e (enum-told .given .1) (c .separators .result) (c .separators .ensures .0)
+    gained-script (a .language) (a .quotes) (a .part .now) (weigh .result .weight) e (enum-told .given .1) (c .separators .result) (c .separators .ensures .0)
 
 returns-3 : tie.Need-returns-3
 returns-3 c =
@@ -79,7 +79,7 @@ returns-3 c =
     let weigh2 = c .before .weigh2 in
     let a = c .before .before .before .before .before .before .before .args in
     let e = rw (single-key .ensures, double-key .ensures) at (weigh2 .ensures .0) in
-    let g = gained-style (a .language) (a .quotes) (a .part .now) (weigh2 .result .growth) e (c .before .before .enum-told2 .given .1) (weigh2 .result .odd) (weigh2 .ensures .1) in
+    let g = gained-style (a .language) (a .quotes) (a .part .now) (weigh2 .result .weight) e (c .before .before .enum-told2 .given .1) (weigh2 .result .odd) (weigh2 .ensures .1) in
     g .1
 
 pub gained-spec : {M : Type 1} → statement M

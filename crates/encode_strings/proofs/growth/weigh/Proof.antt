@@ -6,21 +6,21 @@ use Prim.Native.Nat.{_+_, _-_, _*_, _≤_}
 use native.Mathlib.Omega.{arith}
 use borrow.Author.Needs.{needs}
 use lib.ListN.{length, drop}
-use Rattle.encode_strings.specs.Strings.{gainOf, sameOf, total}
+use Rattle.encode_strings.specs.Strings.{weightOf, sameOf, total}
 use Rattle.encode_strings.proofs.Sums.{total-more, total-none}
 use Rattle.encode_strings.proofs.growth.weigh.Statement.{statement}
 use Rattle.encode_strings.proofs.growth.weigh.Tie as tie
 
 abbrev Inv-loop : tie.InvT-loop
-Inv-loop single double odd part growth₀ n₀ i₀ growth n i =
+Inv-loop hexed single double odd part weight₀ n₀ i₀ weight n i =
     (i ≤ length part)
-    × (growth + total (gainOf single double) (drop i part) ≡ total (gainOf single double) part)
+    × (weight + total (weightOf hexed single double) (drop i part) ≡ total (weightOf hexed single double) part)
     × (n + total (sameOf odd) (drop i part) ≡ total (sameOf odd) part)
-    × (growth ≤ 3 * i)
+    × (weight ≤ 3 * i)
     × (n ≤ i)
 
 abbrev μ-loop : tie.MeasureT-loop
-μ-loop single double odd part growth₀ n₀ i₀ growth n i = length part - i
+μ-loop hexed single double odd part weight₀ n₀ i₀ weight n i = length part - i
 
 loop-holds : tie.Need-loop-holds Inv-loop μ-loop
 loop-holds c = (search needs, omega arith, omega arith, search needs, search needs)
@@ -28,11 +28,11 @@ loop-holds c = (search needs, omega arith, omega arith, search needs, search nee
 shared-slice-read-b : tie.Need-shared-slice-read-b Inv-loop μ-loop
 shared-slice-read-b c = search needs
 
-gain-requires : tie.Need-gain-requires Inv-loop μ-loop
-gain-requires c κs = search needs
+weight-of-requires : tie.Need-weight-of-requires Inv-loop μ-loop
+weight-of-requires c κs = search needs
 
-add-growth : tie.Need-add-growth Inv-loop μ-loop
-add-growth c = omega (arith, c .gain .ensures .1)
+add-weight : tie.Need-add-weight Inv-loop μ-loop
+add-weight c = omega (arith, c .weight-of .ensures .1)
 
 when-requires : tie.Need-when-requires Inv-loop μ-loop
 when-requires c κs = search needs
@@ -56,9 +56,9 @@ loop-again c =
     let s = a .part .now in
     let h = c₁ .loop-test .taken in (
       search needs,
-      omega (arith, total-more (gainOf (a .single) (a .double)) s (l .i) h, c .before .gain .ensures .0),
+      omega (arith, total-more (weightOf (a .hexed) (a .single) (a .double)) s (l .i) h, c .before .weight-of .ensures .0),
       omega (arith, total-more (sameOf (a .odd)) s (l .i) h, c .when .ensures .0),
-      omega (arith, c .before .gain .ensures .1),
+      omega (arith, c .before .weight-of .ensures .1),
       omega (arith, c .when .ensures .1),
     )
 
@@ -68,7 +68,7 @@ returns c =
     let l = c .before .loop in
     let s = a .part .now in
     let h = c .loop-test .left in (
-      omega (arith, total-none (gainOf (a .single) (a .double)) s (l .i) h),
+      omega (arith, total-none (weightOf (a .hexed) (a .single) (a .double)) s (l .i) h),
       omega (arith, total-none (sameOf (a .odd)) s (l .i) h),
       search needs,
     )
@@ -81,8 +81,8 @@ weigh-spec =
     μ-loop
     loop-holds
     shared-slice-read-b
-    gain-requires
-    add-growth
+    weight-of-requires
+    add-weight
     when-requires
     add-n
     add-i
