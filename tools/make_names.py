@@ -12,9 +12,10 @@ from pathlib import Path
 ROOT = Path(__file__).resolve().parent.parent
 ENTRIES = ROOT / "crates/rules/specs/Names.antt"
 
-# The groups of each crate, by their first and last letters: few enough for the check, and small enough to be laid out anew at each look-up.
+# The groups of each crate, by their first and last letters: few enough for the check, and small enough to be laid out anew at each look-up, of which the
+# largest is the deepest stack of the library.
 CRATES = {
-    "names_upper": ["AF", "GM", "NR", "SZ"],
+    "names_upper": ["AC", "DF", "GM", "NN", "OR", "SZ"],
     "names_lower": ["aa", "bb", "cd", "eg", "hk", "ll", "mm", "nn", "oq", "rr", "ss", "tw", "xz"],
 }
 

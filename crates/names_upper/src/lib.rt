@@ -8,22 +8,14 @@ ghost use Rattle.rules.specs.Answers.{meaningBytes};
 ghost use Rattle.names_search.specs.Starting.{starting};
 use rules::Meaning;
 
-const A_TO_F_NAMES: [u8; 1307] = *b"\
+const A_TO_C_NAMES: [u8; 460] = *b"\
     AEligAMPAacuteAbreveAcircAcyAfrAgraveAlphaAmacrAndAogonAopfApplyFunctionAringAscrAssignAtildeAumlBackslashBarv\
     BarwedBcyBecauseBernoullisBetaBfrBopfBreveBscrBumpeqCHcyCOPYCacuteCapCapitalDifferentialDCayleysCcaronCcedil\
     CcircCconintCdotCedillaCenterDotCfrChiCircleDotCircleMinusCirclePlusCircleTimesClockwiseContourIntegral\
     CloseCurlyDoubleQuoteCloseCurlyQuoteColonColoneCongruentConintContourIntegralCopfCoproduct\
-    CounterClockwiseContourIntegralCrossCscrCupCupCapDDDDotrahdDJcyDScyDZcyDaggerDarrDashvDcaronDcyDelDeltaDfr\
-    DiacriticalAcuteDiacriticalDotDiacriticalDoubleAcuteDiacriticalGraveDiacriticalTildeDiamondDifferentialDDopf\
-    DotDotDotDotEqualDoubleContourIntegralDoubleDotDoubleDownArrowDoubleLeftArrowDoubleLeftRightArrowDoubleLeftTee\
-    DoubleLongLeftArrowDoubleLongLeftRightArrowDoubleLongRightArrowDoubleRightArrowDoubleRightTeeDoubleUpArrow\
-    DoubleUpDownArrowDoubleVerticalBarDownArrowDownArrowBarDownArrowUpArrowDownBreveDownLeftRightVector\
-    DownLeftTeeVectorDownLeftVectorDownLeftVectorBarDownRightTeeVectorDownRightVectorDownRightVectorBarDownTee\
-    DownTeeArrowDownarrowDscrDstrokENGETHEacuteEcaronEcircEcyEdotEfrEgraveElementEmacrEmptySmallSquare\
-    EmptyVerySmallSquareEogonEopfEpsilonEqualEqualTildeEquilibriumEscrEsimEtaEumlExistsExponentialEFcyFfr\
-    FilledSmallSquareFilledVerySmallSquareFopfForAllFouriertrfFscr";
+    CounterClockwiseContourIntegralCrossCscrCupCupCap";
 
-const A_TO_F_OFFSETS: [u16; 153] = [
+const A_TO_C_OFFSETS: [u16; 66] = [
     0,
     5,
     8,
@@ -90,96 +82,9 @@ const A_TO_F_OFFSETS: [u16; 153] = [
     451,
     454,
     460,
-    462,
-    470,
-    474,
-    478,
-    482,
-    488,
-    492,
-    497,
-    503,
-    506,
-    509,
-    514,
-    517,
-    533,
-    547,
-    569,
-    585,
-    601,
-    608,
-    621,
-    625,
-    628,
-    634,
-    642,
-    663,
-    672,
-    687,
-    702,
-    722,
-    735,
-    754,
-    778,
-    798,
-    814,
-    828,
-    841,
-    858,
-    875,
-    884,
-    896,
-    912,
-    921,
-    940,
-    957,
-    971,
-    988,
-    1006,
-    1021,
-    1039,
-    1046,
-    1058,
-    1067,
-    1071,
-    1077,
-    1080,
-    1083,
-    1089,
-    1095,
-    1100,
-    1103,
-    1107,
-    1110,
-    1116,
-    1123,
-    1128,
-    1144,
-    1164,
-    1169,
-    1173,
-    1180,
-    1185,
-    1195,
-    1206,
-    1210,
-    1214,
-    1217,
-    1221,
-    1227,
-    1239,
-    1242,
-    1245,
-    1262,
-    1283,
-    1287,
-    1293,
-    1303,
-    1307,
 ];
 
-const A_TO_F_VALUES: [u64; 152] = [
+const A_TO_C_VALUES: [u64; 65] = [
     0x86C3, // AElig
     0x26, // AMP
     0x81C3, // Aacute
@@ -245,6 +150,118 @@ const A_TO_F_VALUES: [u64; 152] = [
     0x9E929DF0, // Cscr
     0x938BE2, // Cup
     0x8D89E2, // CupCap
+];
+
+// What `name` stands for among the names that begin with `A` to `C`.
+pub fn in_a_to_c(name: &[u8]) -> Meaning
+    ensures { λ r. ⌜ meaningBytes r ≡ lookup (starting (0x41, 0x43) names) (now (name .entry)) ⌝ }
+{
+    names_search::find(name, &A_TO_C_NAMES, &A_TO_C_OFFSETS, &A_TO_C_VALUES)
+}
+
+const D_TO_F_NAMES: [u8; 847] = *b"\
+    DDDDotrahdDJcyDScyDZcyDaggerDarrDashvDcaronDcyDelDeltaDfrDiacriticalAcuteDiacriticalDotDiacriticalDoubleAcute\
+    DiacriticalGraveDiacriticalTildeDiamondDifferentialDDopfDotDotDotDotEqualDoubleContourIntegralDoubleDot\
+    DoubleDownArrowDoubleLeftArrowDoubleLeftRightArrowDoubleLeftTeeDoubleLongLeftArrowDoubleLongLeftRightArrow\
+    DoubleLongRightArrowDoubleRightArrowDoubleRightTeeDoubleUpArrowDoubleUpDownArrowDoubleVerticalBarDownArrow\
+    DownArrowBarDownArrowUpArrowDownBreveDownLeftRightVectorDownLeftTeeVectorDownLeftVectorDownLeftVectorBar\
+    DownRightTeeVectorDownRightVectorDownRightVectorBarDownTeeDownTeeArrowDownarrowDscrDstrokENGETHEacuteEcaron\
+    EcircEcyEdotEfrEgraveElementEmacrEmptySmallSquareEmptyVerySmallSquareEogonEopfEpsilonEqualEqualTilde\
+    EquilibriumEscrEsimEtaEumlExistsExponentialEFcyFfrFilledSmallSquareFilledVerySmallSquareFopfForAllFouriertrf\
+    Fscr";
+
+const D_TO_F_OFFSETS: [u16; 88] = [
+    0,
+    2,
+    10,
+    14,
+    18,
+    22,
+    28,
+    32,
+    37,
+    43,
+    46,
+    49,
+    54,
+    57,
+    73,
+    87,
+    109,
+    125,
+    141,
+    148,
+    161,
+    165,
+    168,
+    174,
+    182,
+    203,
+    212,
+    227,
+    242,
+    262,
+    275,
+    294,
+    318,
+    338,
+    354,
+    368,
+    381,
+    398,
+    415,
+    424,
+    436,
+    452,
+    461,
+    480,
+    497,
+    511,
+    528,
+    546,
+    561,
+    579,
+    586,
+    598,
+    607,
+    611,
+    617,
+    620,
+    623,
+    629,
+    635,
+    640,
+    643,
+    647,
+    650,
+    656,
+    663,
+    668,
+    684,
+    704,
+    709,
+    713,
+    720,
+    725,
+    735,
+    746,
+    750,
+    754,
+    757,
+    761,
+    767,
+    779,
+    782,
+    785,
+    802,
+    823,
+    827,
+    833,
+    843,
+    847,
+];
+
+const D_TO_F_VALUES: [u64; 87] = [
     0x8585E2, // DD
     0x91A4E2, // DDotrahd
     0x82D0, // DJcy
@@ -334,11 +351,11 @@ const A_TO_F_VALUES: [u64; 152] = [
     0xB184E2, // Fscr
 ];
 
-// What `name` stands for among the names that begin with `A` to `F`.
-pub fn in_a_to_f(name: &[u8]) -> Meaning
-    ensures { λ r. ⌜ meaningBytes r ≡ lookup (starting (0x41, 0x46) names) (now (name .entry)) ⌝ }
+// What `name` stands for among the names that begin with `D` to `F`.
+pub fn in_d_to_f(name: &[u8]) -> Meaning
+    ensures { λ r. ⌜ meaningBytes r ≡ lookup (starting (0x44, 0x46) names) (now (name .entry)) ⌝ }
 {
-    names_search::find(name, &A_TO_F_NAMES, &A_TO_F_OFFSETS, &A_TO_F_VALUES)
+    names_search::find(name, &D_TO_F_NAMES, &D_TO_F_OFFSETS, &D_TO_F_VALUES)
 }
 
 const G_TO_M_NAMES: [u8; 1126] = *b"\
@@ -650,7 +667,7 @@ pub fn in_g_to_m(name: &[u8]) -> Meaning
     names_search::find(name, &G_TO_M_NAMES, &G_TO_M_OFFSETS, &G_TO_M_VALUES)
 }
 
-const N_TO_R_NAMES: [u8; 1735] = *b"\
+const N_NAMES: [u8; 944] = *b"\
     NJcyNacuteNcaronNcedilNcyNegativeMediumSpaceNegativeThickSpaceNegativeThinSpaceNegativeVeryThinSpace\
     NestedGreaterGreaterNestedLessLessNewLineNfrNoBreakNonBreakingSpaceNopfNotNotCongruentNotCupCap\
     NotDoubleVerticalBarNotElementNotEqualNotEqualTildeNotExistsNotGreaterNotGreaterEqualNotGreaterFullEqual\
@@ -660,16 +677,9 @@ const N_TO_R_NAMES: [u8; 1735] = *b"\
     NotReverseElementNotRightTriangleNotRightTriangleBarNotRightTriangleEqualNotSquareSubsetNotSquareSubsetEqual\
     NotSquareSupersetNotSquareSupersetEqualNotSubsetNotSubsetEqualNotSucceedsNotSucceedsEqualNotSucceedsSlantEqual\
     NotSucceedsTildeNotSupersetNotSupersetEqualNotTildeNotTildeEqualNotTildeFullEqualNotTildeTildeNotVerticalBar\
-    NscrNtildeNuOEligOacuteOcircOcyOdblacOfrOgraveOmacrOmegaOmicronOopfOpenCurlyDoubleQuoteOpenCurlyQuoteOrOscr\
-    OslashOtildeOtimesOumlOverBarOverBraceOverBracketOverParenthesisPartialDPcyPfrPhiPiPlusMinusPoincareplanePopf\
-    PrPrecedesPrecedesEqualPrecedesSlantEqualPrecedesTildePrimeProductProportionProportionalPscrPsiQUOTQfrQopfQscr\
-    RBarrREGRacuteRangRarrRarrtlRcaronRcedilRcyReReverseElementReverseEquilibriumReverseUpEquilibriumRfrRho\
-    RightAngleBracketRightArrowRightArrowBarRightArrowLeftArrowRightCeilingRightDoubleBracketRightDownTeeVector\
-    RightDownVectorRightDownVectorBarRightFloorRightTeeRightTeeArrowRightTeeVectorRightTriangleRightTriangleBar\
-    RightTriangleEqualRightUpDownVectorRightUpTeeVectorRightUpVectorRightUpVectorBarRightVectorRightVectorBar\
-    RightarrowRopfRoundImpliesRrightarrowRscrRshRuleDelayed";
+    NscrNtildeNu";
 
-const N_TO_R_OFFSETS: [u16; 162] = [
+const N_OFFSETS: [u16; 72] = [
     0,
     4,
     10,
@@ -742,99 +752,9 @@ const N_TO_R_OFFSETS: [u16; 162] = [
     936,
     942,
     944,
-    949,
-    955,
-    960,
-    963,
-    969,
-    972,
-    978,
-    983,
-    988,
-    995,
-    999,
-    1019,
-    1033,
-    1035,
-    1039,
-    1045,
-    1051,
-    1057,
-    1061,
-    1068,
-    1077,
-    1088,
-    1103,
-    1111,
-    1114,
-    1117,
-    1120,
-    1122,
-    1131,
-    1144,
-    1148,
-    1150,
-    1158,
-    1171,
-    1189,
-    1202,
-    1207,
-    1214,
-    1224,
-    1236,
-    1240,
-    1243,
-    1247,
-    1250,
-    1254,
-    1258,
-    1263,
-    1266,
-    1272,
-    1276,
-    1280,
-    1286,
-    1292,
-    1298,
-    1301,
-    1303,
-    1317,
-    1335,
-    1355,
-    1358,
-    1361,
-    1378,
-    1388,
-    1401,
-    1420,
-    1432,
-    1450,
-    1468,
-    1483,
-    1501,
-    1511,
-    1519,
-    1532,
-    1546,
-    1559,
-    1575,
-    1593,
-    1610,
-    1626,
-    1639,
-    1655,
-    1666,
-    1680,
-    1690,
-    1694,
-    1706,
-    1717,
-    1721,
-    1724,
-    1735,
 ];
 
-const N_TO_R_VALUES: [u64; 161] = [
+const N_VALUES: [u64; 71] = [
     0x8AD0, // NJcy
     0x83C5, // Nacute
     0x87C5, // Ncaron
@@ -906,6 +826,120 @@ const N_TO_R_VALUES: [u64; 161] = [
     0xA9929DF0, // Nscr
     0x91C3, // Ntilde
     0x9DCE, // Nu
+];
+
+// What `name` stands for among the names that begin with `N`.
+pub fn in_n(name: &[u8]) -> Meaning
+    ensures { λ r. ⌜ meaningBytes r ≡ lookup (starting (0x4E, 0x4E) names) (now (name .entry)) ⌝ }
+{
+    names_search::find(name, &N_NAMES, &N_OFFSETS, &N_VALUES)
+}
+
+const O_TO_R_NAMES: [u8; 791] = *b"\
+    OEligOacuteOcircOcyOdblacOfrOgraveOmacrOmegaOmicronOopfOpenCurlyDoubleQuoteOpenCurlyQuoteOrOscrOslashOtilde\
+    OtimesOumlOverBarOverBraceOverBracketOverParenthesisPartialDPcyPfrPhiPiPlusMinusPoincareplanePopfPrPrecedes\
+    PrecedesEqualPrecedesSlantEqualPrecedesTildePrimeProductProportionProportionalPscrPsiQUOTQfrQopfQscrRBarrREG\
+    RacuteRangRarrRarrtlRcaronRcedilRcyReReverseElementReverseEquilibriumReverseUpEquilibriumRfrRho\
+    RightAngleBracketRightArrowRightArrowBarRightArrowLeftArrowRightCeilingRightDoubleBracketRightDownTeeVector\
+    RightDownVectorRightDownVectorBarRightFloorRightTeeRightTeeArrowRightTeeVectorRightTriangleRightTriangleBar\
+    RightTriangleEqualRightUpDownVectorRightUpTeeVectorRightUpVectorRightUpVectorBarRightVectorRightVectorBar\
+    RightarrowRopfRoundImpliesRrightarrowRscrRshRuleDelayed";
+
+const O_TO_R_OFFSETS: [u16; 91] = [
+    0,
+    5,
+    11,
+    16,
+    19,
+    25,
+    28,
+    34,
+    39,
+    44,
+    51,
+    55,
+    75,
+    89,
+    91,
+    95,
+    101,
+    107,
+    113,
+    117,
+    124,
+    133,
+    144,
+    159,
+    167,
+    170,
+    173,
+    176,
+    178,
+    187,
+    200,
+    204,
+    206,
+    214,
+    227,
+    245,
+    258,
+    263,
+    270,
+    280,
+    292,
+    296,
+    299,
+    303,
+    306,
+    310,
+    314,
+    319,
+    322,
+    328,
+    332,
+    336,
+    342,
+    348,
+    354,
+    357,
+    359,
+    373,
+    391,
+    411,
+    414,
+    417,
+    434,
+    444,
+    457,
+    476,
+    488,
+    506,
+    524,
+    539,
+    557,
+    567,
+    575,
+    588,
+    602,
+    615,
+    631,
+    649,
+    666,
+    682,
+    695,
+    711,
+    722,
+    736,
+    746,
+    750,
+    762,
+    773,
+    777,
+    780,
+    791,
+];
+
+const O_TO_R_VALUES: [u64; 90] = [
     0x92C5, // OElig
     0x93C3, // Oacute
     0x94C3, // Ocirc
@@ -998,11 +1032,11 @@ const N_TO_R_VALUES: [u64; 161] = [
     0xB4A7E2, // RuleDelayed
 ];
 
-// What `name` stands for among the names that begin with `N` to `R`.
-pub fn in_n_to_r(name: &[u8]) -> Meaning
-    ensures { λ r. ⌜ meaningBytes r ≡ lookup (starting (0x4E, 0x52) names) (now (name .entry)) ⌝ }
+// What `name` stands for among the names that begin with `O` to `R`.
+pub fn in_o_to_r(name: &[u8]) -> Meaning
+    ensures { λ r. ⌜ meaningBytes r ≡ lookup (starting (0x4F, 0x52) names) (now (name .entry)) ⌝ }
 {
-    names_search::find(name, &N_TO_R_NAMES, &N_TO_R_OFFSETS, &N_TO_R_VALUES)
+    names_search::find(name, &O_TO_R_NAMES, &O_TO_R_OFFSETS, &O_TO_R_VALUES)
 }
 
 const S_TO_Z_NAMES: [u8; 1003] = *b"\

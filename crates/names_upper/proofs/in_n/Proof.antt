@@ -1,9 +1,9 @@
--- `names_upper::in_a_to_f` meets its contract: computed, its numbers are the rows of the table that begin so, and they rise.
+-- `names_upper::in_n` meets its contract: computed, its numbers are the rows of the table that begin so, and they rise.
 -- Made by tools/make_names.py. Assumes nothing.
 use mathlib.Core.Path.{refl}
 use Rattle.rules.specs.Names.{names}
-use Rattle.names_upper.proofs.in_a_to_f.Statement.{statement}
-use Rattle.names_upper.proofs.in_a_to_f.Tie as tie
+use Rattle.names_upper.proofs.in_n.Statement.{statement}
+use Rattle.names_upper.proofs.in_n.Tie as tie
 
 slice-aggregate-find : tie.Need-slice-aggregate-find
 slice-aggregate-find c = refl
@@ -21,5 +21,5 @@ returns : tie.Need-returns
 unfolding names
 returns c = c .find .ensures
 
-pub in-a-to-f-spec : {M : Type 1} → statement M
-in-a-to-f-spec = tie.close (tie.spec slice-aggregate-find slice-aggregate-find-2 slice-aggregate-find-3 find-requires returns)
+pub in-n-spec : {M : Type 1} → statement M
+in-n-spec = tie.close (tie.spec slice-aggregate-find slice-aggregate-find-2 slice-aggregate-find-3 find-requires returns)
