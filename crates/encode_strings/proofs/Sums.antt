@@ -5,7 +5,7 @@ use mathlib.Core.Path.{_≡_, refl, sym, ap, _∙_}
 use mathlib.Core.List.{List, [], _∷_, _++_}
 use Prim.Native.Nat.{ℕ, suc, _+_, _-_, _*_, _≤_, _<_}
 use native.Mathlib.Omega.{arith}
-use borrow.Author.Tests.{ne-eqb, le-ltb, ltb-true, ltb-false, eqb-true, eqb-false}
+use borrow.Author.Tests.{ne-eqb, ltb-true, ltb-false, eqb-true, eqb-false}
 use lib.Dec.{eqb, ltb}
 use lib.ListN.{length, drop, getD, length-append, drop-of-length-le}
 use Rattle.rules.specs.Moves.{keep, gives, result}
@@ -13,7 +13,6 @@ use Rattle.rules.specs.Encoding.{encodeStep}
 use Rattle.rules.specs.Operations.{encodeOf}
 use Rattle.rules.specs.Answers.{replacementMove}
 use Rattle.rules.specs.declared.Quotes.{Quotes}
-use Rattle.rules.specs.declared.Quotes.the-variants.{Single, Double, Both}
 use Rattle.rules.specs.declared.Context.{Context}
 use Rattle.rules.specs.declared.Context.the-variants.{InScript, InStyle}
 use Rattle.rules.specs.declared.Replacement.the-variants.{Separator}
@@ -21,7 +20,7 @@ use Rattle.rules.proofs.Blind.{Blind, blind-next}
 use Rattle.rules.proofs.Loops.{drop-next}
 use Rattle.rules.proofs.Growth.{encode-sum}
 use Rattle.encode_strings.specs.Strings.{singleKey, doubleKey, isSlashed, isHexed, weightOf, gainOf, sameOf, total, endsOf, ended, separatorsIn}
-use Rattle.encode_strings.proofs.Heads.{not-ascii, kept, no-start, lone}
+use Rattle.encode_strings.proofs.Heads.{kept, no-start, lone}
 use Rattle.encode_strings.proofs.Finds.{less, alone, Grows, ascii-grows, slashed-high, hexed-high, ends-are, lead-kept, lead-taken, lead-style, separator-sizes}
 use Rattle.rules.specs.Contexts.{stringOf}
 use Rattle.rules.specs.declared.Language.{Language}

@@ -1,7 +1,6 @@
 -- `encode_strings::write` meets its contract: the parts are written one after the other. The invariant is that of every writing loop, `Filled`; the measure
 -- is what is left of the text.
 -- Assumes nothing.
-use mathlib.Core.Path.{refl}
 use Prim.Native.Nat.{_-_, _≤_}
 use native.Mathlib.Omega.{arith}
 use borrow.Author.Needs.{needs}

@@ -1,6 +1,5 @@
 -- `encode_strings::growth::weight_of` meets its contract: by the two tests of the rule.
 -- Assumes nothing.
-use mathlib.Core.Path.{sym, _∙_}
 use borrow.Author.Needs.{needs}
 use Rattle.encode_strings.specs.Strings.{weightOf}
 use Rattle.encode_strings.proofs.growth.weight_of.Statement.{statement}
