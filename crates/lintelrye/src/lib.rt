@@ -4,14 +4,15 @@
 //   status  0, or the first refusal of the table below that applies;
 //   length  the length of the result (after NO_ROOM the length needed, after any other refusal 0);
 //   same    1 exactly if nothing was replaced, so that the result is the text;
-//   place   after NOT_UTF8 and NOT_A_FORM the length of the longest correct prefix of the text, else 0.
+//   place   after NOT_UTF8, CUT_SHORT and NOT_A_FORM the length of the longest correct prefix of the text, else 0.
 // After status 0 the first `length` bytes of the output are the result and the other bytes keep their values; after a refusal all keep them.
 // A borrowing call does not write, and needs no room, where nothing is replaced: `view` then returns the text itself.
 //
-// The refusals, in the order in which they are checked:
+// The refusals, in the order in which they are checked; at most one of NOT_UTF8 and CUT_SHORT applies:
 //   BAD_CONTEXT  the operation has no such context: encode has all fourteen, decode and read have 0 to 12, browse has 0 to 6;
 //   TOO_LONG     the text is longer than 65,536 bytes;
-//   NOT_UTF8     the text is not valid UTF-8; `place` is the length of its longest valid prefix;
+//   NOT_UTF8     the text is not valid UTF-8, and not cut short; `place` is the length of its longest valid prefix;
+//   CUT_SHORT    the text ends within a character that more bytes could complete, and is valid up to there; `place` is where that character begins;
 //   NOT_A_FORM   read only: encode writes no such text; `place` is the length of its longest prefix that is a sequence of the context's units;
 //   NO_ROOM      the output is shorter than the result; `length` is the length needed.
 //
@@ -39,6 +40,7 @@ pub use frame::call;
 // The operations, the answer record, the contexts and the statuses.
 pub use rules::Answer;
 pub use rules::BAD_CONTEXT;
+pub use rules::CUT_SHORT;
 pub use rules::DOUBLE_QUOTED;
 pub use rules::NO_ROOM;
 pub use rules::NOT_A_FORM;

@@ -10,14 +10,14 @@ use Prim.Native.Nat.{ℕ, _≤_, _<_}
 use native.Mathlib.Nat.{le-trans}
 use native.Mathlib.Omega.{arith}
 use lib.Dec.{eqb, ltb}
-use lib.ListN.{length as size}
+use lib.ListN.{length as size, drop}
 use Rattle.rules.specs.Bytes.{over}
 use Rattle.rules.specs.Moves.{Move, Rule, through, result, replaced, place}
-use Rattle.rules.specs.Utf8.{IsText, IsFree, validTo}
+use Rattle.rules.specs.Utf8.{IsText, IsFree, validTo, isCut}
 use Rattle.rules.specs.Units.{IsForm, unread, undecoded}
 use Rattle.rules.specs.Reading.{readStep}
 use Rattle.rules.specs.Operations.{decodeStep, ruleOf, encodeOf, readOf}
-use Rattle.rules.specs.Refusals.{Call, Case, bad-context, too-long, not-utf8, not-a-form, lent, no-room, written, NoForm, Given, movesIn, caseOf, answer, answerAt, outAt, textLimit, judge, caseBy, call, answerOf, outOf, Allowed, viewOf}
+use Rattle.rules.specs.Refusals.{Call, Case, bad-context, too-long, not-utf8, cut-short, not-a-form, lent, no-room, written, NoForm, Given, movesIn, caseOf, answer, answerAt, outAt, textLimit, judge, caseBy, call, answerOf, outOf, Allowed, viewOf}
 use Rattle.rules.specs.declared.Answer.{Answer}
 use Rattle.rules.specs.declared.Context.{Context}
 use Rattle.rules.specs.declared.Operation.{Operation}
@@ -26,6 +26,7 @@ use Rattle.rules.specs.declared.AnyContext.{AnyContext}
 use Rattle.rules.specs.declared.AnyContext.the-variants.{Units}
 use Rattle.rules.proofs.Machine.{taken-cut, result-cut, replaced-cut}
 use Rattle.rules.proofs.Laws.{form-iff, form-within, form-free, form-encoded, read-length, encode-form, encode-any, encode-read, form-text, read-encode, decode-encode, decode-moves}
+use Rattle.rules.proofs.Cut.{cut-no-text}
 use Rattle.rules.proofs.Refused.{case-given, case-iff}
 use Rattle.rules.proofs.Calls.{numbers, passed, passed-given, passed-view, status-allowed}
 
@@ -42,7 +43,8 @@ passes o n borrows t out known short text form room = go (caseOf (call o n borro
     go : (row : Case) → Given (call o n borrows t out) row → answerAt row t (movesIn (call o n borrows t out)) .status ≡ 0
     go bad-context h = absurd (known (h .0))
     go too-long h = absurd (over-long (size t) textLimit short (h .0))
-    go not-utf8 h = absurd (h .0 text)
+    go not-utf8 h = absurd (h .0 .0 text)
+    go cut-short h = absurd (cut-no-text t (h .0) text)
     go not-a-form h = absurd (form (h .0))
     go lent h = refl
     go no-room h = absurd (over-long (size (result (movesIn (call o n borrows t out)))) (size out) room (h .0))
@@ -90,6 +92,7 @@ module _ (c : Context) (borrows : Bool) (s out : List ℕ) where
   row-form bad-context e = absurd (numbers 5 4 e tt)
   row-form too-long e = absurd (numbers 1 4 e tt)
   row-form not-utf8 e = absurd (numbers 2 4 e tt)
+  row-form cut-short e = absurd (numbers 7 4 e tt)
   row-form not-a-form e = refl
   row-form lent e = absurd (numbers 0 4 e tt)
   row-form no-room e = absurd (numbers 3 4 e tt)
@@ -105,7 +108,7 @@ module _ (c : Context) (borrows : Bool) (s out : List ℕ) where
   read-refuses a o allowed short text = (
     λ e x t l w. case-iff asked not-a-form .0 (row-form (caseOf asked) (status-allowed Read (Units c) borrows s out a o allowed e)) .0 (form-encoded c s .1 (x, t, w)),
     λ no-text. ap (λ (x : Answer). x .status) (allowed .0) ∙ ap (λ (row : Case). answerAt row s (movesIn asked) .status)
-        (case-iff asked not-a-form .1 (no-form no-text, ((λ e. Option·some-ne-none _ e), ((λ h. over-long _ _ short h), ((λ h. h text), tt))))),
+        (case-iff asked not-a-form .1 (no-form no-text, ((λ e. Option·some-ne-none _ e), ((λ h. over-long _ _ short h), ((λ h. h .0 text), ((λ h. cut-no-text s h text), tt)))))),
   )
     where
       over-long : (a b : ℕ) → a ≤ b → b < a → ⊥
@@ -133,13 +136,14 @@ module _ (borrows : Bool) (t out : List ℕ) (ms ns : List Move) (p : place ms �
   same-case : judged ms ≡ judged ns
   same-case =
       λ i. cond (ltb textLimit (size t)) too-long
-      (cond (ltb (validTo t) (size t)) not-utf8
+      (cond (ltb (validTo t) (size t)) (cond (isCut (drop (validTo t) t)) cut-short not-utf8)
       (cond (ltb (p i) (size t)) not-a-form (cond (borrows && eqb (q i) 0) lent (cond (ltb (size out) (size (e i))) no-room written))))
 
   same-answer : (row : Case) → answerAt row t ms ≡ answerAt row t ns
   same-answer bad-context = refl
   same-answer too-long = refl
   same-answer not-utf8 = refl
+  same-answer cut-short = refl
   same-answer not-a-form = λ i. answer 4 0 0 (p i)
   same-answer lent = λ i. answer 0 (size (e i)) 1 0
   same-answer no-room = λ i. answer 3 (size (e i)) 0 0
@@ -149,6 +153,7 @@ module _ (borrows : Bool) (t out : List ℕ) (ms ns : List Move) (p : place ms �
   same-out bad-context = refl
   same-out too-long = refl
   same-out not-utf8 = refl
+  same-out cut-short = refl
   same-out not-a-form = refl
   same-out lent = refl
   same-out no-room = refl

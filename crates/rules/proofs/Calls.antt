@@ -16,7 +16,7 @@ use Rattle.rules.specs.Bytes.{over}
 use Rattle.rules.specs.Moves.{Move, through, result, replaced, growth, shrinkage, taken, place}
 use Rattle.rules.specs.Utf8.{IsText, validTo}
 use Rattle.rules.specs.Operations.{ruleOf, encodeOf}
-use Rattle.rules.specs.Refusals.{Call, Case, bad-context, too-long, not-utf8, not-a-form, lent, no-room, written, Given, movesOf, movesIn, caseOf, sameOf, answer, answerAt, outAt, textLimit, call, answerOf, outOf, Allowed, viewOf}
+use Rattle.rules.specs.Refusals.{Call, Case, bad-context, too-long, not-utf8, cut-short, not-a-form, lent, no-room, written, Given, movesOf, movesIn, caseOf, sameOf, answer, answerAt, outAt, textLimit, call, answerOf, outOf, Allowed, viewOf}
 use Rattle.rules.specs.declared.Answer.{Answer}
 use Rattle.rules.specs.declared.Context.the-variants.{InHtml, InScript, InStyle}
 use Rattle.rules.specs.declared.Operation.{Operation}
@@ -90,12 +90,13 @@ module _ (o : Operation) (n : AnyContext) (borrows : Bool) (t out : List ℕ) wh
       go bad-context h = refl
       go too-long h = refl
       go not-utf8 h = refl
+      go cut-short h = refl
       go not-a-form h = refl
       go lent h = refl
       go no-room h = refl
       go written h =
           length-append (result ms) (drop (size (result ms)) out) ∙ ap (λ (m : ℕ). size (result ms) + m) (length-drop (size (result ms)) out)
-          ∙ add-back (size (result ms)) (size out) (h .1 .1 .1 .1 .1 .1 .0)
+          ∙ add-back (size (result ms)) (size out) (h .1 .1 .1 .1 .1 .1 .1 .0)
 
   -- On any refusal same is 0 and the output is unchanged.
   pub refused-unchanged : (answerOf o n borrows t out .status ≡ 0 → ⊥) → (answerOf o n borrows t out .same ≡ 0) × (outOf o n borrows t out ≡ out)
@@ -105,6 +106,7 @@ module _ (o : Operation) (n : AnyContext) (borrows : Bool) (t out : List ℕ) wh
       go bad-context h = (refl, refl)
       go too-long h = (refl, refl)
       go not-utf8 h = (refl, refl)
+      go cut-short h = (refl, refl)
       go not-a-form h = (refl, refl)
       go lent h = absurd (h refl)
       go no-room h = (refl, refl)
@@ -145,19 +147,20 @@ module _ (o : Operation) (n : AnyContext) (borrows : Bool) (t out : List ℕ) wh
       go bad-context h e = absurd (suc-ne-zero 4 e)
       go too-long h e = absurd (suc-ne-zero 0 e)
       go not-utf8 h e = absurd (suc-ne-zero 1 e)
+      go cut-short h e = absurd (suc-ne-zero 6 e)
       go not-a-form h e = absurd (suc-ne-zero 3 e)
       go lent h e =
-          let w = taken-all o n t (case-taken k (h .1 .0) (h .1 .1 .1 .1 .0)) in
+          let w = taken-all o n t (case-taken k (h .1 .0) (h .1 .1 .1 .1 .1 .0)) in
           record { whole = w; long = refl; nowhere = refl; same = (λ q. h .0 .1, λ q. refl); view = sym (same-result ms (h .0 .1) ∙ w); head = λ q. absurd (q (h .0)); tail = refl }
       go no-room h e = absurd (suc-ne-zero 2 e)
       go written h e =
-          let w = taken-all o n t (case-taken k (h .1 .0) (h .1 .1 .1 .1 .0)) in
+          let w = taken-all o n t (case-taken k (h .1 .0) (h .1 .1 .1 .1 .1 .0)) in
           record {
             whole = w;
             long = refl;
             nowhere = refl;
             same = same-iff ms;
-            view = view-written (h .1 .1 .1 .1 .1 .1 .0) w;
+            view = view-written (h .1 .1 .1 .1 .1 .1 .1 .0) w;
             head = λ q. take-append-seam (result ms) (drop (size (result ms)) out);
             tail = drop-append-seam (result ms) (drop (size (result ms)) out);
           }
@@ -168,7 +171,7 @@ module _ (o : Operation) (n : AnyContext) (borrows : Bool) (t out : List ℕ) wh
 
   -- In a borrowing call NO_ROOM comes only where something is replaced.
   pub borrow-room : borrows ≡ true → caseOf k ≡ no-room → replaced ms ≡ 0 → ⊥
-  borrow-room b e z = case-iff k no-room .0 e .1 .1 .1 .1 .1 .0 (b, z)
+  borrow-room b e z = case-iff k no-room .0 e .1 .1 .1 .1 .1 .1 .0 (b, z)
 
   -- A borrowing call leaves the output alone where nothing is replaced.
   pub lent-alone : borrows ≡ true → replaced ms ≡ 0 → outOf o n borrows t out ≡ out
@@ -178,18 +181,19 @@ module _ (o : Operation) (n : AnyContext) (borrows : Bool) (t out : List ℕ) wh
       go bad-context h = refl
       go too-long h = refl
       go not-utf8 h = refl
+      go cut-short h = refl
       go not-a-form h = refl
       go lent h = refl
       go no-room h = refl
-      go written h = absurd (h .1 .1 .1 .1 .1 .0 (b, z))
+      go written h = absurd (h .1 .1 .1 .1 .1 .1 .0 (b, z))
 
 -- The length that NO_ROOM names is the length needed: the call passes exactly if the output has at least that many bytes.
 pub room-needed : (o : Operation) (n : AnyContext) (borrows : Bool) (t out other : List ℕ) → caseOf (call o n borrows t out) ≡ no-room
     → (answerOf o n borrows t out .length ≤ size other) ↔ (caseOf (call o n borrows t other) ≡ written)
 room-needed o n borrows t out other e = (
   λ h. case-iff (call o n borrows t other) written .1
-      (tt, (g .1 .0, (g .1 .1 .0, (g .1 .1 .1 .0, (g .1 .1 .1 .1 .0, (g .1 .1 .1 .1 .1 .0, ((λ q. over-long _ _ (subst (λ (m : ℕ). m ≤ size other) long h) q), tt))))))),
-  λ q. subst (λ (m : ℕ). m ≤ size other) (sym long) (not-below _ _ (case-iff (call o n borrows t other) written .0 q .1 .1 .1 .1 .1 .1 .0)),
+      (tt, (g .1 .0, (g .1 .1 .0, (g .1 .1 .1 .0, (g .1 .1 .1 .1 .0, (g .1 .1 .1 .1 .1 .0, (g .1 .1 .1 .1 .1 .1 .0, ((λ q. over-long _ _ (subst (λ (m : ℕ). m ≤ size other) long h) q), tt)))))))),
+  λ q. subst (λ (m : ℕ). m ≤ size other) (sym long) (not-below _ _ (case-iff (call o n borrows t other) written .0 q .1 .1 .1 .1 .1 .1 .1 .0)),
 )
   where
     g : Given (call o n borrows t out) no-room
@@ -218,10 +222,11 @@ passed-given o n borrows t out = go (caseOf (call o n borrows t out)) (case-give
     go bad-context h e = absurd (numbers 5 0 e tt)
     go too-long h e = absurd (numbers 1 0 e tt)
     go not-utf8 h e = absurd (numbers 2 0 e tt)
+    go cut-short h e = absurd (numbers 7 0 e tt)
     go not-a-form h e = absurd (numbers 4 0 e tt)
-    go lent h e = (valid (h .1 .1 .1 .0), not-below _ _ (h .1 .1 .0))
+    go lent h e = (valid (λ n. h .1 .1 .1 .0 (n, h .1 .1 .1 .1 .0)), not-below _ _ (h .1 .1 .0))
     go no-room h e = absurd (numbers 3 0 e tt)
-    go written h e = (valid (h .1 .1 .1 .0), not-below _ _ (h .1 .1 .0))
+    go written h e = (valid (λ n. h .1 .1 .1 .0 (n, h .1 .1 .1 .1 .0)), not-below _ _ (h .1 .1 .0))
 
 -- What an operation gives of a valid text, all of which it took, is valid.
 result-text : (o : Operation) (n : AnyContext) (t : List ℕ) → IsText t → taken (movesOf (ruleOf o n) t) ≡ t → IsText (result (movesOf (ruleOf o n) t))

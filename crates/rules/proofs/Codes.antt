@@ -21,7 +21,7 @@ pub record Reads (unit : Move → Type 0) (rule : Rule) : Type 0 where
   pub fair : (p : ℕ) (s : List ℕ) → Fair unit (rule p s) s
 
 module _ {unit : Move → Type 0} {rule : Rule} (reads : Reads unit rule) where
-  follows : (us : List Move) → All unit us → (r : List ℕ) → Follows rule us r
+  pub follows : (us : List Move) → All unit us → (r : List ℕ) → Follows rule us r
   follows [] g r = tt
   follows (u ∷ us) g r = (reads .finds u (g .0) (taken us ++ r), follows us (g .1) r)
 

@@ -4,7 +4,7 @@ use mathlib.Core.Bool.{true, false, _&&_}
 use Prim.Native.Nat.{ℕ}
 use lib.Dec.{T, eqb}
 use Rattle.rules.specs.Bytes.{count, all}
-use Rattle.rules.specs.Utf8.{sequences, charStep}
+use Rattle.rules.specs.Utf8.{sequences, charStep, isCut}
 use Rattle.rules.specs.Contexts.{contextOf}
 use Rattle.rules.specs.Encoding.{encodeStep, rawStep}
 use Rattle.rules.specs.Reading.{readStep}
@@ -18,12 +18,12 @@ use Rattle.rules.specs.Edges.{characters, validUpTo, longByOnes, encoder
 
 -- The starred examples, 1 to 12.
 pub starred-hold : T (all holds starred)
-unfolding charStep encodeStep rawStep readStep names referenceStep browseStep decodeStep caseBy contextOf entityOf
+unfolding charStep isCut encodeStep rawStep readStep names referenceStep browseStep decodeStep caseBy contextOf entityOf
 starred-hold = tt
 
 -- The others, 13 to 18.
 pub rest-hold : T (all holds rest)
-unfolding charStep encodeStep rawStep readStep names referenceStep browseStep decodeStep caseBy contextOf entityOf
+unfolding charStep isCut encodeStep rawStep readStep names referenceStep browseStep decodeStep caseBy contextOf entityOf
 rest-hold = tt
 
 -- The edges: characters, what each context writes, calls, calls of one kind only, the table of names, the program.
@@ -35,18 +35,18 @@ pub ones-lead : T (all (λ (b : ℕ). all (longByOnes b) sequences) (count 0 256
 ones-lead = tt
 
 pub contexts-write : T (writeFrom 0 encoders)
-unfolding charStep encodeStep rawStep readStep names referenceStep browseStep decodeStep caseBy contextOf entityOf
+unfolding charStep isCut encodeStep rawStep readStep names referenceStep browseStep decodeStep caseBy contextOf entityOf
 contexts-write = tt
 
 pub closers-close : T (all closesAt (count 0 256))
 closers-close = tt
 
 pub edges-hold : T (all holds edges)
-unfolding charStep encodeStep rawStep readStep names referenceStep browseStep decodeStep caseBy contextOf entityOf
+unfolding charStep isCut encodeStep rawStep readStep names referenceStep browseStep decodeStep caseBy contextOf entityOf
 edges-hold = tt
 
 pub kinds-hold : T (all (holdsIn false) copying && all (holdsIn true) borrowing)
-unfolding charStep encodeStep rawStep readStep names referenceStep browseStep decodeStep caseBy contextOf entityOf
+unfolding charStep isCut encodeStep rawStep readStep names referenceStep browseStep decodeStep caseBy contextOf entityOf
 kinds-hold = tt
 
 pub names-digest : T (eqb (digest names) namesDigest)
@@ -57,5 +57,5 @@ pub papers-read : T (all readsAs papers)
 papers-read = tt
 
 pub program-answers : T (all answers requests)
-unfolding charStep encodeStep rawStep readStep names referenceStep browseStep decodeStep caseBy contextOf entityOf
+unfolding charStep isCut encodeStep rawStep readStep names referenceStep browseStep decodeStep caseBy contextOf entityOf
 program-answers = tt

@@ -4,6 +4,7 @@ pub mod Codes
 pub mod Chars
 pub mod Tables
 pub mod Valid
+pub mod Cut
 pub mod Every
 pub mod EveryByte
 pub mod Encoder

@@ -1,7 +1,7 @@
 -- The refusal table is given exactly when its words say: each test of the computation holds exactly if the words of its row do,
 -- and the first test that holds is the row that no earlier one forestalls.
 -- Assumes nothing.
-use mathlib.Core.Bool.{Bool, true, false, _&&_, cond}
+use mathlib.Core.Bool.{Bool, true, false, not, _&&_, cond}
 use mathlib.Core.Logic.{_↔_}
 use mathlib.Core.Option.{Option, none, some, Option·some-ne-none}
 use mathlib.Core.Path.{_≡_, refl, sym, ap, _∙_, subst}
@@ -9,15 +9,15 @@ use mathlib.Core.List.{List}
 use Prim.Native.Nat.{ℕ, _≤_, _<_}
 use native.Mathlib.Omega.{arith}
 use borrow.Author.Tests.{ltb-true, ltb-false, lt-ltb, eqb-true, eq-eqb}
-use lib.Dec.{ltb, eqb}
-use lib.ListN.{length as size}
+use lib.Dec.{T, ltb, eqb}
+use lib.ListN.{length as size, drop}
 use Rattle.rules.specs.Bytes.{All}
 use Rattle.rules.specs.Moves.{Move, Rule, result, replaced, place, taken, through}
-use Rattle.rules.specs.Utf8.{IsText, validTo}
+use Rattle.rules.specs.Utf8.{IsText, IsCut, validTo, isCut}
 use Rattle.rules.specs.Encoding.{encodeStep, rawStep}
 use Rattle.rules.specs.References.{browseStep}
 use Rattle.rules.specs.Operations.{decodeStep, ruleOf, readTo}
-use Rattle.rules.specs.Refusals.{Call, Case, bad-context, too-long, not-utf8, not-a-form, lent, no-room, written, earlier, NoForm, Says, Given, movesOf, movesIn, judge, caseBy, caseOf}
+use Rattle.rules.specs.Refusals.{Call, Case, bad-context, too-long, not-utf8, cut-short, not-a-form, lent, no-room, written, earlier, NoForm, Says, Given, movesOf, movesIn, judge, caseBy, caseOf}
 use Rattle.rules.specs.declared.Context.the-variants.{InHtml, InScript, InStyle}
 use Rattle.rules.specs.declared.Operation.{Operation}
 use Rattle.rules.specs.declared.Operation.the-variants.{Encode, Decode, Read, Browse}
@@ -26,6 +26,7 @@ use Rattle.rules.specs.declared.AnyContext.the-variants.{Units, ScriptRa
 use Rattle.rules.proofs.Growth.{encode-whole, raw-whole}
 use Rattle.rules.proofs.Whole.{decode-whole, browse-whole}
 use Rattle.rules.proofs.Valid.{valid-iff, valid-within}
+use Rattle.rules.proofs.Cut.{cut-iff}
 use Rattle.rules.proofs.Laws.{form-iff, form-within}
 
 -- ---- tests and words
@@ -40,40 +41,72 @@ off false i n = refl
 refuted : {P : Type 0} → (false ≡ true) ↔ P → P → ⊥
 refuted i p = true-false (sym (i .1 p))
 
--- The five tests of the table, one after the other.
-abbrev pub chosen : Bool → Bool → Bool → Bool → Bool → Case
-chosen a b c d e = cond a too-long (cond b not-utf8 (cond c not-a-form (cond d lent (cond e no-room written))))
+-- A test b, and a further one x that parts what b finds.
+both : (b x : Bool) → b && x ≡ true → (b ≡ true) × (x ≡ true)
+both true x e = (refl, e)
+both false x e = absurd (true-false (sym e))
+
+but : (b x : Bool) → b && not x ≡ true → (b ≡ true) × (x ≡ false)
+but true true e = absurd (true-false (sym e))
+but true false e = (refl, refl)
+but false x e = absurd (true-false (sym e))
+
+neither : (b x : Bool) → b && not x ≡ false → b && x ≡ false → b ≡ false
+neither true true e f = f
+neither true false e f = e
+neither false x e f = refl
+
+-- The tests of the table, one after the other: b finds the text invalid, and x then finds it cut short.
+abbrev pub chosen : Bool → Bool → Bool → Bool → Bool → Bool → Case
+chosen a b x c d e = cond a too-long (cond b (cond x cut-short not-utf8) (cond c not-a-form (cond d lent (cond e no-room written))))
 
 module _ (says : Case → Type 0) (known : says bad-context → ⊥) (sure : says written) where
   -- The row that the tests choose is given.
-  chosen-given : (a : Bool) → (a ≡ true) ↔ says too-long → (b : Bool) → (b ≡ true) ↔ says not-utf8 → (c : Bool) → (c ≡ true) ↔ says not-a-form
-      → (d : Bool) → (d ≡ true) ↔ says lent → (e : Bool) → (e ≡ true) ↔ says no-room
-      → says (chosen a b c d e) × All (λ (other : Case). says other → ⊥) (earlier (chosen a b c d e))
-  chosen-given true p b q c r d s e t = (p .0 refl, (known, tt))
-  chosen-given false p true q c r d s e t = (q .0 refl, (known, (refuted p, tt)))
-  chosen-given false p false q true r d s e t = (r .0 refl, (known, (refuted p, (refuted q, tt))))
-  chosen-given false p false q false r true s e t = (s .0 refl, (known, (refuted p, (refuted q, (refuted r, tt)))))
-  chosen-given false p false q false r false s true t = (t .0 refl, (known, (refuted p, (refuted q, (refuted r, (refuted s, tt))))))
-  chosen-given false p false q false r false s false t = (sure, (known, (refuted p, (refuted q, (refuted r, (refuted s, (refuted t, tt)))))))
+  chosen-given : (a : Bool) → (a ≡ true) ↔ says too-long → (b x : Bool) → (b && not x ≡ true) ↔ says not-utf8 → (b && x ≡ true) ↔ says cut-short
+      → (c : Bool) → (c ≡ true) ↔ says not-a-form → (d : Bool) → (d ≡ true) ↔ says lent → (e : Bool) → (e ≡ true) ↔ says no-room
+      → says (chosen a b x c d e) × All (λ (other : Case). says other → ⊥) (earlier (chosen a b x c d e))
+  chosen-given true p b x q u c r d s e t = (p .0 refl, (known, tt))
+  chosen-given false p true true q u c r d s e t = (u .0 refl, (known, (refuted p, tt)))
+  chosen-given false p true false q u c r d s e t = (q .0 refl, (known, (refuted p, tt)))
+  chosen-given false p false x q u true r d s e t = (r .0 refl, (known, (refuted p, (refuted q, (refuted u, tt)))))
+  chosen-given false p false x q u false r true s e t = (s .0 refl, (known, (refuted p, (refuted q, (refuted u, (refuted r, tt))))))
+  chosen-given false p false x q u false r false s true t = (t .0 refl, (known, (refuted p, (refuted q, (refuted u, (refuted r, (refuted s, tt)))))))
+  chosen-given false p false x q u false r false s false t = (sure, (known, (refuted p, (refuted q, (refuted u, (refuted r, (refuted s, (refuted t, tt))))))))
+
+  -- A text that is in neither row passes the test of validity.
+  valid : (b x : Bool) → (b && not x ≡ true) ↔ says not-utf8 → (b && x ≡ true) ↔ says cut-short → (says not-utf8 → ⊥) → (says cut-short → ⊥) → b ≡ false
+  valid b x q u m n = neither b x (off (b && not x) q m) (off (b && x) u n)
 
   -- And a row that is given is the one that they choose.
-  given-chosen : (a : Bool) → (a ≡ true) ↔ says too-long → (b : Bool) → (b ≡ true) ↔ says not-utf8 → (c : Bool) → (c ≡ true) ↔ says not-a-form
-      → (d : Bool) → (d ≡ true) ↔ says lent → (e : Bool) → (e ≡ true) ↔ says no-room
-      → (row : Case) → says row × All (λ (other : Case). says other → ⊥) (earlier row) → chosen a b c d e ≡ row
-  given-chosen a p b q c r d s e t bad-context h = absurd (known (h .0))
-  given-chosen a p b q c r d s e t too-long h = λ i. chosen (p .1 (h .0) i) b c d e
-  given-chosen a p b q c r d s e t not-utf8 h = λ i. chosen (off a p (h .1 .1 .0) i) (q .1 (h .0) i) c d e
-  given-chosen a p b q c r d s e t not-a-form h = λ i. chosen (off a p (h .1 .1 .0) i) (off b q (h .1 .1 .1 .0) i) (r .1 (h .0) i) d e
-  given-chosen a p b q c r d s e t lent h = λ i. chosen (off a p (h .1 .1 .0) i) (off b q (h .1 .1 .1 .0) i) (off c r (h .1 .1 .1 .1 .0) i) (s .1 (h .0) i) e
-  given-chosen a p b q c r d s e t no-room h =
-      λ i. chosen (off a p (h .1 .1 .0) i) (off b q (h .1 .1 .1 .0) i) (off c r (h .1 .1 .1 .1 .0) i) (off d s (h .1 .1 .1 .1 .1 .0) i) (t .1 (h .0) i)
-  given-chosen a p b q c r d s e t written h =
-      λ i. chosen (off a p (h .1 .1 .0) i) (off b q (h .1 .1 .1 .0) i) (off c r (h .1 .1 .1 .1 .0) i) (off d s (h .1 .1 .1 .1 .1 .0) i) (off e t (h .1 .1 .1 .1 .1 .1 .0) i)
+  given-chosen : (a : Bool) → (a ≡ true) ↔ says too-long → (b x : Bool) → (b && not x ≡ true) ↔ says not-utf8 → (b && x ≡ true) ↔ says cut-short
+      → (c : Bool) → (c ≡ true) ↔ says not-a-form → (d : Bool) → (d ≡ true) ↔ says lent → (e : Bool) → (e ≡ true) ↔ says no-room
+      → (row : Case) → says row × All (λ (other : Case). says other → ⊥) (earlier row) → chosen a b x c d e ≡ row
+  given-chosen a p b x q u c r d s e t bad-context h = absurd (known (h .0))
+  given-chosen a p b x q u c r d s e t too-long h = λ i. chosen (p .1 (h .0) i) b x c d e
+  given-chosen a p b x q u c r d s e t not-utf8 h = let (f, g) = but b x (q .1 (h .0)) in λ i. chosen (off a p (h .1 .1 .0) i) (f i) (g i) c d e
+  given-chosen a p b x q u c r d s e t cut-short h = let (f, g) = both b x (u .1 (h .0)) in λ i. chosen (off a p (h .1 .1 .0) i) (f i) (g i) c d e
+  given-chosen a p b x q u c r d s e t not-a-form h = λ i. chosen (off a p (h .1 .1 .0) i) (valid b x q u (h .1 .1 .1 .0) (h .1 .1 .1 .1 .0) i) x (r .1 (h .0) i) d e
+  given-chosen a p b x q u c r d s e t lent h =
+      λ i. chosen (off a p (h .1 .1 .0) i) (valid b x q u (h .1 .1 .1 .0) (h .1 .1 .1 .1 .0) i) x (off c r (h .1 .1 .1 .1 .1 .0) i) (s .1 (h .0) i) e
+  given-chosen a p b x q u c r d s e t no-room h =
+      λ i. chosen (off a p (h .1 .1 .0) i) (valid b x q u (h .1 .1 .1 .0) (h .1 .1 .1 .1 .0) i) x (off c r (h .1 .1 .1 .1 .1 .0) i) (off d s (h .1 .1 .1 .1 .1 .1 .0) i) (t .1 (h .0) i)
+  given-chosen a p b x q u c r d s e t written h =
+      λ i. chosen (off a p (h .1 .1 .0) i) (valid b x q u (h .1 .1 .1 .0) (h .1 .1 .1 .1 .0) i) x (off c r (h .1 .1 .1 .1 .1 .0) i) (off d s (h .1 .1 .1 .1 .1 .1 .0) i) (off e t (h .1 .1 .1 .1 .1 .1 .1 .0) i)
 
 -- ---- each test holds exactly if the words of its row do
 
 below-iff : (a b : ℕ) → (ltb a b ≡ true) ↔ (a < b)
 below-iff a b = (ltb-true a b, lt-ltb a b)
+
+is-true : (b : Bool) → T b → b ≡ true
+is-true true t = refl
+is-true false t = absurd t
+
+-- What b finds and x does not.
+others : {P Q : Type 0} (b x : Bool) → (b ≡ true) ↔ P → (b && x ≡ true) ↔ Q → (b && not x ≡ true) ↔ (P × (Q → ⊥))
+others true true p q = (λ e. absurd (true-false (sym e)), λ h. absurd (h .1 (q .0 refl)))
+others true false p q = (λ e. (p .0 refl, refuted q), λ h. refl)
+others false x p q = (λ e. absurd (true-false (sym e)), λ h. p .1 (h .0))
 
 equal : (a b : ℕ) → a ≤ b → b ≤ a → a ≡ b
 equal a b h k = omega arith
@@ -91,6 +124,16 @@ less-iff {P} a b h i = (λ e p. apart a b (ltb-true a b e) (i .0 p), λ n. go (l
 
 utf8-iff : (t : List ℕ) → (ltb (validTo t) (size t) ≡ true) ↔ (IsText t → ⊥)
 utf8-iff t = less-iff (validTo t) (size t) (valid-within t) (valid-iff t)
+
+-- The two rows of a text that is not valid.
+cut-says : (t : List ℕ) → (ltb (validTo t) (size t) && isCut (drop (validTo t) t) ≡ true) ↔ IsCut t
+cut-says t = (
+  λ e. let (f, g) = both (ltb (validTo t) (size t)) (isCut (drop (validTo t) t)) e in cut-iff t .1 (ltb-true (validTo t) (size t) f, subst T (sym g) tt),
+  λ c. let (l, u) = cut-iff t .0 c in λ i. lt-ltb (validTo t) (size t) l i && is-true (isCut (drop (validTo t) t)) u i,
+)
+
+broken-says : (t : List ℕ) → (ltb (validTo t) (size t) && not (isCut (drop (validTo t) t)) ≡ true) ↔ ((IsText t → ⊥) × (IsCut t → ⊥))
+broken-says t = others (ltb (validTo t) (size t)) (isCut (drop (validTo t) t)) (utf8-iff t) (cut-says t)
 
 whole-iff : (ms : List Move) (t : List ℕ) → taken ms ≡ t → (ltb (place ms) (size t) ≡ true) ↔ ⊥
 whole-iff ms t w = (λ e. apart (place ms) (size t) (ltb-true (place ms) (size t) e) (ap size w), λ p. absurd p)
@@ -135,13 +178,15 @@ module _ (k : Call) where
 
   judge-given : (rule ≡ none → ⊥) → Given k (judged (movesIn k))
   judge-given n =
-      chosen-given (Says k) n tt (ltb (k .limit) (size (k .text))) (below-iff (k .limit) (size (k .text))) (ltb (validTo (k .text)) (size (k .text))) (utf8-iff (k .text))
+      chosen-given (Says k) n tt (ltb (k .limit) (size (k .text))) (below-iff (k .limit) (size (k .text))) (ltb (validTo (k .text)) (size (k .text)))
+      (isCut (drop (validTo (k .text)) (k .text))) (broken-says (k .text)) (cut-says (k .text))
       (ltb (place (movesIn k)) (size (k .text))) (form-says (k .operation) (k .context) (k .text) n) (k .borrows && eqb (replaced (movesIn k)) 0) (lends-iff (k .borrows) (replaced (movesIn k)))
       (ltb (k .room) (size (result (movesIn k)))) (below-iff (k .room) (size (result (movesIn k))))
 
   given-judge : (rule ≡ none → ⊥) → (row : Case) → Given k row → judged (movesIn k) ≡ row
   given-judge n =
-      given-chosen (Says k) n tt (ltb (k .limit) (size (k .text))) (below-iff (k .limit) (size (k .text))) (ltb (validTo (k .text)) (size (k .text))) (utf8-iff (k .text))
+      given-chosen (Says k) n tt (ltb (k .limit) (size (k .text))) (below-iff (k .limit) (size (k .text))) (ltb (validTo (k .text)) (size (k .text)))
+      (isCut (drop (validTo (k .text)) (k .text))) (broken-says (k .text)) (cut-says (k .text))
       (ltb (place (movesIn k)) (size (k .text))) (form-says (k .operation) (k .context) (k .text) n) (k .borrows && eqb (replaced (movesIn k)) 0) (lends-iff (k .borrows) (replaced (movesIn k)))
       (ltb (k .room) (size (result (movesIn k)))) (below-iff (k .room) (size (result (movesIn k))))
 
@@ -159,6 +204,7 @@ module _ (k : Call) where
   no-rule e bad-context h = refl
   no-rule e too-long h = absurd (h .1 .0 e)
   no-rule e not-utf8 h = absurd (h .1 .0 e)
+  no-rule e cut-short h = absurd (h .1 .0 e)
   no-rule e not-a-form h = absurd (h .1 .0 e)
   no-rule e lent h = absurd (h .1 .0 e)
   no-rule e no-room h = absurd (h .1 .0 e)

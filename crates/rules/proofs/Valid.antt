@@ -13,11 +13,11 @@ use Rattle.rules.proofs.Machine.{place-within}
 use Rattle.rules.proofs.Codes.{Reads, IsWritten, place-written, place-longest, written-iff}
 use Rattle.rules.proofs.Tables.{table-reads}
 
-chars-read : Reads (IsUnit [] []) charStep
+pub chars-read : Reads (IsUnit [] []) charStep
 unfolding charStep
 chars-read = table-reads [] [] tt
 
-chars-run : (cs : List (List ℕ)) → All IsChar cs → (us : List Move) × All (IsUnit [] []) us × (join cs ≡ taken us)
+pub chars-run : (cs : List (List ℕ)) → All IsChar cs → (us : List Move) × All (IsUnit [] []) us × (join cs ≡ taken us)
 chars-run [] h = ([], tt, refl)
 chars-run (a ∷ cs) h = let (us, g, e) = chars-run cs (h .1) in (keep a ∷ us, ((h .0, λ i. i), g), ap (λ (s : List ℕ). a ++ s) e)
 

@@ -490,6 +490,94 @@ refusals =
     ∷ passesIn 10 Encode ScriptRaw (ascii "</script>") (ascii "<\\/script>")
     ∷ []
 
+-- ---- texts that were cut short
+
+-- Every sequence of RFC 3629, at both ends of its ranges, cut at every length.
+abbrev pub starts : List (List ℕ)
+starts =
+    (0xC2 ∷ [])
+    ∷ (0xDF ∷ [])
+    ∷ (0xE0 ∷ [])
+    ∷ (0xE0 ∷ 0xA0 ∷ [])
+    ∷ (0xE0 ∷ 0xBF ∷ [])
+    ∷ (0xE1 ∷ [])
+    ∷ (0xE1 ∷ 0x80 ∷ [])
+    ∷ (0xEC ∷ [])
+    ∷ (0xEC ∷ 0xBF ∷ [])
+    ∷ (0xED ∷ [])
+    ∷ (0xED ∷ 0x80 ∷ [])
+    ∷ (0xED ∷ 0x9F ∷ [])
+    ∷ (0xEE ∷ [])
+    ∷ (0xEE ∷ 0x80 ∷ [])
+    ∷ (0xEF ∷ [])
+    ∷ (0xEF ∷ 0xBF ∷ [])
+    ∷ (0xF0 ∷ [])
+    ∷ (0xF0 ∷ 0x90 ∷ [])
+    ∷ (0xF0 ∷ 0x90 ∷ 0x80 ∷ [])
+    ∷ (0xF0 ∷ 0xBF ∷ [])
+    ∷ (0xF0 ∷ 0xBF ∷ 0xBF ∷ [])
+    ∷ (0xF1 ∷ [])
+    ∷ (0xF1 ∷ 0x80 ∷ [])
+    ∷ (0xF1 ∷ 0x80 ∷ 0x80 ∷ [])
+    ∷ (0xF3 ∷ [])
+    ∷ (0xF3 ∷ 0xBF ∷ [])
+    ∷ (0xF3 ∷ 0xBF ∷ 0xBF ∷ [])
+    ∷ (0xF4 ∷ [])
+    ∷ (0xF4 ∷ 0x80 ∷ [])
+    ∷ (0xF4 ∷ 0x80 ∷ 0x80 ∷ [])
+    ∷ (0xF4 ∷ 0x8F ∷ [])
+    ∷ (0xF4 ∷ 0x8F ∷ 0xBF ∷ [])
+    ∷ []
+
+-- What no byte can complete: no first byte, and a byte just outside its range, also where too few bytes follow.
+abbrev pub noStarts : List (List ℕ)
+noStarts =
+    (0x80 ∷ [])
+    ∷ (0xBF ∷ [])
+    ∷ (0xC1 ∷ [])
+    ∷ (0xF5 ∷ [])
+    ∷ (0xFF ∷ [])
+    ∷ (0xC3 ∷ 0x28 ∷ [])
+    ∷ (0xE2 ∷ 0x28 ∷ [])
+    ∷ (0xE2 ∷ 0x82 ∷ 0x28 ∷ [])
+    ∷ (0xE2 ∷ 0x82 ∷ 0xE2 ∷ [])
+    ∷ (0xF0 ∷ 0x90 ∷ 0x80 ∷ 0x28 ∷ [])
+    ∷ (0x80 ∷ 0xC3 ∷ [])
+    ∷ (0xE0 ∷ 0x9F ∷ [])
+    ∷ (0xE0 ∷ 0xC0 ∷ [])
+    ∷ (0xE1 ∷ 0x7F ∷ [])
+    ∷ (0xE1 ∷ 0xC0 ∷ [])
+    ∷ (0xED ∷ 0x7F ∷ [])
+    ∷ (0xED ∷ 0xA0 ∷ [])
+    ∷ (0xEF ∷ 0x7F ∷ [])
+    ∷ (0xEF ∷ 0xC0 ∷ [])
+    ∷ (0xF0 ∷ 0x8F ∷ [])
+    ∷ (0xF0 ∷ 0xC0 ∷ [])
+    ∷ (0xF0 ∷ 0x90 ∷ 0x7F ∷ [])
+    ∷ (0xF0 ∷ 0x90 ∷ 0xC0 ∷ [])
+    ∷ (0xF3 ∷ 0x7F ∷ [])
+    ∷ (0xF3 ∷ 0xC0 ∷ [])
+    ∷ (0xF3 ∷ 0x80 ∷ 0x7F ∷ [])
+    ∷ (0xF3 ∷ 0x80 ∷ 0xC0 ∷ [])
+    ∷ (0xF4 ∷ 0x7F ∷ [])
+    ∷ (0xF4 ∷ 0x90 ∷ [])
+    ∷ (0xF4 ∷ 0x80 ∷ 0x7F ∷ [])
+    ∷ (0xF4 ∷ 0x80 ∷ 0xC0 ∷ [])
+    ∷ []
+
+-- After a letter the first are CUT_SHORT, and the others NOT_UTF8. CUT_SHORT comes after BAD_CONTEXT and TOO_LONG, and before NOT_A_FORM and NO_ROOM.
+abbrev pub cuts : List Example
+cuts =
+    map (λ (a : List ℕ). refused Encode (Units (InHtml Text)) (ascii "a" ++ a) 7 1) starts
+    ++ map (λ (a : List ℕ). refused Encode (Units (InHtml Text)) (ascii "a" ++ a) 2 1) noStarts
+    ++ refused Encode (Units (InHtml Text)) (map (λ (b : ℕ). 0x61) (count 0 65536) ++ 0xC3 ∷ []) 1 0
+    ∷ refused Decode ScriptRaw (ascii "a" ++ 0xC3 ∷ []) 5 0
+    ∷ refusedIn 0 Encode ScriptRaw (ascii "a" ++ 0xE2 ∷ 0x80 ∷ []) 7 0 1
+    ∷ refusedIn 0 Decode (Units (InScript Both)) (ascii "\\x3C" ++ 0xE2 ∷ []) 7 0 4
+    ∷ refusedIn 0 Read (Units (InHtml Text)) (ascii "a&" ++ 0xF0 ∷ 0x9F ∷ 0x98 ∷ []) 7 0 2
+    ∷ refusedIn 0 Browse (Units (InHtml Text)) (ascii "&#0;" ++ 0xC3 ∷ []) 7 0 4
+    ∷ []
+
 -- Where nothing is replaced a copying call needs room, and a borrowing one needs none.
 abbrev pub copying : List Example
 copying = refusedIn 2 Encode (Units (InHtml Text)) (ascii "abc") 3 3 0 ∷ passesIn 3 Encode (Units (InHtml Text)) (ascii "abc") (ascii "abc") ∷ []
@@ -500,7 +588,7 @@ borrowing = passesIn 2 Encode (Units (InHtml Text)) (ascii "abc") (ascii "abc") 
 -- ---- all of these that are examples
 
 abbrev pub edges : List Example
-edges = closings ++ tags ++ escapes ++ references ++ browsed ++ readings ++ refusals
+edges = closings ++ tags ++ escapes ++ references ++ browsed ++ readings ++ refusals ++ cuts
 
 -- ---- the program
 
@@ -529,6 +617,8 @@ requests =
     ∷ (request (ascii "browse") (ascii "script_single") [], prints 5 0)
     ∷ (request (ascii "encode") (ascii "text") (0x80 ∷ map (λ (b : ℕ). 0x61) (count 0 8191)), prints 2 0)
     ∷ (request (ascii "encode") (ascii "text") (0x80 ∷ map (λ (b : ℕ). 0x61) (count 0 8192)), prints 1 0)
+    ∷ (request (ascii "read") (ascii "text") (ascii "a&" ++ 0xE2 ∷ 0x82 ∷ []), ascii "status=7\nlength=0\nsame=0\nplace=2\ntext=")
+    ∷ (request (ascii "encode") (ascii "text") (map (λ (b : ℕ). 0x61) (count 0 8192) ++ 0xC3 ∷ []), prints 1 0)
     -- lines that differ
     ∷ ([], ascii "status=6\nlength=0\nsame=0\nplace=0\ntext=")
     ∷ (ascii "op=encode\n", prints 6 0)

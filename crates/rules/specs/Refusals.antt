@@ -6,10 +6,10 @@ use mathlib.Core.Path.{_≡_}
 use mathlib.Core.List.{List, [], _∷_}
 use Prim.Native.Nat.{ℕ, _<_}
 use lib.Dec.{ltb, leb, eqb}
-use lib.ListN.{length as size, take}
+use lib.ListN.{length as size, take, drop}
 use Rattle.rules.specs.Bytes.{All, over}
 use Rattle.rules.specs.Moves.{Move, Rule, through, result, place as placeOf, replaced}
-use Rattle.rules.specs.Utf8.{IsText, validTo}
+use Rattle.rules.specs.Utf8.{IsText, IsCut, validTo, isCut}
 use Rattle.rules.specs.Units.{IsForm}
 use Rattle.rules.specs.Operations.{ruleOf}
 use Rattle.rules.specs.declared.Answer.{Answer}
@@ -45,6 +45,7 @@ pub data Case : Type 0 where
   bad-context : Case
   too-long : Case
   not-utf8 : Case
+  cut-short : Case
   not-a-form : Case
   lent : Case
   no-room : Case
@@ -52,15 +53,17 @@ pub data Case : Type 0 where
 
 -- ---- the table in its own words
 
--- The order in which the rows are checked. A borrowing call needs no room where nothing is replaced, so `lent` goes before NO_ROOM.
+-- The order in which the rows are checked. NOT_UTF8 and CUT_SHORT have the same rank: their words exclude each other. A borrowing call needs no room
+-- where nothing is replaced, so `lent` goes before NO_ROOM.
 abbrev pub earlier : Case → List Case
 earlier bad-context = []
 earlier too-long = bad-context ∷ []
 earlier not-utf8 = bad-context ∷ too-long ∷ []
-earlier not-a-form = bad-context ∷ too-long ∷ not-utf8 ∷ []
-earlier lent = bad-context ∷ too-long ∷ not-utf8 ∷ not-a-form ∷ []
-earlier no-room = bad-context ∷ too-long ∷ not-utf8 ∷ not-a-form ∷ lent ∷ []
-earlier written = bad-context ∷ too-long ∷ not-utf8 ∷ not-a-form ∷ lent ∷ no-room ∷ []
+earlier cut-short = bad-context ∷ too-long ∷ []
+earlier not-a-form = bad-context ∷ too-long ∷ not-utf8 ∷ cut-short ∷ []
+earlier lent = bad-context ∷ too-long ∷ not-utf8 ∷ cut-short ∷ not-a-form ∷ []
+earlier no-room = bad-context ∷ too-long ∷ not-utf8 ∷ cut-short ∷ not-a-form ∷ lent ∷ []
+earlier written = bad-context ∷ too-long ∷ not-utf8 ∷ cut-short ∷ not-a-form ∷ lent ∷ no-room ∷ []
 
 -- In read, the text is no run of the context's units.
 abbrev pub NoForm : Operation → AnyContext → List ℕ → Type 0
@@ -75,7 +78,8 @@ NoForm Browse n t = ⊥
 abbrev pub Says : Call → Case → Type 0
 Says k bad-context = ruleOf (k .operation) (k .context) ≡ none
 Says k too-long = k .limit < size (k .text)
-Says k not-utf8 = IsText (k .text) → ⊥
+Says k not-utf8 = (IsText (k .text) → ⊥) × (IsCut (k .text) → ⊥)
+Says k cut-short = IsCut (k .text)
 Says k not-a-form = NoForm (k .operation) (k .context) (k .text)
 Says k lent = (k .borrows ≡ true) × (replaced (movesIn k) ≡ 0)
 Says k no-room = k .room < size (result (movesIn k))
@@ -91,7 +95,7 @@ Given k row = Says k row × All (λ (other : Case). Says k other → ⊥) (earli
 abbrev pub judge : Bool → ℕ → List ℕ → List Move → ℕ → Case
 judge borrows limit t ms room =
     cond (ltb limit (size t)) too-long
-    (cond (ltb (validTo t) (size t)) not-utf8
+    (cond (ltb (validTo t) (size t)) (cond (isCut (drop (validTo t) t)) cut-short not-utf8)
     (cond (ltb (placeOf ms) (size t)) not-a-form
     (cond (borrows && eqb (replaced ms) 0) lent
     (cond (ltb room (size (result ms))) no-room written))))
@@ -114,6 +118,7 @@ abbrev pub answerAt : Case → List ℕ → List Move → Answer
 answerAt bad-context t ms = answer 5 0 0 0
 answerAt too-long t ms = answer 1 0 0 0
 answerAt not-utf8 t ms = answer 2 0 0 (validTo t)
+answerAt cut-short t ms = answer 7 0 0 (validTo t)
 answerAt not-a-form t ms = answer 4 0 0 (placeOf ms)
 answerAt lent t ms = answer 0 (size (result ms)) 1 0
 answerAt no-room t ms = answer 3 (size (result ms)) 0 0
@@ -124,6 +129,7 @@ abbrev pub outAt : Case → List Move → List ℕ → List ℕ
 outAt bad-context ms out = out
 outAt too-long ms out = out
 outAt not-utf8 ms out = out
+outAt cut-short ms out = out
 outAt not-a-form ms out = out
 outAt lent ms out = out
 outAt no-room ms out = out

@@ -1,13 +1,13 @@
 -- RULES 3. Valid UTF-8: a text is one character of RFC 3629 after the other.
 -- Assumes nothing.
-use mathlib.Core.Bool.{cond}
+use mathlib.Core.Bool.{Bool, true, false, _&&_, cond}
 use mathlib.Core.Option.{Option, none, some}
 use mathlib.Core.Path.{_≡_}
-use mathlib.Core.List.{List, [], _∷_}
-use Prim.Native.Nat.{ℕ, _+_, _/_, _%_}
+use mathlib.Core.List.{List, [], _∷_, _++_}
+use Prim.Native.Nat.{ℕ, _+_, _/_, _%_, _<_}
 use lib.Dec.{T, ltb}
 use lib.ListN.{length, take}
-use Rattle.rules.specs.Bytes.{join, In, All, first, fits, Range, inside}
+use Rattle.rules.specs.Bytes.{join, In, All, any, first, fits, Range, inside}
 use Rattle.rules.specs.Moves.{Move, keep, stop, Rule, place, through}
 
 -- RFC 3629, section 4: UTF8-1, UTF8-2, and the lines of UTF8-3 and UTF8-4.
@@ -32,6 +32,14 @@ IsChar a = (q : List Range) × In q sequences × T (fits inside q a) × (length 
 abbrev pub IsText : List ℕ → Type 0
 IsText s = (cs : List (List ℕ)) × All IsChar cs × (s ≡ join cs)
 
+-- The start of a character that more bytes could still complete.
+abbrev pub IsStart : List ℕ → Type 0
+IsStart a = (r : List ℕ) × IsChar (a ++ r) × (0 < length a) × (0 < length r)
+
+-- A text that was cut short: characters, and then only such a start.
+abbrev pub IsCut : List ℕ → Type 0
+IsCut s = (t : List ℕ) × (a : List ℕ) × IsText t × IsStart a × (s ≡ t ++ a)
+
 -- A text that is free of some characters.
 abbrev pub IsFree : List (List ℕ) → List ℕ → Type 0
 IsFree bad s = (cs : List (List ℕ)) × All IsChar cs × All (λ (a : List ℕ). In a bad → ⊥) cs × (s ≡ join cs)
@@ -52,6 +60,16 @@ charStep prev s = keepChar (sequenceAt s) s
 -- The length of the longest valid prefix.
 abbrev pub validTo : List ℕ → ℕ
 validTo s = place (through charStep s)
+
+-- The bytes s are in the first ranges of a sequence, and at least one range is left.
+abbrev pub opens : List Range → List ℕ → Bool
+opens [] s = false
+opens (p ∷ q) [] = true
+opens (p ∷ q) (x ∷ s) = inside p x && opens q s
+
+-- The same with some sequence: the test of the bytes, at least one, that follow the longest valid prefix of a text.
+unfoldable pub isCut : List ℕ → Bool
+isCut s = any (λ (q : List Range). opens q s) sequences
 
 -- A number up to 10FFFF as the bytes of its character: RFC 3629, section 3.
 abbrev pub utf8 : ℕ → List ℕ

@@ -49,6 +49,8 @@ pub const BAD_CONTEXT: usize = 5;
 
 pub const BAD_REQUEST: usize = 6;
 
+pub const CUT_SHORT: usize = 7;
+
 // The HTML seven.
 pub enum Html {
     TextMinimal,

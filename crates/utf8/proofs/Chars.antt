@@ -1,21 +1,21 @@
 -- The character at the head of a text, by its first byte. What may follow a first byte in the sequences of RFC 3629 is computed once for each of the
 -- 256 bytes, and is what the check tests.
 -- Assumes nothing.
-use mathlib.Core.Bool.{Bool, true, false, cond, _&&_, and-false}
+use mathlib.Core.Bool.{Bool, true, false, cond, _&&_, _||_, and-false, or-false}
 use mathlib.Core.Option.{Option, none, some}
 use mathlib.Core.Path.{_≡_, refl, sym, ap, _∙_, subst}
 use mathlib.Core.List.{List, [], _∷_}
-use Prim.Native.Nat.{ℕ, suc, _-_, _≤_, _<_}
+use Prim.Native.Nat.{ℕ, zero, suc, _-_, _≤_, _<_}
 use native.Mathlib.Nat.{le-of-suc-le-suc, not-suc-le-zero}
 use native.Mathlib.Omega.{arith}
 use borrow.Author.Tests.{lt-ltb, le-ltb, le-leb, ltb-true, ltb-false}
 use lib.Count.{leadingZeros}
 use lib.Dec.{T, eqb, leb, ltb, eqb→eq, leb→le}
 use lib.ListN.{length, take, drop, getD, replicate, length-drop, length-replicate}
-use lib.Seq.{drop-cons, take-length}
-use Rattle.rules.specs.Bytes.{all, first, fits, Range, inside}
+use lib.Seq.{drop-cons, take-all, take-length}
+use Rattle.rules.specs.Bytes.{all, any, first, fits, Range, inside}
 use Rattle.rules.specs.Moves.{takes}
-use Rattle.rules.specs.Utf8.{sequences, sequenceAt, keepChar, charStep, IsChar}
+use Rattle.rules.specs.Utf8.{sequences, sequenceAt, keepChar, charStep, opens, isCut, IsChar}
 use Rattle.rules.proofs.Tests.{and-left, and-right, first-sound, fits-take, fits-length}
 use Rattle.rules.proofs.EveryByte.{every-byte}
 use Rattle.utf8.specs.Check.{isStart, onward, tailsOf}
@@ -77,6 +77,33 @@ fits-short : (q : List Range) (w : List ℕ) → length w < length q → fits in
 fits-short [] w h = absurd (not-suc-le-zero h)
 fits-short (p ∷ q) [] h = refl
 fits-short (p ∷ q) (x ∷ w) h = rw (fits-short q w (le-of-suc-le-suc h)) (and-false (inside p x))
+
+-- What begins a sequence begins, after the first byte, what may follow that byte.
+opens-first : (d : ℕ) (w : List ℕ) (qs : List (List Range)) → any (λ (q : List Range). opens q (d ∷ w)) qs ≡ any (λ (q : List Range). opens q w) (follow d qs)
+opens-first d w [] = refl
+opens-first d w ([] ∷ qs) = opens-first d w qs
+opens-first d w ((p ∷ q) ∷ qs) = go (inside p d) refl (opens-first d w qs)
+  where
+    go : (b : Bool) → inside p d ≡ b → any (λ (q : List Range). opens q (d ∷ w)) qs ≡ any (λ (q : List Range). opens q w) (follow d qs)
+        → any (λ (q : List Range). opens q (d ∷ w)) ((p ∷ q) ∷ qs) ≡ any (λ (q : List Range). opens q w) (follow d ((p ∷ q) ∷ qs))
+    go true e ih = rw e (ap (λ (b : Bool). opens q w || b) ih)
+    go false e ih = rw e ih
+
+-- It begins them only where a range is left, and then it fills the ranges before.
+opens-long : (q : List Range) (w : List ℕ) → length q ≤ length w → opens q w ≡ false
+opens-long [] w h = refl
+opens-long (p ∷ q) [] h = absurd (not-suc-le-zero h)
+opens-long (p ∷ q) (x ∷ w) h = rw (opens-long q w (le-of-suc-le-suc h)) (and-false (inside p x))
+
+opens-short : (q : List Range) (w : List ℕ) → length w < length q → opens q w ≡ fits inside (take (length w) q) w
+opens-short [] w h = absurd (not-suc-le-zero h)
+opens-short (p ∷ q) [] h = refl
+opens-short (p ∷ q) (x ∷ w) h = ap (λ (b : Bool). inside p x && b) (opens-short q w (le-of-suc-le-suc h))
+
+take-replicate : {A : Type 0} (k m : ℕ) (a : A) → k ≤ m → take k (replicate m a) ≡ replicate k a
+take-replicate zero m a h = refl
+take-replicate (suc k) zero a h = absurd (not-suc-le-zero h)
+take-replicate (suc k) (suc m) a h = ap (λ (r : List _). a ∷ r) (take-replicate k m a (le-of-suc-le-suc h))
 
 -- What the check takes to follow a first byte.
 abbrev tested : ℕ → List (List Range)
@@ -163,25 +190,58 @@ module _ (s : List ℕ) (h : 0 < length s) (byte : getD s 0 0 < 256) where
   pub size-no-start : isStart (getD s 0 0) ≡ false → length (takes (charStep 0 s)) ≡ 0
   size-no-start e = size-at ∙ rw e
 
-  pub size-more : isStart (getD s 0 0) ≡ true → (b : Bool) → fits inside (tailsOf (getD s 0 0)) (drop 1 s) ≡ b
+  size-fits : isStart (getD s 0 0) ≡ true → (b : Bool) → fits inside (tailsOf (getD s 0 0)) (drop 1 s) ≡ b
       → length (takes (charStep 0 s)) ≡ cond b (suc (length (tailsOf (getD s 0 0)))) 0
-  size-more e b f = size-at ∙ rw (e, f)
+  size-fits e b f = size-at ∙ rw (e, f)
+
+  pub size-more : isStart (getD s 0 0) ≡ true → (n : ℕ) → n ≡ suc (length (tailsOf (getD s 0 0))) → (b : Bool) → fits inside (take (n - 1) (tailsOf (getD s 0 0))) (drop 1 s) ≡ b
+      → length (takes (charStep 0 s)) ≡ cond b n 0
+  size-more e n l b f =
+      let w : take (n - 1) (tailsOf (getD s 0 0)) ≡ tailsOf (getD s 0 0) = take-all (n - 1) (tailsOf (getD s 0 0)) (omega arith) in
+      size-fits e b (ap (λ (q : List Range). fits inside q (drop 1 s)) (sym w) ∙ f) ∙ ap (λ (m : ℕ). cond b m 0) (sym l)
 
   pub size-short : isStart (getD s 0 0) ≡ true → length s < suc (length (tailsOf (getD s 0 0))) → length (takes (charStep 0 s)) ≡ 0
-  size-short e l = size-more e false (fits-short (tailsOf (getD s 0 0)) (drop 1 s) (rw length-drop (omega arith)))
+  size-short e l = size-fits e false (fits-short (tailsOf (getD s 0 0)) (drop 1 s) (rw length-drop (omega arith)))
 
--- The bytes after the first, where n is the length of the character.
-module _ (s : List ℕ) (n : ℕ) (l : 0x80 ≤ getD s 0 0) (e : n ≡ suc (length (tailsOf (getD s 0 0)))) where
-  tails-of : tailsOf (getD s 0 0) ≡ onward (getD s 0 0) ∷ replicate (n - 2) (0x80, 0xBF)
+  -- Whether the bytes are the start of a character.
+  cut-at : isCut s ≡ any (λ (q : List Range). opens q (drop 1 s)) (tested (getD s 0 0))
+  unfolding isCut
+  cut-at =
+      let e : s ≡ getD s 0 0 ∷ drop 1 s = drop-cons s 0 0 h in
+      ap isCut e ∙ opens-first (getD s 0 0) (drop 1 s) sequences ∙ rw (follow-tested (getD s 0 0) byte)
+
+  pub cut-ascii : getD s 0 0 < 0x80 → isCut s ≡ false
+  unfolding tailsOf
+  cut-ascii l = cut-at ∙ rw (lt-ltb (getD s 0 0) 0x80 l)
+
+  pub cut-no-start : isStart (getD s 0 0) ≡ false → isCut s ≡ false
+  cut-no-start e = cut-at ∙ rw e
+
+  cut-start : isStart (getD s 0 0) ≡ true → isCut s ≡ opens (tailsOf (getD s 0 0)) (drop 1 s)
+  cut-start e = cut-at ∙ rw e (or-false (opens (tailsOf (getD s 0 0)) (drop 1 s)))
+
+  pub cut-long : isStart (getD s 0 0) ≡ true → suc (length (tailsOf (getD s 0 0))) ≤ length s → isCut s ≡ false
+  cut-long e l = cut-start e ∙ opens-long (tailsOf (getD s 0 0)) (drop 1 s) (rw length-drop (omega arith))
+
+  pub cut-short : isStart (getD s 0 0) ≡ true → length s < suc (length (tailsOf (getD s 0 0)))
+      → isCut s ≡ fits inside (take (length s - 1) (tailsOf (getD s 0 0))) (drop 1 s)
+  cut-short e l =
+      cut-start e ∙ opens-short (tailsOf (getD s 0 0)) (drop 1 s) (rw length-drop (omega arith))
+      ∙ ap (λ (n : ℕ). fits inside (take n (tailsOf (getD s 0 0))) (drop 1 s)) (length-drop 1 s)
+
+-- The first n bytes, where the character has at least as many.
+module _ (s : List ℕ) (n : ℕ) (l : 0x80 ≤ getD s 0 0) (two : 2 ≤ n) (e : n ≤ suc (length (tailsOf (getD s 0 0)))) where
+  tails-of : take (n - 1) (tailsOf (getD s 0 0)) ≡ onward (getD s 0 0) ∷ replicate (n - 2) (0x80, 0xBF)
   unfolding tailsOf
   tails-of =
       let d = getD s 0 0 in
       let m : ℕ = cond (ltb d 0xE0) 0 (cond (ltb d 0xF0) 1 2) in
-      let k : n - 2 ≡ m = omega (arith, rw (le-ltb d 0x80 l, length-replicate) at e) in
-      rw (le-ltb d 0x80 l, k)
+      let k : n - 1 ≡ suc (n - 2) = omega arith in
+      let h : n - 2 ≤ m = omega (arith, rw (le-ltb d 0x80 l, length-replicate) at e) in
+      rw (le-ltb d 0x80 l, k, take-replicate {A = Range} (n - 2) m (0x80, 0xBF) h)
 
   pub second-tail : 1 < length s
-      → fits inside (tailsOf (getD s 0 0)) (drop 1 s) ≡ (inside (onward (getD s 0 0)) (getD s 1 0) && fits inside (replicate (n - 2) (0x80, 0xBF)) (drop 2 s))
+      → fits inside (take (n - 1) (tailsOf (getD s 0 0))) (drop 1 s) ≡ (inside (onward (getD s 0 0)) (getD s 1 0) && fits inside (replicate (n - 2) (0x80, 0xBF)) (drop 2 s))
   second-tail h = rw (tails-of, drop-cons s 1 0 h)
 
 -- A byte after the second.

@@ -2,11 +2,11 @@
 // range check over a window of four bytes), is passed as a whole; the rest is read character by character. The loops over blocks have no early exit
 // and no branch on a byte, so that they become vector code.
 ghost use mathlib.Core.Path.{_≡_};
-ghost use Prim.Native.Nat.{ℕ, suc, _+_, _≤_, _<_};
+ghost use Prim.Native.Nat.{ℕ, suc, _+_, _-_, _≤_, _<_};
 ghost use lib.ListN.{length, take, drop, getD};
 ghost use Rattle.rules.specs.Bytes.{fits, inside};
 ghost use Rattle.rules.specs.Moves.{takes};
-ghost use Rattle.rules.specs.Utf8.{IsText, charStep, validTo};
+ghost use Rattle.rules.specs.Utf8.{IsText, charStep, validTo, isCut};
 ghost use Rattle.utf8.specs.Check.{isStart, onward, tailsOf, isOpen, fitsAfter, headsFit, AllFit, pendingIn};
 
 // The longest block that is tested for being ASCII: the largest power of two whose count of bytes fits a byte.
@@ -62,10 +62,10 @@ fn lead_ones(a: u8) -> usize
     u8::leading_zeros(!a) as usize
 }
 
-// Reports whether the first byte of `rest`, which starts a character of `n` bytes, is followed by the others.
+// Reports whether the first `n` bytes of `rest`, whose first byte starts a character of at least as many, can be its first bytes.
 fn has_tails(rest: &[u8], n: usize) -> bool
-    requires { ⌜ (128 ≤ getD (now rest) 0 0) × (n ≡ suc (length (tailsOf (getD (now rest) 0 0)))) × (2 ≤ n) × (n ≤ 4) × (n ≤ length (now rest)) ⌝ }
-    ensures { λ r. ⌜ r ≡ fits inside (tailsOf (getD (now (rest .entry)) 0 0)) (drop 1 (now (rest .entry))) ⌝ }
+    requires { ⌜ (128 ≤ getD (now rest) 0 0) × (n ≤ suc (length (tailsOf (getD (now rest) 0 0)))) × (2 ≤ n) × (n ≤ 4) × (n ≤ length (now rest)) ⌝ }
+    ensures { λ r. ⌜ r ≡ fits inside (take (n - 1) (tailsOf (getD (now (rest .entry)) 0 0))) (drop 1 (now (rest .entry))) ⌝ }
 {
     let two = goes_on(rest[0], rest[1]);
     if n == 2 {
@@ -237,4 +237,25 @@ pub fn valid_to(text: &[u8]) -> usize
         i = n;
     }
     i
+}
+
+// Reports whether `rest`, the bytes after the longest valid prefix of a text, is the start of a character that more bytes could complete.
+pub fn is_cut(rest: &[u8]) -> bool
+    requires { ⌜ 0 < length (now rest) ⌝ }
+    ensures { λ r. ⌜ r ≡ isCut (now (rest .entry)) ⌝ }
+{
+    let a = rest[0];
+    if a < 0x80 {
+        return false;
+    }
+    if !is_start(a) {
+        return false;
+    }
+    if lead_ones(a) <= rest.len() {
+        return false;
+    }
+    if rest.len() == 1 {
+        return true;
+    }
+    has_tails(rest, rest.len())
 }

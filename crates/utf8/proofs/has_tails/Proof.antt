@@ -1,4 +1,4 @@
--- `has_tails` meets its contract: as many ranges are asked for as the character has bytes after its first.
+-- `has_tails` meets its contract: as many ranges are asked for as there are bytes to test after the first.
 -- Assumes nothing.
 use mathlib.Core.Bool.{and-true, and-assoc}
 use mathlib.Core.Path.{_≡_}
@@ -19,7 +19,7 @@ goes-on-requires c κs = search needs
 returns : tie.Need-returns
 returns c =
     let a = c .before .before .before .before .before .args in
-    rw (second-tail (a .rest .now) (a .n) (search needs) (search needs) (search needs), c .if1 .taken, and-true) (c .before .goes-on .ensures)
+    rw (second-tail (a .rest .now) (a .n) (search needs) (search needs) (search needs) (search needs), c .if1 .taken, and-true) (c .before .goes-on .ensures)
 
 shared-slice-read-is-within : tie.Need-shared-slice-read-is-within
 shared-slice-read-is-within c = search needs
@@ -32,7 +32,7 @@ returns-2 c =
     let g = c .before .before .before .before in
     let s = g .before .before .before .before .args .rest .now in
     let n = g .before .before .before .before .args .n in
-    rw (second-tail s n (search needs) (search needs) (search needs), next-tail s n 2 (search needs) (search needs), c .if2 .taken, and-true)
+    rw (second-tail s n (search needs) (search needs) (search needs) (search needs), next-tail s n 2 (search needs) (search needs), c .if2 .taken, and-true)
     (rw (g .goes-on .ensures, c .before .is-within .ensures))
 
 shared-slice-read-is-within-2 : tie.Need-shared-slice-read-is-within-2
@@ -48,7 +48,7 @@ returns-3 c =
     let s = g .before .before .before .before .args .rest .now in
     let n = g .before .before .before .before .args .n in
     let e : n ≡ 4 = search needs in
-    rw (second-tail s n (search needs) (search needs) (search needs), next-tail s n 2 (search needs) (search needs), next-tail s n 3 (search needs) (search needs), e, and-true)
+    rw (second-tail s n (search needs) (search needs) (search needs) (search needs), next-tail s n 2 (search needs) (search needs), next-tail s n 3 (search needs) (search needs), e, and-true)
     (rw (← g .goes-on .ensures, ← w .is-within .ensures, ← c .is-within2 .ensures, and-assoc))
 
 pub has-tails-spec : {M : Type 1} → statement M

@@ -54,8 +54,9 @@ returns-5 c =
     let start = sym (f .ensures) ∙ not-false (f .result) (c .before .before .before .before .if3 .left) in
     let k = c .before .before .before .before .before .before .before in
     let s = k .before .before .before .args .rest .now in
+    let n = c .before .before .before .lead-ones in
     let tails = sym (c .before .has-tails .ensures) ∙ c .if5 .taken in
-    (c .before .before .before .lead-ones .ensures .0 ∙ sym (size-more s (search needs) (k .shared-slice-known2 .given 0 .fits) start true tails), search needs, search needs)
+    (sym (size-more s (search needs) (k .shared-slice-known2 .given 0 .fits) start (n .result) (n .ensures .0) true tails), search needs, search needs)
 
 returns-6 : tie.Need-returns-6
 returns-6 c =
@@ -63,8 +64,9 @@ returns-6 c =
     let start = sym (f .ensures) ∙ not-false (f .result) (c .before .before .before .before .if3 .left) in
     let k = c .before .before .before .before .before .before .before in
     let s = k .before .before .before .args .rest .now in
+    let n = c .before .before .before .lead-ones in
     let tails = sym (c .before .has-tails .ensures) ∙ c .if5 .left in
-    (sym (size-more s (search needs) (k .shared-slice-known2 .given 0 .fits) start false tails), search needs, search needs)
+    (sym (size-more s (search needs) (k .shared-slice-known2 .given 0 .fits) start (n .result) (n .ensures .0) false tails), search needs, search needs)
 
 pub sequence-spec : {M : Type 1} → statement M
 sequence-spec =
