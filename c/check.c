@@ -76,6 +76,8 @@ static void check_refusals(uint32_t which)
     check(is(of(which, contexts[which], "a", OUTPUT), LINTELRYE_BAD_CONTEXT, 0, 0, 0) && holds(""), "bad context", which);
     check(is(of(which, UINT32_MAX, "a", OUTPUT), LINTELRYE_BAD_CONTEXT, 0, 0, 0) && holds(""), "worst context", which);
     check(is(of(which, 1, "a\xC3(", OUTPUT), LINTELRYE_NOT_UTF8, 0, 0, 1) && holds(""), "not UTF-8", which);
+    check(is(of(which, 1, "a\xE0\x9F", OUTPUT), LINTELRYE_NOT_UTF8, 0, 0, 1) && holds(""), "not UTF-8, however it goes on", which);
+    check(is(of(which, 1, "a\xE2\x82", OUTPUT), LINTELRYE_CUT_SHORT, 0, 0, 1) && holds(""), "cut short", which);
     check(is(calls[which](1, letters, sizeof letters, output, OUTPUT), LINTELRYE_TOO_LONG, 0, 0, 0) && holds(""), "too long", which);
     if (which % 2 == 0) {
         check(is(of(which, 1, "abc", 2), LINTELRYE_NO_ROOM, 3, 0, 0) && holds(""), "no room to copy", which);

@@ -56,14 +56,16 @@ enum lintelrye_context {
     LINTELRYE_SCRIPT_RAW = 13    /* the whole text of a script element, in one call; encode only; no JSON encoder (<!-- becomes <\!--) */
 };
 
-/* The statuses. Where several refusals apply, the first of this order is given: BAD_CONTEXT, TOO_LONG, NOT_UTF8, NOT_A_FORM, NO_ROOM. */
+/* The statuses. Where several refusals apply, the first of this order is given: BAD_CONTEXT, TOO_LONG, NOT_UTF8 or CUT_SHORT (never both), NOT_A_FORM,
+ * NO_ROOM. */
 enum lintelrye_status {
     LINTELRYE_PASSED = 0,
-    LINTELRYE_TOO_LONG = 1,   /* the text is longer than LINTELRYE_TEXT_LIMIT bytes */
-    LINTELRYE_NOT_UTF8 = 2,   /* the text is not valid UTF-8; `place` is the length of its longest valid prefix */
-    LINTELRYE_NO_ROOM = 3,    /* the output is shorter than the result; `length` is the length needed */
-    LINTELRYE_NOT_A_FORM = 4, /* read only: encode writes no such text; `place` is the length of its longest prefix that encode writes */
-    LINTELRYE_BAD_CONTEXT = 5 /* the operation has no such context: encode has 0 to 13, decode and read 0 to 12, browse 0 to 6 */
+    LINTELRYE_TOO_LONG = 1,    /* the text is longer than LINTELRYE_TEXT_LIMIT bytes */
+    LINTELRYE_NOT_UTF8 = 2,    /* the text is not valid UTF-8, and not cut short; `place` is the length of its longest valid prefix */
+    LINTELRYE_NO_ROOM = 3,     /* the output is shorter than the result; `length` is the length needed */
+    LINTELRYE_NOT_A_FORM = 4,  /* read only: encode writes no such text; `place` is the length of its longest prefix that encode writes */
+    LINTELRYE_BAD_CONTEXT = 5, /* the operation has no such context: encode has 0 to 13, decode and read 0 to 12, browse 0 to 6 */
+    LINTELRYE_CUT_SHORT = 7    /* the text ends within a character that more bytes could complete; `place` is where that character begins */
 };
 
 /* The answer of a call. */
@@ -71,7 +73,7 @@ typedef struct lintelrye_answer {
     uint64_t status; /* LINTELRYE_PASSED, or the refusal */
     uint64_t length; /* the result's length; after NO_ROOM the length needed; after any other refusal 0 */
     uint64_t same;   /* 1 exactly if nothing was replaced, so that the result is the text; after a refusal 0 */
-    uint64_t place;  /* after NOT_UTF8 and NOT_A_FORM the length of the longest correct prefix; otherwise 0 */
+    uint64_t place;  /* after NOT_UTF8, CUT_SHORT and NOT_A_FORM the length of the longest correct prefix; otherwise 0 */
 } lintelrye_answer;
 
 /* encode: escapes the text for the context. Every character that the context replaces is replaced, everything else is copied. */

@@ -37,9 +37,14 @@ pub enum Refusal {
     BadContext,
     /// The text is longer than [`TEXT_LIMIT`].
     TooLong,
-    /// The text is not valid UTF-8.
+    /// The text is not valid UTF-8, and not cut short.
     NotUtf8 {
         /// The length of its longest valid prefix.
+        place: usize,
+    },
+    /// The text ends within a character that more bytes could complete, and is valid up to there. Never both this and [`Refusal::NotUtf8`].
+    CutShort {
+        /// Where that character begins: the length of the longest valid prefix.
         place: usize,
     },
     /// [`read`] only: [`encode`] writes no such text.
@@ -62,6 +67,7 @@ impl fmt::Display for Refusal {
             Refusal::BadContext => write!(f, "the operation has no such context"),
             Refusal::TooLong => write!(f, "the text is longer than {} bytes", TEXT_LIMIT),
             Refusal::NotUtf8 { place } => write!(f, "the text is not valid UTF-8 from byte {} on", place),
+            Refusal::CutShort { place } => write!(f, "the text ends within the character that begins at byte {}", place),
             Refusal::NotAForm { place } => write!(f, "the text is not what encode writes from byte {} on", place),
             Refusal::NoRoom { needed } => write!(f, "the result needs {} bytes of room", needed),
             Refusal::WrongArchive => write!(f, "another archive than this version's is linked"),
@@ -148,6 +154,7 @@ fn refusal(answer: Answer) -> Refusal {
         raw::BAD_CONTEXT => Refusal::BadContext,
         raw::TOO_LONG => Refusal::TooLong,
         raw::NOT_UTF8 => Refusal::NotUtf8 { place: answer.place as usize },
+        raw::CUT_SHORT => Refusal::CutShort { place: answer.place as usize },
         raw::NOT_A_FORM => Refusal::NotAForm { place: answer.place as usize },
         raw::NO_ROOM => Refusal::NoRoom { needed: answer.length as usize },
         _ => Refusal::WrongArchive,

@@ -44,12 +44,13 @@
 //! A buffer of [`encoded_at_most`] bytes is enough to encode any text of that length, one of [`decoded_at_most`] bytes to decode or browse it, and one as long
 //! as the text to read it. [`Refusal::NoRoom`] says what one text needs.
 //!
-//! A text is a `&str`, or bytes: the library checks UTF-8 itself.
+//! A text is a `&str`, or bytes: the library checks UTF-8 itself, and tells a text that was cut within its last character from a broken one.
 //!
 //! ```
 //! use lintelrye::Refusal;
 //! let mut line = [0; 240];
 //! assert_eq!(lintelrye::encode_text(b"a\xC3(", &mut line), Err(Refusal::NotUtf8 { place: 1 }));
+//! assert_eq!(lintelrye::encode_text(b"a\xC3", &mut line), Err(Refusal::CutShort { place: 1 }));
 //! assert_eq!(line, [0; 240]);
 //! ```
 //!

@@ -11,7 +11,7 @@ pub struct Answer {
     pub length: u64,
     /// 1 exactly if nothing was replaced, so that the result is the text; after a refusal 0.
     pub same: u64,
-    /// After [`NOT_UTF8`] and [`NOT_A_FORM`] the length of the longest correct prefix; otherwise 0.
+    /// After [`NOT_UTF8`], [`CUT_SHORT`] and [`NOT_A_FORM`] the length of the longest correct prefix; otherwise 0.
     pub place: u64,
 }
 
@@ -19,7 +19,7 @@ pub struct Answer {
 pub const PASSED: u64 = 0;
 /// The text is longer than [`TEXT_LIMIT`](crate::TEXT_LIMIT).
 pub const TOO_LONG: u64 = 1;
-/// The text is not valid UTF-8.
+/// The text is not valid UTF-8, and not cut short.
 pub const NOT_UTF8: u64 = 2;
 /// The output is shorter than the result.
 pub const NO_ROOM: u64 = 3;
@@ -27,6 +27,8 @@ pub const NO_ROOM: u64 = 3;
 pub const NOT_A_FORM: u64 = 4;
 /// The operation has no such context.
 pub const BAD_CONTEXT: u64 = 5;
+/// The text ends within a character that more bytes could complete, and is valid up to there.
+pub const CUT_SHORT: u64 = 7;
 
 macro_rules! exported {
     ($($name:ident is $symbol:ident: $does:literal;)*) => {

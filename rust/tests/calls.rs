@@ -63,6 +63,8 @@ fn refusals_leave_the_buffer() {
                 let refused = |refusal| if number < contexts { refusal } else { Refusal::BadContext };
                 assert_eq!(call(*context, &long, &mut output), Err(refused(Refusal::TooLong)));
                 assert_eq!(call(*context, b"ab\xED\xA0\x80", &mut output), Err(refused(Refusal::NotUtf8 { place: 2 })));
+                assert_eq!(call(*context, b"ab\xED\xA0", &mut output), Err(refused(Refusal::NotUtf8 { place: 2 })));
+                assert_eq!(call(*context, b"ab\xED\x9F", &mut output), Err(refused(Refusal::CutShort { place: 2 })));
             }
             assert_eq!(output, [0xEE; 32]);
         }
@@ -91,6 +93,7 @@ fn results_and_refusals_in_words() {
     assert_eq!(format!("[{:>6}]", lintelrye::encode_text("<", &mut output).unwrap()), "[  &lt;]");
     assert_eq!(lintelrye::encode_text("<", &mut []).unwrap_err().to_string(), "the result needs 4 bytes of room");
     assert_eq!(lintelrye::encode_text(b"a\xFF", &mut []).unwrap_err().to_string(), "the text is not valid UTF-8 from byte 1 on");
+    assert_eq!(lintelrye::encode_text(b"a\xC3", &mut []).unwrap_err().to_string(), "the text ends within the character that begins at byte 1");
 }
 
 #[test]
