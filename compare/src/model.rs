@@ -13,6 +13,7 @@ pub const NOT_UTF8: u64 = 2;
 pub const NO_ROOM: u64 = 3;
 pub const NOT_A_FORM: u64 = 4;
 pub const BAD_CONTEXT: u64 = 5;
+pub const CUT_SHORT: u64 = 7;
 
 /// What an operation makes of a text, before any output is looked at. After a refusal the result is empty.
 #[derive(Clone, Debug, PartialEq, Eq)]
@@ -78,7 +79,11 @@ impl Model {
         }
         let text = match std::str::from_utf8(text) {
             Ok(text) => text,
-            Err(error) => return Outcome::refused(NOT_UTF8, error.valid_up_to()),
+            Err(error) => {
+                // Rust gives an invalid sequence a length, and none where the text ends before the sequence does.
+                let status = if error.error_len().is_none() { CUT_SHORT } else { NOT_UTF8 };
+                return Outcome::refused(status, error.valid_up_to());
+            }
         };
         let context = context as usize;
         match operation {

@@ -4,7 +4,7 @@
 //! around the result's. The four numbers, every byte written and every byte that is to stay are compared with what compare/src/model.rs works out
 //! from the crate. A text that differs is made as short as it can be and printed. The exit status is 1 where anything differs.
 
-use compare::model::{has_context, Model, Outcome, LONGEST, PASSED};
+use compare::model::{has_context, Model, Outcome, CUT_SHORT, LONGEST, NOT_UTF8, PASSED};
 use compare::{call, Answer, Numbers, Operation, CONTEXTS, CRATE_LENDING_DECODERS, CRATE_LENDING_ENCODERS, OPERATIONS};
 use std::time::{Duration, Instant};
 
@@ -202,6 +202,8 @@ struct Run {
     cases: [[u64; 15]; 4],
     differ: [[u64; 15]; 4],
     passed: u64,
+    broken: u64,
+    cut_short: u64,
     read_back: u64,
     as_decoded: u64,
     shown: Vec<(Operation, u32, Vec<u8>)>,
@@ -230,6 +232,12 @@ impl Run {
 
     fn case(&mut self, operation: Operation, context: u32, text: &[u8]) {
         let outcome = self.model.outcome(operation, context, text);
+        match outcome.status {
+            PASSED => self.passed += 1,
+            NOT_UTF8 => self.broken += 1,
+            CUT_SHORT => self.cut_short += 1,
+            _ => {}
+        }
         self.cross_check(operation, context, text, &outcome);
         let slot = context.min(14) as usize;
         self.cases[operation as usize][slot] += 1;
@@ -249,7 +257,6 @@ impl Run {
         if outcome.status != PASSED {
             return;
         }
-        self.passed += 1;
         let text = std::str::from_utf8(text).unwrap();
         if operation == Operation::Read {
             let meant = std::str::from_utf8(&outcome.result).unwrap();
@@ -290,6 +297,7 @@ impl Run {
             }
         }
         println!("{} cases, {} calls, {} differ; {} cases passed, the others are refusals", self.ran(), 2 * self.ran(), self.differing(), self.passed);
+        println!("of the refusals {} are NOT_UTF8 and {} CUT_SHORT, as error_len of from_utf8 parts them;", self.broken, self.cut_short);
         println!("encode and decode were compared with the crate, refusals with from_utf8 and the table of RULES 13.3, each with the bytes that must keep their values;");
         println!("read with the units that the crate's encoders write, and {} times the crate wrote what was read back to the same text;", self.read_back);
         println!("browse with RULES 10.5 for numbers and the crate's decode of names, and {} times with the crate's decode alone", self.as_decoded);
@@ -320,7 +328,7 @@ fn main() {
     let cases = option("--cases", 10_000_000);
     let seed = option("--seed", 1);
     let texts = Texts { numbers: Numbers(seed) };
-    let mut run = Run { model: Model::new(), texts, cases: [[0; 15]; 4], differ: [[0; 15]; 4], passed: 0, read_back: 0, as_decoded: 0, shown: Vec::new() };
+    let mut run = Run { model: Model::new(), texts, cases: [[0; 15]; 4], differ: [[0; 15]; 4], passed: 0, broken: 0, cut_short: 0, read_back: 0, as_decoded: 0, shown: Vec::new() };
     let mut told = Instant::now();
     while run.ran() < cases {
         for _ in 0..256 {

@@ -279,7 +279,9 @@ fn sequences_of_bytes(list: &mut List) {
             }
         }
     }
-    for text in [&[0x61, 0xC3, 0x28][..], &[0xED, 0xA0, 0x80], &[0xF4, 0x90, 0x80, 0x80], &[0xF0, 0x8F, 0xBF, 0xBF]] {
+    let broken = [&[0x61, 0xC3, 0x28][..], &[0xED, 0xA0, 0x80], &[0xF4, 0x90, 0x80, 0x80], &[0xF0, 0x8F, 0xBF, 0xBF], &[0x61, 0xE0, 0x9F]];
+    let cut_short = [&[0x61, 0xC3][..], &[0x61, 0xE2, 0x82], &[0x61, 0xF0, 0x9F, 0x99]];
+    for text in broken.into_iter().chain(cut_short) {
         list.cases(&OPERATIONS, &ALL, text, Rooms::Three);
     }
 }
@@ -318,7 +320,7 @@ fn refusals(list: &mut List) {
     let contexts: Vec<u32> = (0..=25).filter(|&context| context < 25).chain([u32::MAX]).collect();
     let long = vec![b'<'; LONGEST + 1];
     let broken = vec![0x80; LONGEST + 1];
-    for text in [&b""[..], b"a", b"&amp;", b"<", b"&\x80", b"\x80", &long, &broken, &broken[1..]] {
+    for text in [&b""[..], b"a", b"&amp;", b"<", b"&\x80", b"\x80", b"&\xC3", &long, &broken, &broken[1..]] {
         list.cases(&OPERATIONS, &contexts, text, Rooms::Three);
     }
 }
