@@ -95,8 +95,8 @@ lintelrye_answer lintelrye_read(uint32_t context, const uint8_t *text, size_t te
 /* read as a borrowing call. */
 lintelrye_answer lintelrye_read_borrowing(uint32_t context, const uint8_t *text, size_t text_length, uint8_t *output, size_t output_length);
 
-/* browse: as decode in contexts 0 to 6, but every numeric reference is replaced: 0, surrogates and numbers above 10FFFF hex by U+FFFD, as in a
- * browser, and every other number by its character. */
+/* browse: as decode in contexts 0 to 6, but every numeric reference is replaced, as in a browser: 0, surrogates and numbers above 10FFFF hex by U+FFFD,
+ * 27 numbers from 80 to 9F hex by the character that windows-1252 has there (&#150; by an en dash), and every other number by its character. */
 lintelrye_answer lintelrye_browse(uint32_t context, const uint8_t *text, size_t text_length, uint8_t *output, size_t output_length);
 
 /* browse as a borrowing call. */

@@ -184,6 +184,12 @@ fn browse(text: &str) -> Outcome {
     Outcome::passed(result.into_bytes(), same)
 }
 
+/// What a browser takes the numbers from 80 to 9F hex for: the bytes of windows-1252, and the control character for the five that it leaves free.
+const WINDOWS: [char; 32] = [
+    '€', '\u{81}', '‚', 'ƒ', '„', '…', '†', '‡', 'ˆ', '‰', 'Š', '‹', 'Œ', '\u{8D}', 'Ž', '\u{8F}', //
+    '\u{90}', '‘', '’', '“', '”', '•', '–', '—', '˜', '™', 'š', '›', 'œ', '\u{9D}', 'ž', 'Ÿ',
+];
+
 /// What a browser takes one reference for: from its `&` to its `;`.
 fn browsed(reference: &str) -> Cow<'_, str> {
     let body = &reference[1..reference.len() - 1];
@@ -197,6 +203,9 @@ fn browsed(reference: &str) -> Cow<'_, str> {
         return Cow::Borrowed(reference);
     }
     let number = digits.chars().fold(0, |n: u32, c| (n * base + c.to_digit(base).unwrap()).min(0x11_0000));
-    let meant = char::from_u32(number).filter(|&c| c != '\0').unwrap_or('\u{FFFD}');
+    let meant = match number {
+        0x80..=0x9F => WINDOWS[number as usize - 0x80],
+        _ => char::from_u32(number).filter(|&c| c != '\0').unwrap_or('\u{FFFD}'),
+    };
     Cow::Owned(meant.to_string())
 }

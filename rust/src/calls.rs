@@ -232,13 +232,14 @@ operation! {
 }
 
 operation! {
-    /// As [`decode`] in the first seven contexts, but every numeric reference is replaced: 0, surrogates and numbers above 10FFFF hex by U+FFFD, as in a
-    /// browser, and every other number by its character.
+    /// As [`decode`] in the first seven contexts, but every numeric reference is replaced, as in a browser: 0, surrogates and numbers above 10FFFF hex by
+    /// U+FFFD, 27 numbers from 80 to 9F hex by the character that windows-1252 has there, and every other number by its character.
     ///
     /// ```
     /// use lintelrye::{browse, Context};
     /// let mut line = [0; 16];
     /// assert_eq!(browse(Context::Text, "&#0;", &mut line)?, "\u{FFFD}");
+    /// assert_eq!(browse(Context::Text, "&#150;", &mut line)?, "\u{2013}");
     /// # Ok::<(), lintelrye::Refusal>(())
     /// ```
     browse browse_borrowing

@@ -230,13 +230,13 @@ fn names(list: &mut List) {
     }
 }
 
-/// Numeric references: small numbers, the edges, signs, leading zeros, numbers past 32 and 64 bits.
+/// Numeric references: small numbers, those that browse takes for others, the edges, signs, leading zeros, numbers past 32 and 64 bits.
 fn numbers(list: &mut List) {
     list.remark("numeric references");
-    let edges = [127, 128, 159, 160, 255, 256, 0x7FF, 0x800, 0xD7FF, 0xD800, 0xDFFF, 0xE000, 0xFFFD, 0xFFFF, 0x1_0000, 0x10_FFFF, 0x11_0000];
+    let edges = [127, 160, 255, 256, 0x7FF, 0x800, 0xD7FF, 0xD800, 0xDFFF, 0xE000, 0xFFFD, 0xFFFF, 0x1_0000, 0x10_FFFF, 0x11_0000];
     let past = [0x7FFF_FFFF, 0x8000_0000, 0xFFFF_FFFF, 0x1_0000_0000, 0x1_0000_0041, u64::MAX];
     let mut bodies: Vec<String> = Vec::new();
-    for n in (0..=64).chain(edges).chain(past) {
+    for n in (0..=64).chain(0x80..=0x9F).chain(edges).chain(past) {
         bodies.extend([format!("#{}", n), format!("#x{:X}", n), format!("#X{:x}", n), format!("#00000000000000000000{}", n), format!("#x0000000000000000{:x}", n)]);
     }
     let odd = ["#", "#x", "#X", "#+65", "#-65", "#x+41", "#x-41", "# 65", "#65 ", "#6_5", "#x4G", "#6A", "#xx41", "##65", "#18446744073709551681", "#x10000000000000041"];

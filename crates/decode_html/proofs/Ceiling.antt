@@ -10,10 +10,11 @@ use Prim.Native.Nat.{ℕ, _+_, _*_, _≤_, _<_}
 use native.Mathlib.Nat.{le-mul-of-pos-right}
 use native.Mathlib.Omega.{arith}
 use borrow.Author.Tests.{leb-true, leb-false, lt-ltb, le-ltb, lt-leb}
-use lib.Dec.{leb}
+use lib.Dec.{T, leb, leb→le}
 use lib.ListN.{length, drop, getD, drop-of-length-le}
 use Rattle.rules.specs.Bytes.{inside}
 use Rattle.rules.specs.References.{digit, hexDigitAt, digits, number, scalar}
+use Rattle.rules.proofs.Tests.{and-left}
 use Rattle.rules.proofs.Loops.{drop-next}
 use Rattle.decode_html.specs.declared.Numbers.{Numbers}
 use Rattle.decode_html.specs.declared.Numbers.the-variants.{Decoded, Browsed}
@@ -21,12 +22,6 @@ use Rattle.decode_html.specs.declared.digits.Number.{Number}
 use Rattle.decode_html.specs.Taking.{charBy, charOf}
 use Rattle.base.specs.Digits.{below}
 use Rattle.decode_html.specs.Digits.{digitBy, ceilingOf, capped, found}
-
--- ---- tests
-
-pub both-left : (a b : Bool) → a && b ≡ true → a ≡ true
-both-left true b e = refl
-both-left false b e = e
 
 -- ---- the ceiling
 
@@ -114,8 +109,8 @@ number-some d base (b ∷ s) h = refl
 
 -- ---- characters
 
-pub scalar-most : (n : ℕ) → scalar n ≡ true → n ≤ 0x10FFFF
-scalar-most n e = leb-true n 0x10FFFF (both-left (leb n 0x10FFFF) (not (inside (0xD800, 0xDFFF) n)) e)
+pub scalar-most : (n : ℕ) → T (scalar n) → n ≤ 0x10FFFF
+scalar-most n t = leb→le n 0x10FFFF (and-left (leb n 0x10FFFF) (not (inside (0xD800, 0xDFFF) n)) t)
 
 -- Every number above the last character's stands for the same.
 char-capped : (numbers : Numbers) (o : Option ℕ) → charOf (charBy numbers) (capped o) ≡ charOf (charBy numbers) o

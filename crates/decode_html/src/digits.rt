@@ -5,7 +5,7 @@ ghost use mathlib.Core.Path.{_≡_};
 ghost use mathlib.Core.List.{[], _∷_};
 ghost use lib.Dec.{leb, eqb};
 ghost use Rattle.rules.specs.Bytes.{oneOf};
-ghost use Rattle.rules.specs.References.{digit, hexDigitAt, number, numberOf, scalar, decodeChar, browseChar, meaning};
+ghost use Rattle.rules.specs.References.{digit, hexDigitAt, number, numberOf, scalar, decodeChar, renumbering, standsFor, browseChar, meaning};
 ghost use Rattle.rules.specs.Answers.{meaningBytes};
 ghost use Rattle.base.specs.Digits.{below};
 ghost use Rattle.decode_html.specs.Taking.{charBy, RealMeaning};
@@ -95,6 +95,48 @@ fn decoded(number: u32) -> Meaning
     Meaning::Nothing
 }
 
+// Returns the number that a number stands for in browse. The two tests come first, since nearly every number ends there.
+fn stands_for(number: u32) -> u32
+    ensures { λ r. ⌜ r ≡ standsFor renumbering number ⌝ }
+{
+    if number < 0x80 {
+        return number;
+    }
+    if 0x9F < number {
+        return number;
+    }
+    match number {
+        0x80 => 0x20AC,
+        0x82 => 0x201A,
+        0x83 => 0x0192,
+        0x84 => 0x201E,
+        0x85 => 0x2026,
+        0x86 => 0x2020,
+        0x87 => 0x2021,
+        0x88 => 0x02C6,
+        0x89 => 0x2030,
+        0x8A => 0x0160,
+        0x8B => 0x2039,
+        0x8C => 0x0152,
+        0x8E => 0x017D,
+        0x91 => 0x2018,
+        0x92 => 0x2019,
+        0x93 => 0x201C,
+        0x94 => 0x201D,
+        0x95 => 0x2022,
+        0x96 => 0x2013,
+        0x97 => 0x2014,
+        0x98 => 0x02DC,
+        0x99 => 0x2122,
+        0x9A => 0x0161,
+        0x9B => 0x203A,
+        0x9C => 0x0153,
+        0x9E => 0x017E,
+        0x9F => 0x0178,
+        _ => number,
+    }
+}
+
 // Returns the character of a number as a browser takes it: U+FFFD if it is 0 or no character.
 fn browsed(number: u32) -> Meaning
     ensures { λ r. ⌜ (meaningBytes r ≡ browseChar number) × RealMeaning r ⌝ }
@@ -103,7 +145,7 @@ fn browsed(number: u32) -> Meaning
         return Meaning::Value(DecodedEntityValue::Character(0xFFFD));
     }
     if is_scalar(number) {
-        return Meaning::Value(DecodedEntityValue::Character(number));
+        return Meaning::Value(DecodedEntityValue::Character(stands_for(number)));
     }
     Meaning::Value(DecodedEntityValue::Character(0xFFFD))
 }

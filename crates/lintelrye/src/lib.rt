@@ -108,7 +108,8 @@ pub fn read_borrowing(context: u32, text: &[u8], output: &mut [u8]) -> Answer
     call(Operation::Read, context, true, text, output)
 }
 
-// Undoes character references as decode does, but reads numbers as a browser does: 0, surrogates and numbers above 10FFFF hex give U+FFFD.
+// Undoes character references as decode does, but reads numbers as a browser does: 0, surrogates and numbers above 10FFFF hex give U+FFFD, and 27
+// numbers from 80 to 9F hex the characters of windows-1252, an en dash for `&#150;`.
 pub fn browse(context: u32, text: &[u8], output: &mut [u8]) -> Answer
     ensures { λ r. ⌜ Allowed Browse (contextOf context) false (now (text .entry)) (now (output .entry)) r (now (output .exit)) ⌝ }
 {

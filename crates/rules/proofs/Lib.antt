@@ -13,6 +13,7 @@ pub mod Search
 pub mod Growth
 pub mod Whole
 pub mod Names
+pub mod Numbers
 pub mod Characters
 pub mod Texts
 pub mod Laws

@@ -16,7 +16,7 @@ use Rattle.rules.specs.Utf8.{sequences, IsChar, IsText, utf8, substitute
 use Rattle.rules.specs.Tables.{Row, key, value, rows}
 use Rattle.rules.specs.Encoding.{rawStep, parted}
 use Rattle.rules.specs.Names.{names}
-use Rattle.rules.specs.References.{scalar, decodeChar, browseChar, numberOf, lookup, meaning, referenceStep, browseStep}
+use Rattle.rules.specs.References.{scalar, decodeChar, renumbering, standsFor, browseChar, numberOf, lookup, meaning, referenceStep, browseStep}
 use Rattle.rules.specs.Operations.{decodeStep, decodeOf, browseOf, rawOf}
 use Rattle.rules.specs.declared.Context.{Context}
 use Rattle.rules.specs.declared.Context.the-variants.{InHtml, InScript, InStyle}
@@ -29,6 +29,7 @@ use Rattle.rules.proofs.Encoder.{text-append}
 use Rattle.rules.proofs.Growth.{raw-whole}
 use Rattle.rules.proofs.Whole.{reference-fair, escape-fair, decode-whole, browse-whole}
 use Rattle.rules.proofs.Names.{value-valid}
+use Rattle.rules.proofs.Numbers.{stands-scalar}
 use Rattle.rules.proofs.Characters.{utf8-char, char-text}
 
 -- ---- lists
@@ -173,10 +174,10 @@ decode-char n v e = go (scalar n && (leb 32 n || oneOf (9 ∷ 10 ∷ 12 ∷ 13 �
     go false f e = absurd (Option·none-ne-some v e)
 
 browse-char : (n : ℕ) (v : List ℕ) → browseChar n ≡ some v → IsText v
-browse-char n v e = subst IsText (Option·some-injective (cond (scalar n && not (eqb n 0)) (utf8 n) substitute) v e) (go (scalar n && not (eqb n 0)) refl)
+browse-char n v e = subst IsText (Option·some-injective (cond (scalar n && not (eqb n 0)) (utf8 (standsFor renumbering n)) substitute) v e) (go (scalar n && not (eqb n 0)) refl)
   where
-    go : (b : Bool) → scalar n && not (eqb n 0) ≡ b → IsText (cond b (utf8 n) substitute)
-    go true f = scalar-text n (and-left (scalar n) (not (eqb n 0)) (subst T (sym f) tt))
+    go : (b : Bool) → scalar n && not (eqb n 0) ≡ b → IsText (cond b (utf8 (standsFor renumbering n)) substitute)
+    go true f = scalar-text (standsFor renumbering n) (stands-scalar n (and-left (scalar n) (not (eqb n 0)) (subst T (sym f) tt)))
     go false f = char-text substitute (is-char substitute tt)
 
 meaning-text : (char : ℕ → Option (List ℕ)) → ((n : ℕ) (v : List ℕ) → char n ≡ some v → IsText v) → (body v : List ℕ) → meaning char body ≡ some v → IsText v

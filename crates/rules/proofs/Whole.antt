@@ -17,7 +17,7 @@ use Rattle.rules.specs.declared.Context.{Context}
 use Rattle.rules.specs.declared.Context.the-variants.{InHtml, InScript, InStyle}
 use Rattle.rules.specs.Encoding.{keepByte, closes, anyCase, terminators}
 use Rattle.rules.specs.Reading.{undo}
-use Rattle.rules.specs.References.{digit, hexDigitAt, number, onto, bodyOf, numberOf, scalar, decodeChar, browseChar, valueOf, lookup, meaning, refer, atAmp, referenceBy, referenceStep, browseStep}
+use Rattle.rules.specs.References.{digit, hexDigitAt, number, onto, bodyOf, numberOf, scalar, decodeChar, renumbering, standsFor, browseChar, valueOf, lookup, meaning, refer, atAmp, referenceBy, referenceStep, browseStep}
 use Rattle.rules.specs.Escapes.{afterLess, escapeBy}
 use Rattle.rules.specs.Operations.{decodeStep}
 use Rattle.rules.proofs.Tests.{and-left, and-right, or-false, all-in, first-sound, stands-split, same-bytes}
@@ -61,10 +61,13 @@ decode-short n v e = go (scalar n && (leb 32 n || oneOf (9 ∷ 10 ∷ 12 ∷ 13 
     go false e = absurd (Option·none-ne-some v e)
 
 browse-short : Short browseChar
-browse-short n v e = subst (λ (l : List ℕ). length l ≤ 4) (Option·some-injective (cond (scalar n && not (eqb n 0)) (utf8 n) (utf8 0xFFFD)) v e) (go (scalar n && not (eqb n 0)))
+browse-short n v e = subst (λ (l : List ℕ). length l ≤ 4) (Option·some-injective (cond given (utf8 (standsFor renumbering n)) (utf8 0xFFFD)) v e) (go given)
   where
-    go : (b : Bool) → length (cond b (utf8 n) (utf8 0xFFFD)) ≤ 4
-    go true = utf8-four n
+    given : Bool
+    given = scalar n && not (eqb n 0)
+
+    go : (b : Bool) → length (cond b (utf8 (standsFor renumbering n)) (utf8 0xFFFD)) ≤ 4
+    go true = utf8-four (standsFor renumbering n)
     go false = utf8-four 0xFFFD
 
 -- A name's value is at most a fifth longer than the reference.

@@ -374,13 +374,62 @@ abbrev pub browsed : List Example
 browsed =
     example Browse (Units (InHtml Text)) (ascii "&#0;&#x0;") (0xEF ∷ 0xBF ∷ 0xBD ∷ 0xEF ∷ 0xBF ∷ 0xBD ∷ [])
     ∷ example Browse (Units (InHtml Text)) (ascii "&#1;&#8;&#11;&#14;&#31;") (0x01 ∷ 0x08 ∷ 0x0B ∷ 0x0E ∷ 0x1F ∷ [])
-    ∷ example Browse (Units (InHtml Text)) (ascii "&#127;&#128;&#159;") (0x7F ∷ 0xC2 ∷ 0x80 ∷ 0xC2 ∷ 0x9F ∷ [])
+    ∷ example Browse (Units (InHtml Text)) (ascii "&#127;&#128;&#159;&#160;") (0x7F ∷ 0xE2 ∷ 0x82 ∷ 0xAC ∷ 0xC5 ∷ 0xB8 ∷ 0xC2 ∷ 0xA0 ∷ [])
     ∷ example Browse (Units (InHtml Text)) (ascii "&#xD7FF;&#xD800;&#xDFFF;&#xE000;") (0xED ∷ 0x9F ∷ 0xBF ∷ substitute ++ substitute ++ 0xEE ∷ 0x80 ∷ 0x80 ∷ [])
     ∷ example Browse (Units (InHtml Text)) (ascii "&#x10FFFF;&#x110000;") (0xF4 ∷ 0x8F ∷ 0xBF ∷ 0xBF ∷ 0xEF ∷ 0xBF ∷ 0xBD ∷ [])
     ∷ example Browse (Units (InHtml Text)) (ascii "&#4294967296;&#4294967361;&#18446744073709551681;") (substitute ++ substitute ++ substitute)
     ∷ stays Browse (Units (InHtml Text)) (ascii "&#;&#x;&#+65;&bogus;&amp")
     ∷ example Browse (Units (InHtml Text)) (ascii "&lt;&amp;lt;") (ascii "<&lt;")
     ∷ []
+
+-- One reference after the other to the same number: decimal, hex, and both with leading zeros.
+abbrev pub spelled : String → String → List ℕ
+spelled decimal hex = ascii "&#" ++ ascii decimal ++ ascii ";&#x" ++ ascii hex ++ ascii ";&#0000000000" ++ ascii decimal ++ ascii ";&#X00" ++ ascii hex ++ ascii ";"
+
+-- What decode and browse give for each of them.
+abbrev pub highNumber : String → String → List ℕ → List ℕ → List Example
+highNumber decimal hex d b =
+    example Decode (Units (InHtml Text)) (spelled decimal hex) (d ++ d ++ d ++ d)
+    ∷ example Browse (Units (InHtml Text)) (spelled decimal hex) (b ++ b ++ b ++ b)
+    ∷ []
+
+-- The numbers from 80 to 9F: decode takes each for its own character, browse only five of them.
+abbrev pub highNumbers : List Example
+highNumbers =
+    join (
+    highNumber "128" "80" (0xC2 ∷ 0x80 ∷ []) (0xE2 ∷ 0x82 ∷ 0xAC ∷ [])
+    ∷ highNumber "129" "81" (0xC2 ∷ 0x81 ∷ []) (0xC2 ∷ 0x81 ∷ [])
+    ∷ highNumber "130" "82" (0xC2 ∷ 0x82 ∷ []) (0xE2 ∷ 0x80 ∷ 0x9A ∷ [])
+    ∷ highNumber "131" "83" (0xC2 ∷ 0x83 ∷ []) (0xC6 ∷ 0x92 ∷ [])
+    ∷ highNumber "132" "84" (0xC2 ∷ 0x84 ∷ []) (0xE2 ∷ 0x80 ∷ 0x9E ∷ [])
+    ∷ highNumber "133" "85" (0xC2 ∷ 0x85 ∷ []) (0xE2 ∷ 0x80 ∷ 0xA6 ∷ [])
+    ∷ highNumber "134" "86" (0xC2 ∷ 0x86 ∷ []) (0xE2 ∷ 0x80 ∷ 0xA0 ∷ [])
+    ∷ highNumber "135" "87" (0xC2 ∷ 0x87 ∷ []) (0xE2 ∷ 0x80 ∷ 0xA1 ∷ [])
+    ∷ highNumber "136" "88" (0xC2 ∷ 0x88 ∷ []) (0xCB ∷ 0x86 ∷ [])
+    ∷ highNumber "137" "89" (0xC2 ∷ 0x89 ∷ []) (0xE2 ∷ 0x80 ∷ 0xB0 ∷ [])
+    ∷ highNumber "138" "8A" (0xC2 ∷ 0x8A ∷ []) (0xC5 ∷ 0xA0 ∷ [])
+    ∷ highNumber "139" "8B" (0xC2 ∷ 0x8B ∷ []) (0xE2 ∷ 0x80 ∷ 0xB9 ∷ [])
+    ∷ highNumber "140" "8C" (0xC2 ∷ 0x8C ∷ []) (0xC5 ∷ 0x92 ∷ [])
+    ∷ highNumber "141" "8D" (0xC2 ∷ 0x8D ∷ []) (0xC2 ∷ 0x8D ∷ [])
+    ∷ highNumber "142" "8E" (0xC2 ∷ 0x8E ∷ []) (0xC5 ∷ 0xBD ∷ [])
+    ∷ highNumber "143" "8F" (0xC2 ∷ 0x8F ∷ []) (0xC2 ∷ 0x8F ∷ [])
+    ∷ highNumber "144" "90" (0xC2 ∷ 0x90 ∷ []) (0xC2 ∷ 0x90 ∷ [])
+    ∷ highNumber "145" "91" (0xC2 ∷ 0x91 ∷ []) (0xE2 ∷ 0x80 ∷ 0x98 ∷ [])
+    ∷ highNumber "146" "92" (0xC2 ∷ 0x92 ∷ []) (0xE2 ∷ 0x80 ∷ 0x99 ∷ [])
+    ∷ highNumber "147" "93" (0xC2 ∷ 0x93 ∷ []) (0xE2 ∷ 0x80 ∷ 0x9C ∷ [])
+    ∷ highNumber "148" "94" (0xC2 ∷ 0x94 ∷ []) (0xE2 ∷ 0x80 ∷ 0x9D ∷ [])
+    ∷ highNumber "149" "95" (0xC2 ∷ 0x95 ∷ []) (0xE2 ∷ 0x80 ∷ 0xA2 ∷ [])
+    ∷ highNumber "150" "96" (0xC2 ∷ 0x96 ∷ []) (0xE2 ∷ 0x80 ∷ 0x93 ∷ [])
+    ∷ highNumber "151" "97" (0xC2 ∷ 0x97 ∷ []) (0xE2 ∷ 0x80 ∷ 0x94 ∷ [])
+    ∷ highNumber "152" "98" (0xC2 ∷ 0x98 ∷ []) (0xCB ∷ 0x9C ∷ [])
+    ∷ highNumber "153" "99" (0xC2 ∷ 0x99 ∷ []) (0xE2 ∷ 0x84 ∷ 0xA2 ∷ [])
+    ∷ highNumber "154" "9A" (0xC2 ∷ 0x9A ∷ []) (0xC5 ∷ 0xA1 ∷ [])
+    ∷ highNumber "155" "9B" (0xC2 ∷ 0x9B ∷ []) (0xE2 ∷ 0x80 ∷ 0xBA ∷ [])
+    ∷ highNumber "156" "9C" (0xC2 ∷ 0x9C ∷ []) (0xC5 ∷ 0x93 ∷ [])
+    ∷ highNumber "157" "9D" (0xC2 ∷ 0x9D ∷ []) (0xC2 ∷ 0x9D ∷ [])
+    ∷ highNumber "158" "9E" (0xC2 ∷ 0x9E ∷ []) (0xC5 ∷ 0xBE ∷ [])
+    ∷ highNumber "159" "9F" (0xC2 ∷ 0x9F ∷ []) (0xC5 ∷ 0xB8 ∷ [])
+    ∷ [])
 
 -- One more byte of a digest.
 abbrev pub digestOf : ℕ → List ℕ → ℕ
@@ -394,6 +443,14 @@ digest table = digestOf 0 (join (map (λ (row : Row). key row ++ 0 ∷ value row
 -- What it is.
 abbrev pub namesDigest : ℕ
 namesDigest = 361911062
+
+-- A pair of numbers as a row: the first as one byte, and the bytes of the character of the second.
+abbrev pub asRow : ℕ × ℕ → Row
+asRow pair = (pair .0 ∷ [], utf8 (pair .1))
+
+-- The digest of the pairs of browse, made and compared in the same way.
+abbrev pub renumberingDigest : ℕ
+renumberingDigest = 658272577
 
 -- ---- answers that are enums
 
@@ -588,7 +645,7 @@ borrowing = passesIn 2 Encode (Units (InHtml Text)) (ascii "abc") (ascii "abc") 
 -- ---- all of these that are examples
 
 abbrev pub edges : List Example
-edges = closings ++ tags ++ escapes ++ references ++ browsed ++ readings ++ refusals ++ cuts
+edges = closings ++ tags ++ escapes ++ references ++ browsed ++ highNumbers ++ readings ++ refusals ++ cuts
 
 -- ---- the program
 

@@ -2,7 +2,7 @@
 -- Assumes nothing.
 use mathlib.Core.Bool.{Bool, not, _&&_, _||_, cond}
 use mathlib.Core.Option.{Option, none, some}
-use mathlib.Core.List.{List, [], _∷_, _++_}
+use mathlib.Core.List.{List, [], _∷_, _++_, map}
 use Prim.Native.Nat.{ℕ, _+_, _-_, _*_}
 use lib.Dec.{leb, eqb}
 use lib.ListN.{drop}
@@ -58,9 +58,50 @@ scalar n = leb n 0x10FFFF && not (inside (0xD800, 0xDFFF) n)
 abbrev pub decodeChar : ℕ → Option (List ℕ)
 decodeChar n = cond (scalar n && (leb 32 n || oneOf (9 ∷ 10 ∷ 12 ∷ 13 ∷ []) n)) (some (utf8 n)) none
 
--- browse: 0, surrogates and anything above 10FFFF give U+FFFD; every other number stands for itself.
+-- HTML Standard, "numeric character reference end state": 27 numbers between 80 and 9F, each with the number whose character it stands for.
+unfoldable pub renumbering : List (ℕ × ℕ)
+renumbering =
+    (0x80, 0x20AC)
+    ∷ (0x82, 0x201A)
+    ∷ (0x83, 0x0192)
+    ∷ (0x84, 0x201E)
+    ∷ (0x85, 0x2026)
+    ∷ (0x86, 0x2020)
+    ∷ (0x87, 0x2021)
+    ∷ (0x88, 0x02C6)
+    ∷ (0x89, 0x2030)
+    ∷ (0x8A, 0x0160)
+    ∷ (0x8B, 0x2039)
+    ∷ (0x8C, 0x0152)
+    ∷ (0x8E, 0x017D)
+    ∷ (0x91, 0x2018)
+    ∷ (0x92, 0x2019)
+    ∷ (0x93, 0x201C)
+    ∷ (0x94, 0x201D)
+    ∷ (0x95, 0x2022)
+    ∷ (0x96, 0x2013)
+    ∷ (0x97, 0x2014)
+    ∷ (0x98, 0x02DC)
+    ∷ (0x99, 0x2122)
+    ∷ (0x9A, 0x0161)
+    ∷ (0x9B, 0x203A)
+    ∷ (0x9C, 0x0153)
+    ∷ (0x9E, 0x017E)
+    ∷ (0x9F, 0x0178)
+    ∷ []
+
+-- Those 27 numbers.
+abbrev pub renumbered : List ℕ
+renumbered = map (λ (pair : ℕ × ℕ). pair .0) renumbering
+
+-- The number beside n in a table of pairs, or n itself where it is in none.
+abbrev pub standsFor : List (ℕ × ℕ) → ℕ → ℕ
+standsFor [] n = n
+standsFor (pair ∷ pairs) n = cond (eqb n (pair .0)) (pair .1) (standsFor pairs n)
+
+-- browse: 0, surrogates and anything above 10FFFF give U+FFFD; the 27 numbers stand for others; every other number stands for itself.
 abbrev pub browseChar : ℕ → Option (List ℕ)
-browseChar n = some (cond (scalar n && not (eqb n 0)) (utf8 n) substitute)
+browseChar n = some (cond (scalar n && not (eqb n 0)) (utf8 (standsFor renumbering n)) substitute)
 
 -- ---- what a body stands for
 

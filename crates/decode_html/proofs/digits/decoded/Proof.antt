@@ -2,12 +2,13 @@
 -- Assumes nothing.
 use borrow.Author.Needs.{needs}
 use mathlib.Core.Bool.{_||_}
-use mathlib.Core.Path.{sym, _∙_}
+use mathlib.Core.Path.{sym, _∙_, subst}
 use mathlib.Core.List.{[], _∷_}
-use lib.Dec.{leb}
+use lib.Dec.{T, leb}
 use Rattle.rules.specs.Bytes.{oneOf}
 use Rattle.rules.specs.References.{scalar}
-use Rattle.decode_html.proofs.Ceiling.{both-left, scalar-most}
+use Rattle.rules.proofs.Tests.{and-left}
+use Rattle.decode_html.proofs.Ceiling.{scalar-most}
 use Rattle.decode_html.proofs.digits.decoded.Statement.{statement}
 use Rattle.decode_html.proofs.digits.decoded.Tie as tie
 
@@ -18,7 +19,7 @@ returns : tie.Need-returns
 returns c =
     let n = c .before .before .args .number in
     let e = sym (c .before .is-decoded .ensures) ∙ c .if1 .taken in
-    (rw e, scalar-most n (both-left (scalar n) (leb 32 n || oneOf (9 ∷ 10 ∷ 12 ∷ 13 ∷ []) n) e))
+    (rw e, scalar-most n (and-left (scalar n) (leb 32 n || oneOf (9 ∷ 10 ∷ 12 ∷ 13 ∷ []) n) (subst T (sym e) tt)))
 
 returns-2 : tie.Need-returns-2
 returns-2 c = (rw (← c .before .is-decoded .ensures, c .if1 .left), tt)
