@@ -5,7 +5,6 @@ use mathlib.Core.Path.{_≡_, refl, sym, ap, _∙_, subst}
 use mathlib.Core.List.{List, [], _∷_, _++_}
 use Prim.Native.Nat.{ℕ, zero, suc, _+_, _-_, _*_, _≤_, _<_}
 use native.Mathlib.Omega.{arith}
-use lib.Dec.{eqb}
 use lib.ListN.{length, take, drop, getD, length-append, length-drop}
 use lib.Seq.{length-take-le}
 use Rattle.rules.specs.Bytes.{over}
@@ -98,10 +97,10 @@ module _ {rule : Rule} {t : List ℕ} {i n k : ℕ} (c : Counted rule t i n k) w
   )
 
   -- So they are what a pass over the text finds.
-  pub counted-measures : from rule t i ≡ [] → Measures (record { length = n; place = i; same = eqb k 0 }) (through rule t)
+  pub counted-measures : from rule t i ≡ [] → Measures (record { length = n; place = i; replaced = k }) (through rule t)
   counted-measures e =
       let (long, many, far) = counted-end e in
-      record { long = long; reach = far; kept = ap (λ (k : ℕ). eqb k 0) many }
+      record { long = long; reach = far; many = many }
 
 -- ---- the same for a writing loop: what stands next in the result
 

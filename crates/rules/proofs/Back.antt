@@ -17,7 +17,7 @@ use Rattle.rules.specs.Utf8.{IsText, IsFree, validTo, isCut}
 use Rattle.rules.specs.Units.{IsForm, unread, undecoded}
 use Rattle.rules.specs.Reading.{readStep}
 use Rattle.rules.specs.Operations.{decodeStep, ruleOf, encodeOf, readOf}
-use Rattle.rules.specs.Refusals.{Call, Case, bad-context, too-long, not-utf8, cut-short, not-a-form, lent, no-room, written, NoForm, Given, movesIn, caseOf, answer, answerAt, outAt, textLimit, judge, caseBy, call, answerOf, outOf, Allowed, viewOf}
+use Rattle.rules.specs.Refusals.{Call, Case, bad-context, too-long, not-utf8, cut-short, not-a-form, lent, no-room, written, NoForm, Given, movesIn, caseOf, refusal, success, answerAt, outAt, textLimit, judge, caseBy, call, answerOf, outOf, Allowed, viewOf}
 use Rattle.rules.specs.declared.Answer.{Answer}
 use Rattle.rules.specs.declared.Context.{Context}
 use Rattle.rules.specs.declared.Operation.{Operation}
@@ -76,7 +76,7 @@ module _ (c : Context) (borrows : Bool) (t out : List ℕ) where
       takes-back Decode some-rule (form-text c (encodeOf c t) (encode-any c t (cs, h, e))) (λ no. no) (decode-encode c t f)
 
   -- Where the limit bites: what encode wrote is too long to be read or decoded, and is refused as such, not as no form.
-  pub back-long : (o : Operation) → (ruleOf o (Units c) ≡ none → ⊥) → textLimit < size (encodeOf c t) → answerOf o (Units c) borrows (encodeOf c t) out ≡ answer 1 0 0 0
+  pub back-long : (o : Operation) → (ruleOf o (Units c) ≡ none → ⊥) → textLimit < size (encodeOf c t) → answerOf o (Units c) borrows (encodeOf c t) out ≡ refusal 1 0 0
   back-long o known long =
       ap (λ (row : Case). answerAt row (encodeOf c t) (movesIn (call o (Units c) borrows (encodeOf c t) out)))
       (case-iff (call o (Units c) borrows (encodeOf c t) out) too-long .1 (long, (known, tt)))
@@ -144,10 +144,10 @@ module _ (borrows : Bool) (t out : List ℕ) (ms ns : List Move) (p : place ms �
   same-answer too-long = refl
   same-answer not-utf8 = refl
   same-answer cut-short = refl
-  same-answer not-a-form = λ i. answer 4 0 0 (p i)
-  same-answer lent = λ i. answer 0 (size (e i)) 1 0
-  same-answer no-room = λ i. answer 3 (size (e i)) 0 0
-  same-answer written = λ i. answer 0 (size (e i)) (cond (eqb (q i) 0) 1 0) 0
+  same-answer not-a-form = λ i. refusal 4 0 (p i)
+  same-answer lent = λ i. success (size (e i)) 0
+  same-answer no-room = λ i. refusal 3 (size (e i)) 0
+  same-answer written = λ i. success (size (e i)) (q i)
 
   same-out : (row : Case) → outAt row ms out ≡ outAt row ns out
   same-out bad-context = refl

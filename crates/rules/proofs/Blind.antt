@@ -7,7 +7,7 @@ use native.Mathlib.Nat.{not-suc-le-zero, le-of-suc-le-suc}
 use native.Mathlib.Omega.{arith}
 use lib.ListN.{length, drop, getD}
 use lib.Seq.{drop-drop}
-use Rattle.rules.specs.Moves.{Move, takes, gives, Rule, andThen, moves, through, result}
+use Rattle.rules.specs.Moves.{Move, keep, swap, stop, takes, gives, Rule, andThen, moves, through, result, replaced}
 use Rattle.rules.proofs.Machine.{and-then}
 use Rattle.rules.proofs.Loops.{drop-next}
 
@@ -18,6 +18,12 @@ Blind rule = (p q : ℕ) (s : List ℕ) → rule p s ≡ rule q s
 pub result-append : (ms ns : List Move) → result (ms ++ ns) ≡ result ms ++ result ns
 result-append [] ns = refl
 result-append (m ∷ ms) ns = ap (λ (s : List ℕ). gives m ++ s) (result-append ms ns) ∙ sym (append-assoc (gives m) (result ms) (result ns))
+
+pub replaced-append : (ms ns : List Move) → replaced (ms ++ ns) ≡ replaced ms + replaced ns
+replaced-append [] ns = omega arith
+replaced-append (keep a ∷ ms) ns = replaced-append ms ns
+replaced-append (swap a b ∷ ms) ns = omega (arith, replaced-append ms ns)
+replaced-append (stop ∷ ms) ns = replaced-append ms ns
 
 -- At the head of s, where b follows it, the rule makes the move that it makes where nothing does, and this takes some bytes of s.
 abbrev pub Local : Rule → List ℕ → List ℕ → Type 0
@@ -72,3 +78,7 @@ module _ (rule : Rule) (blind : Blind rule) where
   -- What is written for two such parts.
   pub parted-result : (a b : List ℕ) → Parted rule a b → result (through rule (a ++ b)) ≡ result (through rule a) ++ result (through rule b)
   parted-result a b f = ap result (parted-moves 0 0 a b (omega arith) f) ∙ result-append (through rule a) (through rule b)
+
+  -- And how many places of them are replaced.
+  pub parted-replaced : (a b : List ℕ) → Parted rule a b → replaced (through rule (a ++ b)) ≡ replaced (through rule a) + replaced (through rule b)
+  parted-replaced a b f = ap replaced (parted-moves 0 0 a b (omega arith) f) ∙ replaced-append (through rule a) (through rule b)

@@ -4,19 +4,20 @@
 use mathlib.Core.Bool.{Bool, true, false, _&&_}
 use mathlib.Core.Option.{Option, none, some}
 use mathlib.Core.Path.{_≡_, refl, sym, ap, _∙_}
-use mathlib.Core.List.{List, [], _∷_, _++_, append-assoc, append-nil}
-use Prim.Native.Nat.{ℕ}
+use mathlib.Core.List.{List, [], _∷_, _++_}
+use Prim.Native.Nat.{ℕ, _+_}
 use native.Mathlib.Omega.{arith}
 use lib.Dec.{T, eqb}
 use lib.ListN.{length}
 use Rattle.rules.specs.Bytes.{all, stands}
-use Rattle.rules.specs.Moves.{Move, keep, takes, gives, moves, result}
+use Rattle.rules.specs.Moves.{Move, keep, takes, moves, through, result, replaced}
 use Rattle.rules.specs.Tables.{Row, rowAt, key, table}
 use Rattle.rules.specs.Encoding.{write, encodeStep}
 use Rattle.rules.specs.Operations.{encodeOf}
 use Rattle.rules.specs.declared.Context.{Context}
 use Rattle.rules.proofs.Tests.{all-in, first-sound}
 use Rattle.rules.proofs.Loops.{from-next}
+use Rattle.rules.proofs.Blind.{result-append, replaced-append}
 
 -- One byte.
 abbrev one : List ℕ → Bool
@@ -64,23 +65,23 @@ module _ (c : Context) (bytewise : T (all ofByte (table c))) where
   no-before p (x ∷ t) = refl
 
   -- One byte, and then the rest.
-  cons-given : (b : ℕ) (t : List ℕ) → encodeOf c (b ∷ t) ≡ gives (encodeStep c 0 (b ∷ [])) ++ encodeOf c t
-  cons-given b t =
+  cons-moves : (b : ℕ) (t : List ℕ) → through (encodeStep c) (b ∷ t) ≡ encodeStep c 0 (b ∷ []) ∷ through (encodeStep c) t
+  cons-moves b t =
       let m = encodeStep c 0 (b ∷ []) in
-      ap result (from-next (encodeStep c) (b ∷ t) 0 0 m (omega arith) (step-alone b t) (step-takes b))
-      ∙ ap (λ (ms : List Move). gives m ++ result ms) (no-before b t)
+      from-next (encodeStep c) (b ∷ t) 0 0 m (omega arith) (step-alone b t) (step-takes b) ∙ ap (λ (ms : List Move). m ∷ ms) (no-before b t)
 
-  -- What is written for a text that begins with a byte.
-  pub encode-cons : (b : ℕ) (t : List ℕ) → encodeOf c (b ∷ t) ≡ encodeOf c (b ∷ []) ++ encodeOf c t
-  encode-cons b t =
-      let alone = cons-given b [] ∙ append-nil (gives (encodeStep c 0 (b ∷ []))) in
-      cons-given b t ∙ ap (λ (w : List ℕ). w ++ encodeOf c t) (sym alone)
+  -- Two texts, one after the other.
+  append-moves : (s t : List ℕ) → through (encodeStep c) (s ++ t) ≡ through (encodeStep c) s ++ through (encodeStep c) t
+  append-moves [] t = refl
+  append-moves (b ∷ s) t =
+      cons-moves b (s ++ t)
+      ∙ ap (λ (ms : List Move). encodeStep c 0 (b ∷ []) ∷ ms) (append-moves s t)
+      ∙ ap (λ (ms : List Move). ms ++ through (encodeStep c) t) (sym (cons-moves b s))
 
-  -- What is written for two texts, one after the other.
+  -- What is written for them.
   pub encode-append : (s t : List ℕ) → encodeOf c (s ++ t) ≡ encodeOf c s ++ encodeOf c t
-  encode-append [] t = refl
-  encode-append (b ∷ s) t =
-      encode-cons b (s ++ t)
-      ∙ ap (λ (w : List ℕ). encodeOf c (b ∷ []) ++ w) (encode-append s t)
-      ∙ sym (append-assoc (encodeOf c (b ∷ [])) (encodeOf c s) (encodeOf c t))
-      ∙ ap (λ (w : List ℕ). w ++ encodeOf c t) (sym (encode-cons b s))
+  encode-append s t = ap result (append-moves s t) ∙ result-append (through (encodeStep c) s) (through (encodeStep c) t)
+
+  -- And how many of their places are replaced.
+  pub replaced-both : (s t : List ℕ) → replaced (through (encodeStep c) (s ++ t)) ≡ replaced (through (encodeStep c) s) + replaced (through (encodeStep c) t)
+  replaced-both s t = ap replaced (append-moves s t) ∙ replaced-append (through (encodeStep c) s) (through (encodeStep c) t)

@@ -16,7 +16,7 @@ use Rattle.rules.specs.Bytes.{over}
 use Rattle.rules.specs.Moves.{Move, through, result, replaced, growth, shrinkage, taken, place}
 use Rattle.rules.specs.Utf8.{IsText, validTo}
 use Rattle.rules.specs.Operations.{ruleOf, encodeOf}
-use Rattle.rules.specs.Refusals.{Call, Case, bad-context, too-long, not-utf8, cut-short, not-a-form, lent, no-room, written, Given, movesOf, movesIn, caseOf, sameOf, answer, answerAt, outAt, textLimit, call, answerOf, outOf, Allowed, viewOf}
+use Rattle.rules.specs.Refusals.{Call, Case, bad-context, too-long, not-utf8, cut-short, not-a-form, lent, no-room, written, Given, movesOf, movesIn, caseOf, success, answerAt, outAt, textLimit, call, answerOf, outOf, Allowed, viewOf}
 use Rattle.rules.specs.declared.Answer.{Answer}
 use Rattle.rules.specs.declared.Context.the-variants.{InHtml, InScript, InStyle}
 use Rattle.rules.specs.declared.Operation.{Operation}
@@ -48,12 +48,12 @@ none-taken : (t : List ℕ) → size t ≤ 0 → [] ≡ t
 none-taken [] h = refl
 none-taken (x ∷ t) h = absurd (not-suc-le-zero h)
 
--- 1 exactly if nothing is replaced.
-same-iff : (ms : List Move) → (sameOf ms ≡ 1) ↔ (replaced ms ≡ 0)
-same-iff ms = (λ e. go (eqb (replaced ms) 0) refl e, λ z. ap (λ (b : Bool). cond b 1 0) (eq-eqb (replaced ms) 0 z))
+-- 1 exactly if a number is 0.
+same-iff : (r : ℕ) → (success 0 r .same ≡ 1) ↔ (r ≡ 0)
+same-iff r = (λ e. go (eqb r 0) refl e, λ z. ap (λ (b : Bool). cond b 1 0) (eq-eqb r 0 z))
   where
-    go : (b : Bool) → eqb (replaced ms) 0 ≡ b → _≡_ {A = ℕ} (cond b 1 0) 1 → replaced ms ≡ 0
-    go true e q = eqb-true (replaced ms) 0 e
+    go : (b : Bool) → eqb r 0 ≡ b → _≡_ {A = ℕ} (cond b 1 0) 1 → r ≡ 0
+    go true e q = eqb-true r 0 e
     go false e q = absurd (suc-ne-zero 0 (sym q))
 
 -- Every rule takes the text where it takes as many bytes as the text has.
@@ -98,18 +98,19 @@ module _ (o : Operation) (n : AnyContext) (borrows : Bool) (t out : List ℕ) wh
           length-append (result ms) (drop (size (result ms)) out) ∙ ap (λ (m : ℕ). size (result ms) + m) (length-drop (size (result ms)) out)
           ∙ add-back (size (result ms)) (size out) (h .1 .1 .1 .1 .1 .1 .1 .0)
 
-  -- On any refusal same is 0 and the output is unchanged.
-  pub refused-unchanged : (answerOf o n borrows t out .status ≡ 0 → ⊥) → (answerOf o n borrows t out .same ≡ 0) × (outOf o n borrows t out ≡ out)
+  -- On any refusal same and replaced are 0 and the output is unchanged.
+  pub refused-unchanged : (answerOf o n borrows t out .status ≡ 0 → ⊥)
+      → (answerOf o n borrows t out .same ≡ 0) × (answerOf o n borrows t out .replaced ≡ 0) × (outOf o n borrows t out ≡ out)
   refused-unchanged = go (caseOf k)
     where
-      go : (row : Case) → (answerAt row t ms .status ≡ 0 → ⊥) → (answerAt row t ms .same ≡ 0) × (outAt row ms out ≡ out)
-      go bad-context h = (refl, refl)
-      go too-long h = (refl, refl)
-      go not-utf8 h = (refl, refl)
-      go cut-short h = (refl, refl)
-      go not-a-form h = (refl, refl)
+      go : (row : Case) → (answerAt row t ms .status ≡ 0 → ⊥) → (answerAt row t ms .same ≡ 0) × (answerAt row t ms .replaced ≡ 0) × (outAt row ms out ≡ out)
+      go bad-context h = (refl, refl, refl)
+      go too-long h = (refl, refl, refl)
+      go not-utf8 h = (refl, refl, refl)
+      go cut-short h = (refl, refl, refl)
+      go not-a-form h = (refl, refl, refl)
       go lent h = absurd (h refl)
-      go no-room h = (refl, refl)
+      go no-room h = (refl, refl, refl)
       go written h = absurd (h refl)
 
   -- What a call that passes shows.
@@ -119,8 +120,9 @@ module _ (o : Operation) (n : AnyContext) (borrows : Bool) (t out : List ℕ) wh
     -- length is the result's length, and place is 0.
     pub long : answerAt row t ms .length ≡ size (result ms)
     pub nowhere : answerAt row t ms .place ≡ 0
-    -- same is 1 exactly if nothing was replaced.
-    pub same : (answerAt row t ms .same ≡ 1) ↔ (replaced ms ≡ 0)
+    -- replaced is how many places were replaced, and same is 1 exactly if it is 0.
+    pub count : answerAt row t ms .replaced ≡ replaced ms
+    pub same : (answerAt row t ms .same ≡ 1) ↔ (answerAt row t ms .replaced ≡ 0)
     -- view gives the result.
     pub view : viewOf t (outAt row ms out) (answerAt row t ms .same) (answerAt row t ms .length) ≡ result ms
     -- The first `length` bytes of the output are the result, unless the call borrows and nothing was replaced.
@@ -128,7 +130,7 @@ module _ (o : Operation) (n : AnyContext) (borrows : Bool) (t out : List ℕ) wh
     -- The bytes of the output past them keep their values.
     pub tail : drop (answerAt row t ms .length) (outAt row ms out) ≡ drop (answerAt row t ms .length) out
 
-  view-written : (size out < size (result ms) → ⊥) → taken ms ≡ t → viewOf t (outAt written ms out) (sameOf ms) (size (result ms)) ≡ result ms
+  view-written : (size out < size (result ms) → ⊥) → taken ms ≡ t → viewOf t (outAt written ms out) (answerAt written t ms .same) (size (result ms)) ≡ result ms
   view-written h w = go (eqb (replaced ms) 0) refl
     where
       go : (b : Bool) → eqb (replaced ms) 0 ≡ b → viewOf t (outAt written ms out) (cond b 1 0) (size (result ms)) ≡ result ms
@@ -151,7 +153,7 @@ module _ (o : Operation) (n : AnyContext) (borrows : Bool) (t out : List ℕ) wh
       go not-a-form h e = absurd (suc-ne-zero 3 e)
       go lent h e =
           let w = taken-all o n t (case-taken k (h .1 .0) (h .1 .1 .1 .1 .1 .0)) in
-          record { whole = w; long = refl; nowhere = refl; same = (λ q. h .0 .1, λ q. refl); view = sym (same-result ms (h .0 .1) ∙ w); head = λ q. absurd (q (h .0)); tail = refl }
+          record { whole = w; long = refl; nowhere = refl; count = sym (h .0 .1); same = (λ q. refl, λ q. refl); view = sym (same-result ms (h .0 .1) ∙ w); head = λ q. absurd (q (h .0)); tail = refl }
       go no-room h e = absurd (suc-ne-zero 2 e)
       go written h e =
           let w = taken-all o n t (case-taken k (h .1 .0) (h .1 .1 .1 .1 .1 .0)) in
@@ -159,7 +161,8 @@ module _ (o : Operation) (n : AnyContext) (borrows : Bool) (t out : List ℕ) wh
             whole = w;
             long = refl;
             nowhere = refl;
-            same = same-iff ms;
+            count = refl;
+            same = same-iff (replaced ms);
             view = view-written (h .1 .1 .1 .1 .1 .1 .1 .0) w;
             head = λ q. take-append-seam (result ms) (drop (size (result ms)) out);
             tail = drop-append-seam (result ms) (drop (size (result ms)) out);

@@ -185,6 +185,33 @@ encode-sum c = grown-sum (encodeStep c) (encode-fair c) (encode-goes c)
 pub raw-sum : (s : List ℕ) → length (result (through rawStep s)) ≡ length s + growth (through rawStep s)
 raw-sum = grown-sum rawStep raw-fair raw-goes
 
+-- A move gives as many bytes more than it takes as it replaces places.
+abbrev ByOne : Move → Type 0
+ByOne m = length (gives m) ≡ replaced (m ∷ []) + length (takes m)
+
+raw-one : (p : ℕ) (s : List ℕ) → Fair ByOne (rawStep p s) s
+unfolding rawStep
+raw-one p [] = tt
+raw-one p (b ∷ s) = go (eqb b 60 && parted s)
+  where
+    go : (t : Bool) → Fair ByOne (cond t (swap (b ∷ []) (b ∷ ascii "\\")) (keep (b ∷ []))) (b ∷ s)
+    go true = (refl, s, refl, 0, refl)
+    go false = (refl, s, refl, 0, refl)
+
+by-ones : (ms : List Move) → All ByOne ms → length (result ms) ≡ replaced ms + length (taken ms)
+by-ones [] g = refl
+by-ones (m ∷ ms) g =
+    rw (replaced-cons m ms, length-append (gives m) (result ms), length-append (takes m) (taken ms))
+    (both (length (gives m)) (replaced (m ∷ [])) (length (takes m)) (length (result ms)) (replaced ms) (length (taken ms)) (g .0) (by-ones ms (g .1)))
+  where
+    both : (v n k a m b : ℕ) → v ≡ n + k → a ≡ m + b → v + a ≡ n + m + (k + b)
+    both v n k a m b e f = omega arith
+
+-- In script_raw each replaced place adds one byte, the backslash.
+pub raw-replaced : (s : List ℕ) → length (result (through rawStep s)) ≡ replaced (through rawStep s) + length s
+raw-replaced s =
+    by-ones (through rawStep s) (moves-fair ByOne rawStep raw-one 0 0 s .0) ∙ ap (λ (l : List ℕ). replaced (through rawStep s) + length l) (raw-whole s)
+
 pub raw-six : (s : List ℕ) → length (result (through rawStep s)) ≤ 6 * length s
 raw-six = six-times rawStep raw-fair raw-goes
 
@@ -199,6 +226,3 @@ raw-none = none-replaced rawStep raw-fair raw-goes
 
 pub encode-as-long : (c : Context) (s : List ℕ) → (replaced (through (encodeStep c) s) ≡ 0) ↔ (length (result (through (encodeStep c) s)) ≡ length s)
 encode-as-long c = as-long (encodeStep c) (encode-fair c) (encode-goes c)
-
-pub raw-as-long : (s : List ℕ) → (replaced (through rawStep s) ≡ 0) ↔ (length (result (through rawStep s)) ≡ length s)
-raw-as-long = as-long rawStep raw-fair raw-goes

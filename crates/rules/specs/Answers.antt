@@ -73,4 +73,4 @@ replacedMove language s NoReplacement = keepByte s
 pub record Measures (found : Measured) (ms : List Move) : Type 0 where
   pub long : found .length ≡ size (result ms)
   pub reach : found .place ≡ placeOf ms
-  pub kept : found .same ≡ eqb (replaced ms) 0
+  pub many : found .replaced ≡ replaced ms

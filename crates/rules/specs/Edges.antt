@@ -13,7 +13,7 @@ use Rattle.rules.specs.Utf8.{validTo, utf8, substitute}
 use Rattle.rules.specs.Contexts.{contextOf}
 use Rattle.rules.specs.Tables.{Row, key, value}
 use Rattle.rules.specs.Encoding.{closes}
-use Rattle.rules.specs.Refusals.{answer}
+use Rattle.rules.specs.Refusals.{refusal, success}
 use Rattle.rules.specs.Answers.{referenceMove, escapeMove, replacedMove}
 use Rattle.rules.specs.Program.{printed, entityOf}
 use Rattle.rules.specs.Examples.{Example, passesIn, example, stays, refusedIn, refused, holds}
@@ -180,43 +180,42 @@ written controls before between middle after rest =
     controls ++ ascii before ++ ascii "0123456789" ++ ascii between ++ ascii "ABCDEFGHIJKLMNOPQRSTUVWXYZ"
     ++ ascii middle ++ ascii "abcdefghijklmnopqrstuvwxyz" ++ ascii after ++ rest
 
--- What each context writes, by its name, in the order of their numbers.
-abbrev pub encoders : List (List ℕ × List ℕ)
+-- What each context writes, by its name, in the order of their numbers, and how many of the characters it replaces.
+abbrev pub encoders : List (List ℕ × ℕ × List ℕ)
 encoders =
-    (ascii "text_minimal", written (bytes 0 31) " !\"#$%&amp;'()*+,-./" ":;&lt;=>?@" "[\\]^_`" "{|}~" delKept)
-    ∷ (ascii "text", written (bytes 0 31) " !\"#$%&amp;'()*+,-./" ":;&lt;=&gt;?@" "[\\]^_`" "{|}~" delKept)
-    ∷ (ascii "double_quoted", written (bytes 0 31) " !&quot;#$%&amp;'()*+,-./" ":;&lt;=&gt;?@" "[\\]^_`" "{|}~" delKept)
-    ∷ (ascii "single_quoted", written (bytes 0 31) " !\"#$%&amp;&#x27;()*+,-./" ":;&lt;=&gt;?@" "[\\]^_`" "{|}~" delKept)
-    ∷ (ascii "quoted", written (bytes 0 31) " !&quot;#$%&amp;&#x27;()*+,-./" ":;&lt;=&gt;?@" "[\\]^_`" "{|}~" delKept)
-    ∷ (ascii "safe", written (bytes 0 31) " !&quot;#$%&amp;&#x27;()*+,-.&#x2F;" ":;&lt;=&gt;?@" "[\\]^_`" "{|}~" delKept)
+    (ascii "text_minimal", 2, written (bytes 0 31) " !\"#$%&amp;'()*+,-./" ":;&lt;=>?@" "[\\]^_`" "{|}~" delKept)
+    ∷ (ascii "text", 3, written (bytes 0 31) " !\"#$%&amp;'()*+,-./" ":;&lt;=&gt;?@" "[\\]^_`" "{|}~" delKept)
+    ∷ (ascii "double_quoted", 4, written (bytes 0 31) " !&quot;#$%&amp;'()*+,-./" ":;&lt;=&gt;?@" "[\\]^_`" "{|}~" delKept)
+    ∷ (ascii "single_quoted", 4, written (bytes 0 31) " !\"#$%&amp;&#x27;()*+,-./" ":;&lt;=&gt;?@" "[\\]^_`" "{|}~" delKept)
+    ∷ (ascii "quoted", 5, written (bytes 0 31) " !&quot;#$%&amp;&#x27;()*+,-./" ":;&lt;=&gt;?@" "[\\]^_`" "{|}~" delKept)
+    ∷ (ascii "safe", 6, written (bytes 0 31) " !&quot;#$%&amp;&#x27;()*+,-.&#x2F;" ":;&lt;=&gt;?@" "[\\]^_`" "{|}~" delKept)
     ∷ (
       ascii "unquoted",
+      66,
       written controlReferences "&#x20;&#x21;&quot;&#x23;&#x24;&#x25;&amp;&#x27;&#x28;&#x29;&#x2A;&#x2B;&#x2C;&#x2D;&#x2E;&#x2F;"
           "&#x3A;&#x3B;&lt;&#x3D;&gt;&#x3F;&#x40;" "&#x5B;&#x5C;&#x5D;&#x5E;&#x5F;&#x60;" "&#x7B;&#x7C;&#x7D;&#x7E;" (ascii "&#x7F;" ++ aroundSeparators),
     )
-    ∷ (ascii "script_single", written controlsInScript " !\"#$%&\\'()*+,-./" ":;\\x3C=>?@" "[\\\\]^_`" "{|}~" delInScript)
-    ∷ (ascii "script_double", written controlsInScript " !\\\"#$%&'()*+,-./" ":;\\x3C=>?@" "[\\\\]^_`" "{|}~" delInScript)
-    ∷ (ascii "script_quoted", written controlsInScript " !\\\"#$%&\\'()*+,-./" ":;\\x3C=>?@" "[\\\\]^_`" "{|}~" delInScript)
-    ∷ (ascii "style_single", written controlsInStyle " !\"#$%&\\'()*+,-./" ":;\\3C =>?@" "[\\\\]^_`" "{|}~" delKept)
-    ∷ (ascii "style_double", written controlsInStyle " !\\\"#$%&'()*+,-./" ":;\\3C =>?@" "[\\\\]^_`" "{|}~" delKept)
-    ∷ (ascii "style_quoted", written controlsInStyle " !\\\"#$%&\\'()*+,-./" ":;\\3C =>?@" "[\\\\]^_`" "{|}~" delKept)
-    ∷ (ascii "script_raw", written (bytes 0 31) " !\"#$%&'()*+,-./" ":;<=>?@" "[\\]^_`" "{|}~" delKept)
+    ∷ (ascii "script_single", 37, written controlsInScript " !\"#$%&\\'()*+,-./" ":;\\x3C=>?@" "[\\\\]^_`" "{|}~" delInScript)
+    ∷ (ascii "script_double", 37, written controlsInScript " !\\\"#$%&'()*+,-./" ":;\\x3C=>?@" "[\\\\]^_`" "{|}~" delInScript)
+    ∷ (ascii "script_quoted", 38, written controlsInScript " !\\\"#$%&\\'()*+,-./" ":;\\x3C=>?@" "[\\\\]^_`" "{|}~" delInScript)
+    ∷ (ascii "style_single", 35, written controlsInStyle " !\"#$%&\\'()*+,-./" ":;\\3C =>?@" "[\\\\]^_`" "{|}~" delKept)
+    ∷ (ascii "style_double", 35, written controlsInStyle " !\\\"#$%&'()*+,-./" ":;\\3C =>?@" "[\\\\]^_`" "{|}~" delKept)
+    ∷ (ascii "style_quoted", 36, written controlsInStyle " !\\\"#$%&\\'()*+,-./" ":;\\3C =>?@" "[\\\\]^_`" "{|}~" delKept)
+    ∷ (ascii "script_raw", 0, written (bytes 0 31) " !\"#$%&'()*+,-./" ":;<=>?@" "[\\]^_`" "{|}~" delKept)
     ∷ []
 
 -- The lines of a request, and its text.
 abbrev pub request : List ℕ → List ℕ → List ℕ → List ℕ
 request op context text = ascii "op=" ++ op ++ ascii "\ncontext=" ++ context ++ ascii "\ntext=" ++ text
 
--- A context writes these bytes, asked for by its number and by its name.
-abbrev pub writes : ℕ → List ℕ → List ℕ → Bool
-writes n name r =
-    holds (example Encode (contextOf n) everyByte r)
-    && sameBytes (entityOf (request (ascii "encode") name everyByte)) (printed (answer 0 (size r) (cond (sameBytes everyByte r) 1 0) 0) r)
+-- A context writes these bytes with so many replaced, asked for by its number and by its name.
+abbrev pub writes : ℕ → List ℕ → ℕ → List ℕ → Bool
+writes n name k r = holds (example Encode (contextOf n) everyByte r k) && sameBytes (entityOf (request (ascii "encode") name everyByte)) (printed (success (size r) k) r)
 
 -- The contexts from number n on do so.
-abbrev pub writeFrom : ℕ → List (List ℕ × List ℕ) → Bool
+abbrev pub writeFrom : ℕ → List (List ℕ × ℕ × List ℕ) → Bool
 writeFrom n [] = eqb n 14
-writeFrom n ((name, r) ∷ es) = writes n name r && writeFrom (suc n) es
+writeFrom n ((name, k, r) ∷ es) = writes n name k r && writeFrom (suc n) es
 
 -- ---- closing tags
 
@@ -235,21 +234,21 @@ ended tag = join (map (λ (b : ℕ). tag ++ b ∷ []) closers)
 -- Each of them in script_raw, and in the older pages that the string decoders take.
 abbrev pub closings : List Example
 closings =
-    example Encode ScriptRaw (ended (ascii "</script")) (ended (ascii "<\\/script"))
-    ∷ example Decode (Units (InScript Single)) (ended (ascii "<\\/script")) (ended (ascii "</script"))
-    ∷ example Decode (Units (InStyle Single)) (ended (ascii "<\\/style")) (ended (ascii "</style"))
+    example Encode ScriptRaw (ended (ascii "</script")) (ended (ascii "<\\/script")) 12
+    ∷ example Decode (Units (InScript Single)) (ended (ascii "<\\/script")) (ended (ascii "</script")) 12
+    ∷ example Decode (Units (InStyle Single)) (ended (ascii "<\\/style")) (ended (ascii "</style")) 12
     ∷ []
 
 -- Comments, letter case, runs of `<`, the end of the text.
 abbrev pub tags : List Example
 tags =
-    example Encode ScriptRaw (ascii "<!--</ScRiPt>") (ascii "<\\!--<\\/ScRiPt>")
+    example Encode ScriptRaw (ascii "<!--</ScRiPt>") (ascii "<\\!--<\\/ScRiPt>") 2
     ∷ stays Encode ScriptRaw (ascii "<!-<!</scrip>")
-    ∷ example Encode ScriptRaw (ascii "</script") (ascii "<\\/script")
-    ∷ example Encode ScriptRaw (ascii "</SCRIPT") (ascii "<\\/SCRIPT")
-    ∷ example Encode ScriptRaw (ascii "<<!--") (ascii "<<\\!--")
-    ∷ example Encode ScriptRaw (ascii "<!<!--") (ascii "<!<\\!--")
-    ∷ example Encode ScriptRaw (ascii "</script/></scripT") (ascii "<\\/script/><\\/scripT")
+    ∷ example Encode ScriptRaw (ascii "</script") (ascii "<\\/script") 1
+    ∷ example Encode ScriptRaw (ascii "</SCRIPT") (ascii "<\\/SCRIPT") 1
+    ∷ example Encode ScriptRaw (ascii "<<!--") (ascii "<<\\!--") 1
+    ∷ example Encode ScriptRaw (ascii "<!<!--") (ascii "<!<\\!--") 1
+    ∷ example Encode ScriptRaw (ascii "</script/></scripT") (ascii "<\\/script/><\\/scripT") 2
     ∷ stays Encode ScriptRaw (ascii "</sc" ++ 0xC5 ∷ 0xBF ∷ [] ++ ascii "ript>")
     ∷ []
 
@@ -258,45 +257,45 @@ tags =
 -- The escapes of strings, each just inside and just outside its rule.
 abbrev pub escapes : List Example
 escapes =
-    example Decode (Units (InScript Single)) (ascii "\\\\\\'\\\"") (ascii "\\'\\\"")
-    ∷ example Decode (Units (InScript Double)) (ascii "\\\\\\'\\\"") (ascii "\\\\'\"")
-    ∷ example Decode (Units (InScript Both)) (ascii "\\\\\\'\\\"") (ascii "\\'\"")
-    ∷ example Decode (Units (InStyle Single)) (ascii "\\\\\\'\\\"") (ascii "\\'\\\"")
-    ∷ example Decode (Units (InStyle Double)) (ascii "\\\\\\'\\\"") (ascii "\\\\'\"")
-    ∷ example Decode (Units (InStyle Both)) (ascii "\\\\\\'\\\"") (ascii "\\'\"")
-    ∷ example Decode (Units (InScript Both)) (ascii "\\x00\\x1F\\x3C") (0x00 ∷ 0x1F ∷ [] ++ ascii "<")
+    example Decode (Units (InScript Single)) (ascii "\\\\\\'\\\"") (ascii "\\'\\\"") 2
+    ∷ example Decode (Units (InScript Double)) (ascii "\\\\\\'\\\"") (ascii "\\\\'\"") 2
+    ∷ example Decode (Units (InScript Both)) (ascii "\\\\\\'\\\"") (ascii "\\'\"") 3
+    ∷ example Decode (Units (InStyle Single)) (ascii "\\\\\\'\\\"") (ascii "\\'\\\"") 2
+    ∷ example Decode (Units (InStyle Double)) (ascii "\\\\\\'\\\"") (ascii "\\\\'\"") 2
+    ∷ example Decode (Units (InStyle Both)) (ascii "\\\\\\'\\\"") (ascii "\\'\"") 3
+    ∷ example Decode (Units (InScript Both)) (ascii "\\x00\\x1F\\x3C") (0x00 ∷ 0x1F ∷ [] ++ ascii "<") 3
     ∷ stays Decode (Units (InScript Both)) (ascii "\\x20")
     ∷ stays Decode (Units (InScript Both)) (ascii "\\x3B")
     ∷ stays Decode (Units (InScript Both)) (ascii "\\x3D")
     ∷ stays Decode (Units (InScript Both)) (ascii "\\x1f")
     ∷ stays Decode (Units (InScript Both)) (ascii "\\x0")
     ∷ stays Decode (Units (InScript Both)) (ascii "\\X0A")
-    ∷ example Decode (Units (InStyle Both)) (ascii "\\01 \\1F \\3C ") (0x01 ∷ 0x1F ∷ [] ++ ascii "<")
+    ∷ example Decode (Units (InStyle Both)) (ascii "\\01 \\1F \\3C ") (0x01 ∷ 0x1F ∷ [] ++ ascii "<") 3
     ∷ stays Decode (Units (InStyle Both)) (ascii "\\20 ")
     ∷ stays Decode (Units (InStyle Both)) (ascii "\\3B ")
     ∷ stays Decode (Units (InStyle Both)) (ascii "\\3D ")
     ∷ stays Decode (Units (InStyle Both)) (ascii "\\1f ")
     ∷ stays Decode (Units (InStyle Both)) (ascii "\\0A")
     ∷ stays Decode (Units (InStyle Both)) (ascii "\\0A" ++ 0x09 ∷ [])
-    ∷ example Decode (Units (InScript Both)) (ascii "\\u2028\\u2029") (0xE2 ∷ 0x80 ∷ 0xA8 ∷ 0xE2 ∷ 0x80 ∷ 0xA9 ∷ [])
+    ∷ example Decode (Units (InScript Both)) (ascii "\\u2028\\u2029") (0xE2 ∷ 0x80 ∷ 0xA8 ∷ 0xE2 ∷ 0x80 ∷ 0xA9 ∷ []) 2
     ∷ stays Decode (Units (InScript Both)) (ascii "\\u202A")
     ∷ stays Decode (Units (InScript Both)) (ascii "\\u2027")
     ∷ stays Decode (Units (InStyle Both)) (ascii "\\u2028")
-    ∷ example Decode (Units (InScript Both)) (ascii "<\\!--") (ascii "<!--")
-    ∷ example Decode (Units (InStyle Both)) (ascii "<\\!--") (ascii "<!--")
+    ∷ example Decode (Units (InScript Both)) (ascii "<\\!--") (ascii "<!--") 1
+    ∷ example Decode (Units (InStyle Both)) (ascii "<\\!--") (ascii "<!--") 1
     ∷ stays Decode (Units (InScript Both)) (ascii "\\!--")
     ∷ stays Decode (Units (InScript Both)) (ascii "<\\!-")
     ∷ stays Decode (Units (InScript Both)) (ascii ">\\!--")
-    ∷ example Decode (Units (InScript Both)) (ascii "\\x3C\\!--") (ascii "<\\!--")
-    ∷ example Decode (Units (InScript Both)) (ascii "\\\\\\!--") (ascii "\\\\!--")
-    ∷ example Decode (Units (InScript Both)) (ascii "<\\/ScRiPt>") (ascii "</ScRiPt>")
+    ∷ example Decode (Units (InScript Both)) (ascii "\\x3C\\!--") (ascii "<\\!--") 1
+    ∷ example Decode (Units (InScript Both)) (ascii "\\\\\\!--") (ascii "\\\\!--") 1
+    ∷ example Decode (Units (InScript Both)) (ascii "<\\/ScRiPt>") (ascii "</ScRiPt>") 1
     ∷ stays Decode (Units (InScript Both)) (ascii "\\/script>")
     ∷ stays Decode (Units (InScript Both)) (ascii "<\\/style>")
     ∷ stays Decode (Units (InScript Both)) (ascii "<\\/script")
     ∷ stays Decode (Units (InScript Both)) (ascii "<\\/scripts")
-    ∷ example Decode (Units (InScript Both)) (ascii "\\x3C\\/script>") (ascii "<\\/script>")
-    ∷ example Decode (Units (InScript Both)) (ascii "<\\\\/script>") (ascii "<\\/script>")
-    ∷ example Decode (Units (InStyle Both)) (ascii "<\\/sTyLe>") (ascii "</sTyLe>")
+    ∷ example Decode (Units (InScript Both)) (ascii "\\x3C\\/script>") (ascii "<\\/script>") 1
+    ∷ example Decode (Units (InScript Both)) (ascii "<\\\\/script>") (ascii "<\\/script>") 1
+    ∷ example Decode (Units (InStyle Both)) (ascii "<\\/sTyLe>") (ascii "</sTyLe>") 1
     ∷ stays Decode (Units (InStyle Both)) (ascii "<\\/script>")
     ∷ stays Decode (Units (InStyle Both)) (ascii "<\\/style")
     ∷ stays Decode (Units (InScript Both)) (ascii "\\")
@@ -309,9 +308,9 @@ escapes =
 -- Numbers at every limit, digits of either base, names, and what is no reference, in decode.
 abbrev pub references : List Example
 references =
-    example Decode (Units (InHtml Text)) (ascii "&#X41;&#x41;&#65;") (ascii "AAA")
-    ∷ example Decode (Units (InHtml Text)) (ascii "&#000000000000000000000000000000000000000065;") (ascii "A")
-    ∷ example Decode (Units (InHtml Text)) (ascii "&#x0000000000000000000000000000000000000000aF;") (0xC2 ∷ 0xAF ∷ [])
+    example Decode (Units (InHtml Text)) (ascii "&#X41;&#x41;&#65;") (ascii "AAA") 3
+    ∷ example Decode (Units (InHtml Text)) (ascii "&#000000000000000000000000000000000000000065;") (ascii "A") 1
+    ∷ example Decode (Units (InHtml Text)) (ascii "&#x0000000000000000000000000000000000000000aF;") (0xC2 ∷ 0xAF ∷ []) 1
     ∷ stays Decode (Units (InHtml Text)) (ascii "&#;")
     ∷ stays Decode (Units (InHtml Text)) (ascii "&#x;")
     ∷ stays Decode (Units (InHtml Text)) (ascii "&#X;")
@@ -319,22 +318,22 @@ references =
     ∷ stays Decode (Units (InHtml Text)) (ascii "&#x+41;")
     ∷ stays Decode (Units (InHtml Text)) (ascii "&# 65;")
     ∷ stays Decode (Units (InHtml Text)) (ascii "&#8;")
-    ∷ example Decode (Units (InHtml Text)) (ascii "&#10;") (0x0A ∷ [])
-    ∷ example Decode (Units (InHtml Text)) (ascii "&#12;") (0x0C ∷ [])
-    ∷ example Decode (Units (InHtml Text)) (ascii "&#13;") (0x0D ∷ [])
+    ∷ example Decode (Units (InHtml Text)) (ascii "&#10;") (0x0A ∷ []) 1
+    ∷ example Decode (Units (InHtml Text)) (ascii "&#12;") (0x0C ∷ []) 1
+    ∷ example Decode (Units (InHtml Text)) (ascii "&#13;") (0x0D ∷ []) 1
     ∷ stays Decode (Units (InHtml Text)) (ascii "&#14;")
     ∷ stays Decode (Units (InHtml Text)) (ascii "&#31;")
-    ∷ example Decode (Units (InHtml Text)) (ascii "&#32;") (ascii " ")
-    ∷ example Decode (Units (InHtml Text)) (ascii "&#127;") (0x7F ∷ [])
-    ∷ example Decode (Units (InHtml Text)) (ascii "&#128;") (0xC2 ∷ 0x80 ∷ [])
-    ∷ example Decode (Units (InHtml Text)) (ascii "&#x7FF;") (0xDF ∷ 0xBF ∷ [])
-    ∷ example Decode (Units (InHtml Text)) (ascii "&#x800;") (0xE0 ∷ 0xA0 ∷ 0x80 ∷ [])
-    ∷ example Decode (Units (InHtml Text)) (ascii "&#xFFFF;") (0xEF ∷ 0xBF ∷ 0xBF ∷ [])
-    ∷ example Decode (Units (InHtml Text)) (ascii "&#x10000;") (0xF0 ∷ 0x90 ∷ 0x80 ∷ 0x80 ∷ [])
-    ∷ example Decode (Units (InHtml Text)) (ascii "&#xD7FF;") (0xED ∷ 0x9F ∷ 0xBF ∷ [])
+    ∷ example Decode (Units (InHtml Text)) (ascii "&#32;") (ascii " ") 1
+    ∷ example Decode (Units (InHtml Text)) (ascii "&#127;") (0x7F ∷ []) 1
+    ∷ example Decode (Units (InHtml Text)) (ascii "&#128;") (0xC2 ∷ 0x80 ∷ []) 1
+    ∷ example Decode (Units (InHtml Text)) (ascii "&#x7FF;") (0xDF ∷ 0xBF ∷ []) 1
+    ∷ example Decode (Units (InHtml Text)) (ascii "&#x800;") (0xE0 ∷ 0xA0 ∷ 0x80 ∷ []) 1
+    ∷ example Decode (Units (InHtml Text)) (ascii "&#xFFFF;") (0xEF ∷ 0xBF ∷ 0xBF ∷ []) 1
+    ∷ example Decode (Units (InHtml Text)) (ascii "&#x10000;") (0xF0 ∷ 0x90 ∷ 0x80 ∷ 0x80 ∷ []) 1
+    ∷ example Decode (Units (InHtml Text)) (ascii "&#xD7FF;") (0xED ∷ 0x9F ∷ 0xBF ∷ []) 1
     ∷ stays Decode (Units (InHtml Text)) (ascii "&#xDFFF;")
-    ∷ example Decode (Units (InHtml Text)) (ascii "&#xE000;") (0xEE ∷ 0x80 ∷ 0x80 ∷ [])
-    ∷ example Decode (Units (InHtml Text)) (ascii "&#x10FFFF;") (0xF4 ∷ 0x8F ∷ 0xBF ∷ 0xBF ∷ [])
+    ∷ example Decode (Units (InHtml Text)) (ascii "&#xE000;") (0xEE ∷ 0x80 ∷ 0x80 ∷ []) 1
+    ∷ example Decode (Units (InHtml Text)) (ascii "&#x10FFFF;") (0xF4 ∷ 0x8F ∷ 0xBF ∷ 0xBF ∷ []) 1
     ∷ stays Decode (Units (InHtml Text)) (ascii "&#x110000;")
     ∷ stays Decode (Units (InHtml Text)) (ascii "&#4294967361;")
     ∷ stays Decode (Units (InHtml Text)) (ascii "&#x100000041;")
@@ -347,39 +346,39 @@ references =
     ∷ stays Decode (Units (InHtml Text)) (ascii "&#x4g;")
     ∷ stays Decode (Units (InHtml Text)) (ascii "&#x4/;")
     ∷ stays Decode (Units (InHtml Text)) (ascii "&#x4:;")
-    ∷ example Decode (Units (InHtml Text)) (ascii "&#x09;") (0x09 ∷ [])
-    ∷ example Decode (Units (InHtml Text)) (ascii "&#xA;&#xa;&#xF9;&#xf9;") (0x0A ∷ 0x0A ∷ 0xC3 ∷ 0xB9 ∷ 0xC3 ∷ 0xB9 ∷ [])
+    ∷ example Decode (Units (InHtml Text)) (ascii "&#x09;") (0x09 ∷ []) 1
+    ∷ example Decode (Units (InHtml Text)) (ascii "&#xA;&#xa;&#xF9;&#xf9;") (0x0A ∷ 0x0A ∷ 0xC3 ∷ 0xB9 ∷ 0xC3 ∷ 0xB9 ∷ []) 4
     ∷ stays Decode (Units (InHtml Text)) (ascii "&#6x5;")
-    ∷ example Decode (Units (InHtml Text)) (ascii "&#65&#66;") (ascii "&#65B")
+    ∷ example Decode (Units (InHtml Text)) (ascii "&#65&#66;") (ascii "&#65B") 1
     ∷ stays Decode (Units (InHtml Text)) (ascii "&#65")
     ∷ stays Decode (Units (InHtml Text)) (ascii "&#x41")
     ∷ stays Decode (Units (InHtml Text)) (ascii "&;")
     ∷ stays Decode (Units (InHtml Text)) (ascii "&amp")
-    ∷ example Decode (Units (InHtml Text)) (ascii "&AMP;&Amp;") (ascii "&&Amp;")
+    ∷ example Decode (Units (InHtml Text)) (ascii "&AMP;&Amp;") (ascii "&&Amp;") 1
     ∷ stays Decode (Units (InHtml Text)) (ascii "& amp;")
-    ∷ example Decode (Units (InHtml Text)) (ascii "&amp&lt;") (ascii "&amp<")
-    ∷ example Decode (Units (InHtml Text)) (ascii "&amp;amp;") (ascii "&amp;")
-    ∷ example Decode (Units (InHtml Text)) (ascii "a&b;c&lt;d") (ascii "a&b;c<d")
-    ∷ example Decode (Units (InHtml Text)) (ascii "&&&gt;;") (ascii "&&>;")
-    ∷ example Decode (Units (InHtml Text)) (ascii "&AElig;&zwnj;") (0xC3 ∷ 0x86 ∷ 0xE2 ∷ 0x80 ∷ 0x8C ∷ [])
-    ∷ example Decode (Units (InHtml Text)) (ascii "&nLt;&nGt;") (0xE2 ∷ 0x89 ∷ 0xAA ∷ 0xE2 ∷ 0x83 ∷ 0x92 ∷ 0xE2 ∷ 0x89 ∷ 0xAB ∷ 0xE2 ∷ 0x83 ∷ 0x92 ∷ [])
-    ∷ example Decode (Units (InHtml Text)) (ascii "&NewLine;&Tab;") (0x0A ∷ 0x09 ∷ [])
-    ∷ example Decode (Units (InHtml TextMinimal)) (ascii "&quot;") (ascii "\"")
-    ∷ example Decode (Units (InHtml Safe)) (ascii "&#x2F;") (ascii "/")
+    ∷ example Decode (Units (InHtml Text)) (ascii "&amp&lt;") (ascii "&amp<") 1
+    ∷ example Decode (Units (InHtml Text)) (ascii "&amp;amp;") (ascii "&amp;") 1
+    ∷ example Decode (Units (InHtml Text)) (ascii "a&b;c&lt;d") (ascii "a&b;c<d") 1
+    ∷ example Decode (Units (InHtml Text)) (ascii "&&&gt;;") (ascii "&&>;") 1
+    ∷ example Decode (Units (InHtml Text)) (ascii "&AElig;&zwnj;") (0xC3 ∷ 0x86 ∷ 0xE2 ∷ 0x80 ∷ 0x8C ∷ []) 2
+    ∷ example Decode (Units (InHtml Text)) (ascii "&nLt;&nGt;") (0xE2 ∷ 0x89 ∷ 0xAA ∷ 0xE2 ∷ 0x83 ∷ 0x92 ∷ 0xE2 ∷ 0x89 ∷ 0xAB ∷ 0xE2 ∷ 0x83 ∷ 0x92 ∷ []) 2
+    ∷ example Decode (Units (InHtml Text)) (ascii "&NewLine;&Tab;") (0x0A ∷ 0x09 ∷ []) 2
+    ∷ example Decode (Units (InHtml TextMinimal)) (ascii "&quot;") (ascii "\"") 1
+    ∷ example Decode (Units (InHtml Safe)) (ascii "&#x2F;") (ascii "/") 1
     ∷ stays Decode (Units (InHtml Unquoted)) (ascii "&#x0B;")
     ∷ []
 
 -- The same in browse, where it differs and where not.
 abbrev pub browsed : List Example
 browsed =
-    example Browse (Units (InHtml Text)) (ascii "&#0;&#x0;") (0xEF ∷ 0xBF ∷ 0xBD ∷ 0xEF ∷ 0xBF ∷ 0xBD ∷ [])
-    ∷ example Browse (Units (InHtml Text)) (ascii "&#1;&#8;&#11;&#14;&#31;") (0x01 ∷ 0x08 ∷ 0x0B ∷ 0x0E ∷ 0x1F ∷ [])
-    ∷ example Browse (Units (InHtml Text)) (ascii "&#127;&#128;&#159;&#160;") (0x7F ∷ 0xE2 ∷ 0x82 ∷ 0xAC ∷ 0xC5 ∷ 0xB8 ∷ 0xC2 ∷ 0xA0 ∷ [])
-    ∷ example Browse (Units (InHtml Text)) (ascii "&#xD7FF;&#xD800;&#xDFFF;&#xE000;") (0xED ∷ 0x9F ∷ 0xBF ∷ substitute ++ substitute ++ 0xEE ∷ 0x80 ∷ 0x80 ∷ [])
-    ∷ example Browse (Units (InHtml Text)) (ascii "&#x10FFFF;&#x110000;") (0xF4 ∷ 0x8F ∷ 0xBF ∷ 0xBF ∷ 0xEF ∷ 0xBF ∷ 0xBD ∷ [])
-    ∷ example Browse (Units (InHtml Text)) (ascii "&#4294967296;&#4294967361;&#18446744073709551681;") (substitute ++ substitute ++ substitute)
+    example Browse (Units (InHtml Text)) (ascii "&#0;&#x0;") (0xEF ∷ 0xBF ∷ 0xBD ∷ 0xEF ∷ 0xBF ∷ 0xBD ∷ []) 2
+    ∷ example Browse (Units (InHtml Text)) (ascii "&#1;&#8;&#11;&#14;&#31;") (0x01 ∷ 0x08 ∷ 0x0B ∷ 0x0E ∷ 0x1F ∷ []) 5
+    ∷ example Browse (Units (InHtml Text)) (ascii "&#127;&#128;&#159;&#160;") (0x7F ∷ 0xE2 ∷ 0x82 ∷ 0xAC ∷ 0xC5 ∷ 0xB8 ∷ 0xC2 ∷ 0xA0 ∷ []) 4
+    ∷ example Browse (Units (InHtml Text)) (ascii "&#xD7FF;&#xD800;&#xDFFF;&#xE000;") (0xED ∷ 0x9F ∷ 0xBF ∷ substitute ++ substitute ++ 0xEE ∷ 0x80 ∷ 0x80 ∷ []) 4
+    ∷ example Browse (Units (InHtml Text)) (ascii "&#x10FFFF;&#x110000;") (0xF4 ∷ 0x8F ∷ 0xBF ∷ 0xBF ∷ 0xEF ∷ 0xBF ∷ 0xBD ∷ []) 2
+    ∷ example Browse (Units (InHtml Text)) (ascii "&#4294967296;&#4294967361;&#18446744073709551681;") (substitute ++ substitute ++ substitute) 3
     ∷ stays Browse (Units (InHtml Text)) (ascii "&#;&#x;&#+65;&bogus;&amp")
-    ∷ example Browse (Units (InHtml Text)) (ascii "&lt;&amp;lt;") (ascii "<&lt;")
+    ∷ example Browse (Units (InHtml Text)) (ascii "&lt;&amp;lt;") (ascii "<&lt;") 2
     ∷ []
 
 -- One reference after the other to the same number: decimal, hex, and both with leading zeros.
@@ -389,8 +388,8 @@ spelled decimal hex = ascii "&#" ++ ascii decimal ++ ascii ";&#x" ++ ascii hex +
 -- What decode and browse give for each of them.
 abbrev pub highNumber : String → String → List ℕ → List ℕ → List Example
 highNumber decimal hex d b =
-    example Decode (Units (InHtml Text)) (spelled decimal hex) (d ++ d ++ d ++ d)
-    ∷ example Browse (Units (InHtml Text)) (spelled decimal hex) (b ++ b ++ b ++ b)
+    example Decode (Units (InHtml Text)) (spelled decimal hex) (d ++ d ++ d ++ d) 4
+    ∷ example Browse (Units (InHtml Text)) (spelled decimal hex) (b ++ b ++ b ++ b) 4
     ∷ []
 
 -- The numbers from 80 to 9F: decode takes each for its own character, browse only five of them.
@@ -495,7 +494,7 @@ readsAs e = sameMove (e .0) (e .1)
 -- Units of several contexts, and what only looks like one, with the length of the longest prefix that is a run of them.
 abbrev pub readings : List Example
 readings =
-    example Read (Units (InHtml Unquoted)) (ascii "&#x00;&#x0B;&#x1F;&#x7F;&#x27;&amp;&lt;&gt;&quot;") (0x00 ∷ 0x0B ∷ 0x1F ∷ 0x7F ∷ [] ++ ascii "'&<>\"")
+    example Read (Units (InHtml Unquoted)) (ascii "&#x00;&#x0B;&#x1F;&#x7F;&#x27;&amp;&lt;&gt;&quot;") (0x00 ∷ 0x0B ∷ 0x1F ∷ 0x7F ∷ [] ++ ascii "'&<>\"") 9
     ∷ refused Read (Units (InHtml Unquoted)) (ascii "a&#x26;") 4 1
     ∷ refused Read (Units (InHtml Unquoted)) (ascii "&#x3C;") 4 0
     ∷ refused Read (Units (InHtml Unquoted)) (ascii "&#x3E;") 4 0
@@ -507,11 +506,11 @@ readings =
     ∷ refused Read (Units (InHtml Text)) (ascii "a<") 4 1
     ∷ refused Read (Units (InHtml Text)) (ascii "&amp") 4 0
     ∷ refused Read (Units (InHtml Text)) (ascii "&lt;&#60;") 4 4
-    ∷ example Read (Units (InHtml Text)) (ascii "\"'/&gt;") (ascii "\"'/>")
+    ∷ example Read (Units (InHtml Text)) (ascii "\"'/&gt;") (ascii "\"'/>") 1
     ∷ refused Read (Units (InHtml Quoted)) (ascii "a'b") 4 1
-    ∷ example Read (Units (InHtml Quoted)) (ascii "&#x27;") (ascii "'")
+    ∷ example Read (Units (InHtml Quoted)) (ascii "&#x27;") (ascii "'") 1
     ∷ refused Read (Units (InHtml Quoted)) (ascii "&apos;") 4 0
-    ∷ example Read (Units (InScript Both)) (ascii "\\\\\\'\\\"\\x00\\x3C\\u2028\\u2029") (ascii "\\'\"" ++ 0x00 ∷ ascii "<" ++ utf8 0x2028 ++ utf8 0x2029)
+    ∷ example Read (Units (InScript Both)) (ascii "\\\\\\'\\\"\\x00\\x3C\\u2028\\u2029") (ascii "\\'\"" ++ 0x00 ∷ ascii "<" ++ utf8 0x2028 ++ utf8 0x2029) 7
     ∷ refused Read (Units (InScript Both)) (0xE2 ∷ 0x80 ∷ 0xA8 ∷ []) 4 0
     ∷ refused Read (Units (InScript Both)) (ascii "a\\x3c") 4 1
     ∷ refused Read (Units (InScript Both)) (ascii "\\x20") 4 0
@@ -519,7 +518,7 @@ readings =
     ∷ refused Read (Units (InScript Both)) (ascii "<\\!--") 4 0
     ∷ refused Read (Units (InScript Single)) (ascii "\\\"") 4 0
     ∷ stays Read (Units (InScript Single)) (ascii "\"")
-    ∷ example Read (Units (InStyle Both)) (ascii "\\01 \\3C " ++ substitute ++ utf8 0x2028) (0x01 ∷ ascii "<" ++ substitute ++ utf8 0x2028)
+    ∷ example Read (Units (InStyle Both)) (ascii "\\01 \\3C " ++ substitute ++ utf8 0x2028) (0x01 ∷ ascii "<" ++ substitute ++ utf8 0x2028) 2
     ∷ refused Read (Units (InStyle Both)) (ascii "\\00 ") 4 0
     ∷ refused Read (Units (InStyle Both)) (ascii "a" ++ 0x00 ∷ []) 4 1
     ∷ refused Read (Units (InStyle Both)) (ascii "\\20 ") 4 0
@@ -530,7 +529,7 @@ readings =
 
 -- An operation has the contexts below a number, and no others.
 abbrev pub contextsBelow : Operation → ℕ → List Example
-contextsBelow o n = map (λ (k : ℕ). passesIn 0 o (contextOf k) [] []) (count 0 n) ++ map (λ (k : ℕ). refused o (contextOf k) [] 5 0) (count n (16 - n))
+contextsBelow o n = map (λ (k : ℕ). passesIn 0 o (contextOf k) [] [] 0) (count 0 n) ++ map (λ (k : ℕ). refused o (contextOf k) [] 5 0) (count n (16 - n))
 
 -- Which contexts each operation has; and of any two rows of the table the earlier.
 abbrev pub refusals : List Example
@@ -540,11 +539,11 @@ refusals =
     ∷ refused Read (Units (InHtml Text)) (0x26 ∷ 0x80 ∷ []) 2 1
     ∷ refusedIn 0 Read (Units (InHtml Text)) (ascii "a&") 4 0 1
     ∷ refusedIn 0 Read (Units (InHtml Text)) (ascii "&lt;&lt;") 3 2 0
-    ∷ passesIn 2 Read (Units (InHtml Text)) (ascii "&lt;&lt;") (ascii "<<")
+    ∷ passesIn 2 Read (Units (InHtml Text)) (ascii "&lt;&lt;") (ascii "<<") 2
     ∷ refusedIn 1 Browse (Units (InHtml Text)) (ascii "&lt;a") 3 2 0
-    ∷ passesIn 2 Browse (Units (InHtml Text)) (ascii "&lt;a") (ascii "<a")
+    ∷ passesIn 2 Browse (Units (InHtml Text)) (ascii "&lt;a") (ascii "<a") 1
     ∷ refusedIn 9 Encode ScriptRaw (ascii "</script>") 3 10 0
-    ∷ passesIn 10 Encode ScriptRaw (ascii "</script>") (ascii "<\\/script>")
+    ∷ passesIn 10 Encode ScriptRaw (ascii "</script>") (ascii "<\\/script>") 1
     ∷ []
 
 -- ---- texts that were cut short
@@ -637,10 +636,10 @@ cuts =
 
 -- Where nothing is replaced a copying call needs room, and a borrowing one needs none.
 abbrev pub copying : List Example
-copying = refusedIn 2 Encode (Units (InHtml Text)) (ascii "abc") 3 3 0 ∷ passesIn 3 Encode (Units (InHtml Text)) (ascii "abc") (ascii "abc") ∷ []
+copying = refusedIn 2 Encode (Units (InHtml Text)) (ascii "abc") 3 3 0 ∷ passesIn 3 Encode (Units (InHtml Text)) (ascii "abc") (ascii "abc") 0 ∷ []
 
 abbrev pub borrowing : List Example
-borrowing = passesIn 2 Encode (Units (InHtml Text)) (ascii "abc") (ascii "abc") ∷ passesIn 0 Decode (Units (InHtml Text)) (ascii "a&b;") (ascii "a&b;") ∷ []
+borrowing = passesIn 2 Encode (Units (InHtml Text)) (ascii "abc") (ascii "abc") 0 ∷ passesIn 0 Decode (Units (InHtml Text)) (ascii "a&b;") (ascii "a&b;") 0 ∷ []
 
 -- ---- all of these that are examples
 
@@ -651,7 +650,7 @@ edges = closings ++ tags ++ escapes ++ references ++ browsed ++ highNumbers ++ r
 
 -- What the program prints of a refusal.
 abbrev pub prints : ℕ → ℕ → List ℕ
-prints s p = printed (answer s 0 0 p) []
+prints s p = printed (refusal s 0 p) []
 
 -- What it reads, and what it prints.
 abbrev pub requests : List (List ℕ × List ℕ)
@@ -659,25 +658,25 @@ requests =
     -- the listing
     (
       ascii "op=encode\ncontext=double_quoted\ntext=Tom's \"5\" & <up>",
-      ascii "status=0\nlength=36\nsame=0\nplace=0\ntext=Tom's &quot;5&quot; &amp; &lt;up&gt;",
+      ascii "status=0\nlength=36\nsame=0\nreplaced=5\nplace=0\ntext=Tom's &quot;5&quot; &amp; &lt;up&gt;",
     )
     -- each operation by its name
-    ∷ (request (ascii "decode") (ascii "text") (ascii "&#0;&lt;"), ascii "status=0\nlength=5\nsame=0\nplace=0\ntext=&#0;<")
-    ∷ (request (ascii "browse") (ascii "text") (ascii "&#0;&lt;"), ascii "status=0\nlength=4\nsame=0\nplace=0\ntext=" ++ 0xEF ∷ 0xBF ∷ 0xBD ∷ ascii "<")
-    ∷ (request (ascii "read") (ascii "text") (ascii "&lt;"), ascii "status=0\nlength=1\nsame=0\nplace=0\ntext=<")
-    ∷ (request (ascii "read") (ascii "text") [], ascii "status=0\nlength=0\nsame=1\nplace=0\ntext=")
+    ∷ (request (ascii "decode") (ascii "text") (ascii "&#0;&lt;"), ascii "status=0\nlength=5\nsame=0\nreplaced=1\nplace=0\ntext=&#0;<")
+    ∷ (request (ascii "browse") (ascii "text") (ascii "&#0;&lt;"), ascii "status=0\nlength=4\nsame=0\nreplaced=2\nplace=0\ntext=" ++ 0xEF ∷ 0xBF ∷ 0xBD ∷ ascii "<")
+    ∷ (request (ascii "read") (ascii "text") (ascii "&lt;"), ascii "status=0\nlength=1\nsame=0\nreplaced=1\nplace=0\ntext=<")
+    ∷ (request (ascii "read") (ascii "text") [], ascii "status=0\nlength=0\nsame=1\nreplaced=0\nplace=0\ntext=")
     -- numbers of one to three digits
-    ∷ (request (ascii "encode") (ascii "text") (map (λ (b : ℕ). 0x61) (count 0 10)), ascii "status=0\nlength=10\nsame=1\nplace=0\ntext=aaaaaaaaaa")
-    ∷ (request (ascii "read") (ascii "text") (map (λ (b : ℕ). 0x61) (count 0 109) ++ ascii "<"), ascii "status=4\nlength=0\nsame=0\nplace=109\ntext=")
+    ∷ (request (ascii "encode") (ascii "text") (map (λ (b : ℕ). 0x61) (count 0 10)), ascii "status=0\nlength=10\nsame=1\nreplaced=0\nplace=0\ntext=aaaaaaaaaa")
+    ∷ (request (ascii "read") (ascii "text") (map (λ (b : ℕ). 0x61) (count 0 109) ++ ascii "<"), ascii "status=4\nlength=0\nsame=0\nreplaced=0\nplace=109\ntext=")
     -- refusals
-    ∷ (request (ascii "decode") (ascii "script_raw") (map (λ (b : ℕ). 0x80) (count 0 8193)), ascii "status=5\nlength=0\nsame=0\nplace=0\ntext=")
+    ∷ (request (ascii "decode") (ascii "script_raw") (map (λ (b : ℕ). 0x80) (count 0 8193)), ascii "status=5\nlength=0\nsame=0\nreplaced=0\nplace=0\ntext=")
     ∷ (request (ascii "browse") (ascii "script_single") [], prints 5 0)
     ∷ (request (ascii "encode") (ascii "text") (0x80 ∷ map (λ (b : ℕ). 0x61) (count 0 8191)), prints 2 0)
     ∷ (request (ascii "encode") (ascii "text") (0x80 ∷ map (λ (b : ℕ). 0x61) (count 0 8192)), prints 1 0)
-    ∷ (request (ascii "read") (ascii "text") (ascii "a&" ++ 0xE2 ∷ 0x82 ∷ []), ascii "status=7\nlength=0\nsame=0\nplace=2\ntext=")
+    ∷ (request (ascii "read") (ascii "text") (ascii "a&" ++ 0xE2 ∷ 0x82 ∷ []), ascii "status=7\nlength=0\nsame=0\nreplaced=0\nplace=2\ntext=")
     ∷ (request (ascii "encode") (ascii "text") (map (λ (b : ℕ). 0x61) (count 0 8192) ++ 0xC3 ∷ []), prints 1 0)
     -- lines that differ
-    ∷ ([], ascii "status=6\nlength=0\nsame=0\nplace=0\ntext=")
+    ∷ ([], ascii "status=6\nlength=0\nsame=0\nreplaced=0\nplace=0\ntext=")
     ∷ (ascii "op=encode\n", prints 6 0)
     ∷ (ascii "op=encode\ncontext=text\n", prints 6 0)
     ∷ (ascii "op=encode\ncontext=text\ntext", prints 6 0)

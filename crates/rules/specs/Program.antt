@@ -9,7 +9,7 @@ use lib.ListN.{length as size, drop}
 use Rattle.rules.specs.Bytes.{ascii, first, stands}
 use Rattle.rules.specs.Moves.{result}
 use Rattle.rules.specs.Contexts.{Label, contextNames, operationNames}
-use Rattle.rules.specs.Refusals.{Call, caseOf, movesIn, answer, answerAt}
+use Rattle.rules.specs.Refusals.{Call, caseOf, movesIn, refusal, answerAt}
 use Rattle.rules.specs.declared.Answer.{Answer}
 use Rattle.rules.specs.declared.AnyContext.{AnyContext}
 use Rattle.rules.specs.declared.Operation.{Operation}
@@ -50,11 +50,11 @@ lastDigits (suc k) n = cond (ltb n 10) ((48 + n) ∷ []) (lastDigits k (n / 10) 
 abbrev pub decimal : ℕ → List ℕ
 decimal n = lastDigits 20 n
 
--- The five lines, with nothing after the text.
+-- The six lines, with nothing after the text.
 abbrev pub printed : Answer → List ℕ → List ℕ
 printed a t =
     ascii "status=" ++ decimal (a .status) ++ ascii "\nlength=" ++ decimal (a .length) ++ ascii "\nsame=" ++ decimal (a .same)
-    ++ ascii "\nplace=" ++ decimal (a .place) ++ ascii "\ntext=" ++ t
+    ++ ascii "\nreplaced=" ++ decimal (a .replaced) ++ ascii "\nplace=" ++ decimal (a .place) ++ ascii "\ntext=" ++ t
 
 -- The text that is printed: the result, and nothing after a refusal.
 abbrev pub shown : Answer → List ℕ → List ℕ
@@ -66,4 +66,4 @@ printedCall k = let a = answerAt (caseOf k) (k .text) (movesIn k) in printed a (
 
 -- What the program prints; BAD_REQUEST where the lines differ.
 unfoldable pub entityOf : List ℕ → List ℕ
-entityOf s = elim (requestOf s) [ none ↦ printed (answer 6 0 0 0) [] | some k ↦ printedCall k ]
+entityOf s = elim (requestOf s) [ none ↦ printed (refusal 6 0 0) [] | some k ↦ printedCall k ]

@@ -18,9 +18,13 @@ use Rattle.rules.specs.declared.AnyContext.the-variants.{Units, ScriptRa
 use Rattle.rules.specs.declared.Operation.{Operation}
 use Rattle.rules.specs.declared.Operation.the-variants.{Encode, Decode, Read, Browse}
 
--- An answer record by its four numbers.
-abbrev pub answer : ℕ → ℕ → ℕ → ℕ → Answer
-answer s l m p = record { status = s; length = l; same = m; place = p }
+-- The answer of a call that is refused, by its status, the length that it names and its place.
+abbrev pub refusal : ℕ → ℕ → ℕ → Answer
+refusal s l p = record { status = s; length = l; same = 0; replaced = 0; place = p }
+
+-- The answer of a call that passes, by the length of the result and how many places are replaced: same is 1 exactly if none is.
+abbrev pub success : ℕ → ℕ → Answer
+success l r = record { status = 0; length = l; same = cond (eqb r 0) 1 0; replaced = r; place = 0 }
 
 -- A call: its operation and the context that it names, whether it borrows, the most bytes that it takes, the text, and the output's length.
 pub record Call : Type 0 where
@@ -109,20 +113,16 @@ caseBy (some rule) borrows limit t room = judge borrows limit t (through rule t)
 abbrev pub caseOf : Call → Case
 caseOf k = caseBy (ruleOf (k .operation) (k .context)) (k .borrows) (k .limit) (k .text) (k .room)
 
--- 1 exactly if nothing is replaced.
-abbrev pub sameOf : List Move → ℕ
-sameOf ms = cond (eqb (replaced ms) 0) 1 0
-
--- The columns of the table: status, length, same and place of each case.
+-- The columns of the table: the answer of each case.
 abbrev pub answerAt : Case → List ℕ → List Move → Answer
-answerAt bad-context t ms = answer 5 0 0 0
-answerAt too-long t ms = answer 1 0 0 0
-answerAt not-utf8 t ms = answer 2 0 0 (validTo t)
-answerAt cut-short t ms = answer 7 0 0 (validTo t)
-answerAt not-a-form t ms = answer 4 0 0 (placeOf ms)
-answerAt lent t ms = answer 0 (size (result ms)) 1 0
-answerAt no-room t ms = answer 3 (size (result ms)) 0 0
-answerAt written t ms = answer 0 (size (result ms)) (sameOf ms) 0
+answerAt bad-context t ms = refusal 5 0 0
+answerAt too-long t ms = refusal 1 0 0
+answerAt not-utf8 t ms = refusal 2 0 (validTo t)
+answerAt cut-short t ms = refusal 7 0 (validTo t)
+answerAt not-a-form t ms = refusal 4 0 (placeOf ms)
+answerAt lent t ms = success (size (result ms)) 0
+answerAt no-room t ms = refusal 3 (size (result ms)) 0
+answerAt written t ms = success (size (result ms)) (replaced ms)
 
 -- The whole output after the call: the result over what stood there, or all of it unchanged.
 abbrev pub outAt : Case → List Move → List ℕ → List ℕ

@@ -103,14 +103,15 @@ pub struct Answer {
     pub status: usize,
     pub length: usize,
     pub same: usize,
+    pub replaced: usize,
     pub place: usize,
 }
 
-// What a pass over a text finds: the length of the result, how far the text is taken, and whether nothing is replaced.
+// What a pass over a text finds: the length of the result, how far the text is taken, and how many places are replaced.
 pub struct Measured {
     pub length: usize,
     pub place: usize,
-    pub same: bool,
+    pub replaced: usize,
 }
 
 // What a reference stands for: a text of the table of names, its bytes packed into one number, or a character by its number.
