@@ -48,7 +48,7 @@ pub fn measure(numbers: Numbers, text: &[u8]) -> Measured
     Measured {
         length,
         place: i,
-        same: references == 0,
+        replaced: references,
     }
 }
 
@@ -81,6 +81,6 @@ pub fn write(numbers: Numbers, text: &[u8], output: &mut [u8]) -> Measured
     Measured {
         length: at,
         place: i,
-        same: references == 0,
+        replaced: references,
     }
 }

@@ -116,7 +116,7 @@ pub fn measure(language: Language, quotes: Quotes, text: &[u8]) -> Measured
     Measured {
         length,
         place: i,
-        same: escapes == 0,
+        replaced: escapes,
     }
 }
 
@@ -156,6 +156,6 @@ pub fn write(language: Language, quotes: Quotes, text: &[u8], output: &mut [u8])
     Measured {
         length: at,
         place: i,
-        same: escapes == 0,
+        replaced: escapes,
     }
 }

@@ -15,12 +15,12 @@ use Rattle.rules.specs.declared.Html.{Html}
 use Rattle.rules.specs.declared.Context.the-variants.{InHtml}
 use Rattle.rules.proofs.Loops.{drop-next}
 use Rattle.rules.proofs.Laws.{encode-same}
-use Rattle.rules.proofs.Bytewise.{ofByte, encode-cons, encode-append}
+use Rattle.rules.proofs.Bytewise.{ofByte, encode-append, replaced-both}
 use Rattle.rules.proofs.Growth.{encode-six, encode-sum, encode-as-long}
 use Rattle.base.proofs.Filled.{Next, lent-rest}
 use Rattle.base.proofs.Part.{part-length, part-at, parted}
 use Rattle.encode_html.specs.Written.{written}
-use Rattle.encode_html.specs.Gains.{Each, Unchanged}
+use Rattle.encode_html.specs.Gains.{hitsOf, Each, Unchanged}
 use Rattle.encode_html.proofs.Seven.{seven}
 
 -- Every key is one byte.
@@ -44,7 +44,7 @@ module _ (h : Html) where
 
   pub cons-written : (b : ℕ) (t : List ℕ) → encodeOf (InHtml h) (b ∷ t) ≡ written h b ++ encodeOf (InHtml h) t
   unfolding written
-  cons-written b t = encode-cons (InHtml h) (bytewise h) b t
+  cons-written b t = encode-append (InHtml h) (bytewise h) (b ∷ []) t
 
   -- At most six bytes are written for one.
   pub written-most : (b : ℕ) → length (written h b) ≤ 6
@@ -68,6 +68,13 @@ module _ (h : Html) where
   next-part t i e l =
       let whole = ap (encodeOf (InHtml h)) (sym (parted t i e l)) in
       record { next = whole ∙ encode-append (InHtml h) (bytewise h) (take (e - i) (drop i t)) (drop e t) }
+
+  -- The same of how many places are replaced.
+  pub hits-byte : (t : List ℕ) (i : ℕ) → i < length t → hitsOf h (drop i t) ≡ hitsOf h (getD t i 0 ∷ []) + hitsOf h (drop (i + 1) t)
+  hits-byte t i l = ap (hitsOf h) (drop-next t i l) ∙ replaced-both (InHtml h) (bytewise h) (getD t i 0 ∷ []) (drop (i + 1) t)
+
+  pub hits-part : (t : List ℕ) (i e : ℕ) → i ≤ e → hitsOf h (drop i t) ≡ hitsOf h (take (e - i) (drop i t)) + hitsOf h (drop e t)
+  hits-part t i e l = ap (hitsOf h) (sym (parted t i e l)) ∙ replaced-both (InHtml h) (bytewise h) (take (e - i) (drop i t)) (drop e t)
 
   -- At the end nothing is left.
   pub next-none : (t : List ℕ) (i : ℕ) → length t ≤ i → encodeOf (InHtml h) (drop i t) ≡ []
@@ -96,3 +103,7 @@ module _ (h : Html) where
   unchanged-length [] f = refl
   unchanged-length (b ∷ t) f =
       rw (cons-written b t, length-append, f 0 (omega arith) .0) (omega (arith, unchanged-length t (λ k l. f (suc k) (omega arith))))
+
+  -- And nothing in it is replaced.
+  pub unchanged-hits : (t : List ℕ) → Each (Unchanged h) t → hitsOf h t ≡ 0
+  unchanged-hits t f = encode-as-long (InHtml h) t .1 (unchanged-length t f)

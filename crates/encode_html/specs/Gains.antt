@@ -4,6 +4,8 @@ use mathlib.Core.Path.{_≡_}
 use mathlib.Core.List.{List}
 use Prim.Native.Nat.{ℕ, _+_, _-_, _*_, _≤_, _<_}
 use lib.ListN.{length, getD}
+use Rattle.rules.specs.Moves.{through, replaced}
+use Rattle.rules.specs.Encoding.{encodeStep}
 use Rattle.rules.specs.Operations.{encodeOf}
 use Rattle.rules.specs.declared.Html.{Html}
 use Rattle.rules.specs.declared.Context.the-variants.{InHtml}
@@ -22,6 +24,14 @@ gainsOf h = record { text = onlyText h; unquoted = unquoted h; gt = gainOf h 62;
 -- A text grows by n bytes, which is at most five times its length.
 abbrev pub Grows : Html → List ℕ → ℕ → Type 0
 Grows h t n = (length t + n ≡ length (encodeOf (InHtml h) t)) × (n ≤ 5 * length t)
+
+-- How many places of a text are replaced.
+abbrev pub hitsOf : Html → List ℕ → ℕ
+hitsOf h t = replaced (through (encodeStep (InHtml h)) t)
+
+-- They are n, at most as many as it has bytes.
+abbrev pub Hits : Html → List ℕ → ℕ → Type 0
+Hits h t n = (n ≡ hitsOf h t) × (n ≤ length t)
 
 -- Every byte of a text has the property.
 abbrev pub Each : (ℕ → Type 0) → List ℕ → Type 0

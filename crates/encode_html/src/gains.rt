@@ -1,8 +1,10 @@
 // By how many bytes the encoding of a byte is longer than the byte, as a sum of comparisons: a loop over it has no branch and becomes vector code.
 use super::words::Words;
 use rules::Html;
+ghost use mathlib.Core.Bool.{cond};
 ghost use mathlib.Core.Path.{_≡_};
 ghost use Prim.Native.Nat.{_+_, _-_, _*_, _/_, _≤_};
+ghost use lib.Dec.{eqb};
 ghost use lib.ListN.{length};
 ghost use Rattle.rules.specs.declared.Html.the-variants.{Unquoted};
 ghost use Rattle.encode_html.specs.Written.{written};
@@ -71,6 +73,13 @@ pub fn gain(h: Html, g: Gains, b: u8) -> u8
         + base::when(b, b'"', g.double)
         + base::when(b, b'\'', g.single)
         + base::when(b, b'/', g.slash)
+}
+
+// Returns 1 for a byte that grows by `gain` bytes, and so is replaced, and 0 for one that does not.
+pub fn hit(gain: u8) -> u8
+    ensures { λ r. ⌜ r ≡ cond (eqb gain 0) 0 1 ⌝ }
+{
+    if gain == 0 { 0 } else { 1 }
 }
 
 // Returns by how many bytes a part grows. The part is short enough for the sum to fit a byte.

@@ -12,6 +12,8 @@ ghost use mathlib.Core.Path.{_≡_};
 ghost use Prim.Native.Nat.{ℕ, _+_, _*_, _≤_, _<_};
 ghost use lib.ListN.{length, getD};
 ghost use Rattle.rules.specs.Bytes.{over};
+ghost use Rattle.rules.specs.Moves.{through, replaced};
+ghost use Rattle.rules.specs.Encoding.{encodeStep};
 ghost use Rattle.rules.specs.Operations.{encodeOf};
 ghost use Rattle.rules.specs.declared.Context.the-variants.{InHtml};
 
@@ -21,23 +23,28 @@ const LONG: usize = 256;
 // The bytes past its end that a word may overwrite. As many are kept for the last, exact write.
 const SPILL: usize = 7;
 
-// What a pass over a text finds: `high` is 0 only if it is ASCII, and its encoding is `grow` bytes longer.
+// What a pass over a text finds: `high` is 0 only if it is ASCII, its encoding is `grow` bytes longer, and `replaced` of its places are replaced.
 pub struct Scan {
     pub high: usize,
     pub grow: usize,
+    pub replaced: usize,
 }
 
-// Counts by how many bytes the encoding of a text is longer, and tells whether the text is ASCII.
+// Counts by how many bytes the encoding of a text is longer and how many places are replaced, and tells whether the text is ASCII.
 pub fn survey(h: Html, text: &[u8]) -> Scan
     requires { ⌜ length (now text) ≤ 65536 ⌝ }
-    ensures { λ r. ⌜ (length (now (text .entry)) + r .grow ≡ length (encodeOf (InHtml h) (now (text .entry)))) × (r .grow ≤ 5 * length (now (text .entry))) ⌝ }
+    ensures { λ r. ⌜ (length (now (text .entry)) + r .grow ≡ length (encodeOf (InHtml h) (now (text .entry)))) × (r .grow ≤ 5 * length (now (text .entry))) × (r .replaced ≡ replaced (through (encodeStep (InHtml h)) (now (text .entry)))) ⌝ }
     ensures { λ r. ⌜ (r .high ≡ 0 → (k : ℕ) → k < length (now (text .entry)) → getD (now (text .entry)) k 0 < 128) ⌝ }
 {
     let w = words::words_of(h);
     let g = gains::gains_of(h, w);
     if LONG < text.len() {
         if look::is_unchanged(h, g, text) {
-            return Scan { high: 0, grow: 0 };
+            return Scan {
+                high: 0,
+                grow: 0,
+                replaced: 0,
+            };
         }
     }
     look::count(h, g, text)

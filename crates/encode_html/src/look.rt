@@ -1,14 +1,15 @@
-// Passes over a text before it is written: whether it is ASCII, and by how many bytes it grows.
+// Passes over a text before it is written: whether it is ASCII, by how many bytes it grows, and how many of them are replaced.
 use super::Scan;
 use super::gains::Gains;
 use super::gains::gain;
+use super::gains::hit;
 use rules::Html;
 ghost use mathlib.Core.Path.{_≡_};
 ghost use mathlib.Core.Bool.{true, false};
 ghost use Prim.Native.Nat.{_*_, _≤_, _<_};
 ghost use lib.ListN.{length};
 ghost use Rattle.base.specs.First.{Free};
-ghost use Rattle.encode_html.specs.Gains.{gainsOf, Grows, Each, Ascii, Unchanged};
+ghost use Rattle.encode_html.specs.Gains.{gainsOf, Grows, Hits, Each, Ascii, Unchanged};
 ghost use Rattle.encode_html.specs.Keys.{keyOf, keysOf, special, specialAt};
 
 // Bytes that are counted together: two vectors, and few enough for their growth to fit a byte.
@@ -24,44 +25,52 @@ fn high(b: u8) -> u8
     if b < 128 { 0 } else { 1 }
 }
 
-// Counts the bytes of a part that are not ASCII, and by how many bytes it grows. The part is short enough for both to fit a byte.
+// Counts the bytes of a part that are not ASCII, by how many bytes it grows, and those that are replaced. The part is short enough for each to fit a
+// byte.
 fn tally(h: Html, g: Gains, part: &[u8]) -> Scan
     requires { ⌜ (g ≡ gainsOf h) × (5 * length (now part) ≤ 255) ⌝ }
-    ensures { λ r. ⌜ Grows h (now (part .entry)) (r .grow) × (r .high ≤ length (now (part .entry))) × (r .high ≡ 0 → Each Ascii (now (part .entry))) ⌝ }
+    ensures { λ r. ⌜ Grows h (now (part .entry)) (r .grow) × Hits h (now (part .entry)) (r .replaced) × (r .high ≤ length (now (part .entry))) × (r .high ≡ 0 → Each Ascii (now (part .entry))) ⌝ }
 {
     let mut high_bytes: u8 = 0;
     let mut n: u8 = 0;
+    let mut hits: u8 = 0;
     let mut i: usize = 0;
     while i < part.len() {
         let b = part[i];
         high_bytes += high(b);
-        n += gain(h, g, b);
+        let more = gain(h, g, b);
+        n += more;
+        hits += hit(more);
         i += 1;
     }
     Scan {
         high: high_bytes as usize,
         grow: n as usize,
+        replaced: hits as usize,
     }
 }
 
 // Counts the same of a text, part by part.
 pub fn count(h: Html, g: Gains, text: &[u8]) -> Scan
     requires { ⌜ (g ≡ gainsOf h) × (length (now text) ≤ 65536) ⌝ }
-    ensures { λ r. ⌜ Grows h (now (text .entry)) (r .grow) × (r .high ≡ 0 → Each Ascii (now (text .entry))) ⌝ }
+    ensures { λ r. ⌜ Grows h (now (text .entry)) (r .grow) × Hits h (now (text .entry)) (r .replaced) × (r .high ≡ 0 → Each Ascii (now (text .entry))) ⌝ }
 {
     let mut high_bytes: usize = 0;
     let mut n: usize = 0;
+    let mut hits: usize = 0;
     let mut i: usize = 0;
     while i < text.len() {
         let end = base::clip(i, text.len(), PART);
         let found = tally(h, g, &text[i..end]);
         high_bytes += found.high;
         n += found.grow;
+        hits += found.replaced;
         i = end;
     }
     Scan {
         high: high_bytes,
         grow: n,
+        replaced: hits,
     }
 }
 

@@ -133,7 +133,7 @@ module _ (c : Context) where
 
   -- A loop that has counted all of the one reader's moves has found what a pass of the other finds.
   pub read-measures : (t : List ℕ) (i n k : ℕ) → validTo t ≡ length t → Counted (byteStep c) t i n k → from (byteStep c) t i ≡ []
-      → Measures (record { length = n; place = i; same = eqb k 0 }) (through (readStep c) t)
+      → Measures (record { length = n; place = i; replaced = k }) (through (readStep c) t)
   read-measures t i n k h f e =
       let (long, many, far) = counted-end f e in
-      record { long = long ∙ ap length (byte-result t h); reach = far ∙ byte-place t h; kept = ap (λ (k : ℕ). eqb k 0) (many ∙ byte-replaced t h) }
+      record { long = long ∙ ap length (byte-result t h); reach = far ∙ byte-place t h; many = many ∙ byte-replaced t h }

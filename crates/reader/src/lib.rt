@@ -36,7 +36,7 @@ pub fn measure(c: Context, text: &[u8]) -> Measured
                 return Measured {
                     length,
                     place: i,
-                    same: units == 0,
+                    replaced: units,
                 };
             }
             length += e - i;
@@ -48,7 +48,7 @@ pub fn measure(c: Context, text: &[u8]) -> Measured
             return Measured {
                 length,
                 place: i,
-                same: units == 0,
+                replaced: units,
             };
         };
         length += base::chars::char_length(ch);
@@ -58,36 +58,50 @@ pub fn measure(c: Context, text: &[u8]) -> Measured
     Measured {
         length,
         place: i,
-        same: units == 0,
+        replaced: units,
     }
 }
 
-// Writes the result of read of a valid text to the start of `output`, leaves the bytes after it as they were, and returns its length. It goes through
-// the text as `measure` does.
-pub fn write(c: Context, text: &[u8], output: &mut [u8]) -> usize
+// Writes the result of read of a valid text to the start of `output`, leaves the bytes after it as they were, and returns what `measure` does. It goes
+// through the text as that does.
+pub fn write(c: Context, text: &[u8], output: &mut [u8]) -> Measured
     requires { ⌜ (validTo (now text) ≡ length (now text)) × (length (readOf c (now text)) ≤ length (now output)) ⌝ }
-    ensures { λ r. ⌜ (r ≡ length (readOf c (now (text .entry)))) × (now (output .exit) ≡ over (readOf c (now (text .entry))) (now (output .entry))) ⌝ }
+    ensures { λ r. ⌜ Measures r (through (readStep c) (now (text .entry))) × (now (output .exit) ≡ over (readOf c (now (text .entry))) (now (output .entry))) ⌝ }
 {
     let leads = replaced::leads_of(c);
     let set = replaced::set_of(c);
     let mark = units::mark_of(c);
     let mut at: usize = 0;
+    let mut units: usize = 0;
     let mut i: usize = 0;
     while i < text.len() {
         if text[i] != mark {
             let e = replaced::next_replaced(&leads, &set, text, i);
             if e == i {
-                return at;
+                return Measured {
+                    length: at,
+                    place: i,
+                    replaced: units,
+                };
             }
             at += base::put(&text[i..e], &mut output[at..]);
             i = e;
             continue;
         }
         let Escape::Taken(n, ch) = units::read_unit(c, &set, text, i) else {
-            return at;
+            return Measured {
+                length: at,
+                place: i,
+                replaced: units,
+            };
         };
         at += base::chars::put_char(ch, &mut output[at..]);
+        units += 1;
         i += n;
     }
-    at
+    Measured {
+        length: at,
+        place: i,
+        replaced: units,
+    }
 }

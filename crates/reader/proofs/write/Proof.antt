@@ -1,5 +1,5 @@
--- `write` meets its contract: what is written so far, with what the reader gives of the rest, is the result of the whole. The measure is what is
--- left of the text.
+-- `write` meets its contract: what is written and counted so far, with what the reader gives of the rest, is the result of the whole. The measure is
+-- what is left of the text.
 -- Assumes nothing.
 use mathlib.Core.List.{List, []}
 use mathlib.Core.Path.{_≡_, sym, ap, _∙_}
@@ -15,9 +15,10 @@ use lib.ListN.{length, take, drop}
 use Rattle.rules.specs.declared.Context.{Context}
 use Rattle.rules.specs.Operations.{readOf}
 use Rattle.rules.specs.Moves.{result, from}
-use Rattle.base.proofs.Counted.{next-quiet, next-swap, filled-all, filled-within}
+use Rattle.base.proofs.Counted.{Counted, counted-start, counted-quiet, counted-swap, next-quiet, next-swap, filled-all, filled-within}
+use Rattle.base.proofs.Part.{part-length}
 use Rattle.base.proofs.Filled.{Filled, Next, filled-start, filled-room, filled-next, filled-put}
-use Rattle.reader.proofs.Bytewise.{byte-result}
+use Rattle.reader.proofs.Bytewise.{byte-result, read-measures}
 use Rattle.reader.proofs.write.Statement.{statement}
 use Rattle.reader.proofs.write.Tie as tie
 
@@ -26,10 +27,10 @@ abbrev Rest : Context → List ℕ → ℕ → List ℕ
 Rest c t i = result (from (byteStep c) t i)
 
 abbrev Inv-loop : tie.InvT-loop
-Inv-loop c text output₀ leads set mark at₀ i₀ output at i = (i ≤ length text) × Filled (readOf c text) (Rest c text i) output₀ output at
+Inv-loop c text output₀ leads set mark at₀ units₀ i₀ output at units i = Counted (byteStep c) text i at units × Filled (readOf c text) (Rest c text i) output₀ output at
 
 abbrev μ-loop : tie.MeasureT-loop
-μ-loop c text output₀ leads set mark at₀ i₀ output at i = length text - i
+μ-loop c text output₀ leads set mark at₀ units₀ i₀ output at units i = length text - i
 
 clear : (c : tie.After-next-replaced Inv-loop μ-loop)
     → let a = c .before .before .before .before .before .before .before .before .before .before .before .before .args in
@@ -114,7 +115,7 @@ loop-holds : tie.Need-loop-holds Inv-loop μ-loop
 loop-holds c =
     let a = c .before .before .before .before .before .args in
     let pre = c .before .before .before .before .before .pre in
-    (search needs, rw (byte-result (a .c) (a .text .now) (pre .0)) (filled-start _ _ (pre .1)))
+    (counted-start (byteStep (a .c)) (a .text .now), rw (byte-result (a .c) (a .text .now) (pre .0)) (filled-start _ _ (pre .1)))
 
 shared-slice-read-if1 : tie.Need-shared-slice-read-if1 Inv-loop μ-loop
 shared-slice-read-if1 c = search needs
@@ -127,7 +128,10 @@ same-length : tie.Need-same-length Inv-loop μ-loop
 same-length c = search needs
 
 returns : tie.Need-returns Inv-loop μ-loop
-returns c = filled-all (c .before .before .before .before .before .before .before .loop .inv .1) (ap result (stopped c))
+returns c =
+    let s = c .before .before .before .before .before .before .before .before .before .before .before .before .before in
+    let l = c .before .before .before .before .before .before .before .loop in
+    (read-measures (s .args .c) (s .args .text .now) (l .i) _ _ (s .pre .0) (l .inv .0) (stopped c), filled-all (l .inv .1) (ap result (stopped c)) .1)
 
 sub-put : tie.Need-sub-put Inv-loop μ-loop
 sub-put c = search needs
@@ -165,7 +169,10 @@ loop-again c =
     let next-replaced = c .before .before .before .before .before .before .next-replaced in
     let l = c .before .before .before .before .before .before .before .before .before .before .before .before .loop in
     let put = c .before .before .put in
-    (next-replaced .ensures .within, filled-put (l .inv .1) (next-part (c .before .before .before .before .before .before)) (put .last .1 .0) (put .result) (put .ensures .0) (put .ensures .1))
+    let a = c .before .before .before .before .before .before .before .before .before .before .before .before .before .before .before .before .before .before .args in
+    let r = next-replaced .ensures in
+    let size : put .result ≡ next-replaced .result - l .i = put .ensures .0 ∙ part-length (a .text .now) (l .i) (next-replaced .result) (r .after) (r .within) in
+    (rw size (counted-quiet (l .inv .0) (next-replaced .result) (r .after) (r .within) (clear (c .before .before .before .before .before .before))), filled-put (l .inv .1) (next-part (c .before .before .before .before .before .before)) (put .last .1 .0) (put .result) (put .ensures .0) (put .ensures .1))
 
 read-unit-requires : tie.Need-read-unit-requires Inv-loop μ-loop
 read-unit-requires c κs = (c .before .before .before .before .before .before .set-of .ensures, search needs)
@@ -180,7 +187,10 @@ same-length-2 : tie.Need-same-length-2 Inv-loop μ-loop
 same-length-2 c = search needs
 
 returns-2 : tie.Need-returns-2 Inv-loop μ-loop
-returns-2 c = filled-all (c .before .before .before .before .before .before .before .loop .inv .1) (ap result (unread c))
+returns-2 c =
+    let s = c .before .before .before .before .before .before .before .before .before .before .before .before .before in
+    let l = c .before .before .before .before .before .before .before .loop in
+    (read-measures (s .args .c) (s .args .text .now) (l .i) _ _ (s .pre .0) (l .inv .0) (unread c), filled-all (l .inv .1) (ap result (unread c)) .1)
 
 sub-put-char : tie.Need-sub-put-char Inv-loop μ-loop
 sub-put-char c = filled-within (c .before .before .before .before .before .before .before .before .loop .inv .1)
@@ -199,6 +209,9 @@ add-at-2 : tie.Need-add-at-2 Inv-loop μ-loop
 add-at-2 c =
     omega (arith, c .before .before .put-char .ensures .0, filled-next (c .before .before .before .before .before .before .before .before .before .before .before .before .loop .inv .1) (next-char (c .before .before .before .before .before)))
 
+add-units : tie.Need-add-units Inv-loop μ-loop
+add-units c = search needs
+
 add-i : tie.Need-add-i Inv-loop μ-loop
 add-i c = omega (arith, found (c .before .before .before .before .before) .ends)
 
@@ -209,7 +222,9 @@ loop-again-2 : tie.Need-loop-again-2 Inv-loop μ-loop
 loop-again-2 c =
     let l = c .before .before .before .before .before .before .before .before .before .before .before .before .loop in
     let put-char = c .before .before .put-char in
-    (found (c .before .before .before .before .before) .ends, filled-put (l .inv .1) (next-char (c .before .before .before .before .before)) (put-char .last .1 .0) (put-char .result) (put-char .ensures .0) (put-char .ensures .1))
+    let n = c .before .before .before .before .before .n in
+    let u = found (c .before .before .before .before .before) in
+    (rw (put-char .ensures .0) (counted-swap (l .inv .0) (n .given .0 .0) (utf8 (n .given .0 .1 .0)) (u .some) (u .ends) (u .shorter) (u .moves)), filled-put (l .inv .1) (next-char (c .before .before .before .before .before)) (put-char .last .1 .0) (put-char .result) (put-char .ensures .0) (put-char .ensures .1))
 
 same-length-3 : tie.Need-same-length-3 Inv-loop μ-loop
 same-length-3 c = search needs
@@ -217,8 +232,9 @@ same-length-3 c = search needs
 returns-3 : tie.Need-returns-3 Inv-loop μ-loop
 returns-3 c =
     let l = c .before .loop in
-    let a = c .before .before .before .before .before .before .before .args in
-    filled-all (l .inv .1) (ap result (from-end (byteStep (a .c)) (a .text .now) (l .i) (omega arith)))
+    let s = c .before .before .before .before .before .before .before in
+    let none = from-end (byteStep (s .args .c)) (s .args .text .now) (l .i) (omega arith) in
+    (read-measures (s .args .c) (s .args .text .now) (l .i) _ _ (s .pre .0) (l .inv .0) none, filled-all (l .inv .1) (ap result none) .1)
 
 pub write-spec : {M : Type 1} → statement M
 write-spec =
@@ -254,6 +270,7 @@ write-spec =
     part-put-char-end
     put-char-requires
     add-at-2
+    add-units
     add-i
     loop-less-2
     loop-again-2
