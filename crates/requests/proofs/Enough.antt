@@ -16,7 +16,7 @@ use Rattle.rules.specs.Moves.{Rule, through, result, replaced, place}
 use Rattle.rules.specs.Utf8.{validTo, isCut}
 use Rattle.rules.specs.Contexts.{Label, contextNames, operationNames}
 use Rattle.rules.specs.Operations.{ruleOf}
-use Rattle.rules.specs.Refusals.{Call, Case, movesOf, caseBy, answer, answerAt}
+use Rattle.rules.specs.Refusals.{Call, Case, movesOf, caseBy, refusal as refused, answerAt}
 use Rattle.rules.specs.Program.{line, textOf, contextLine, printed, shown, printedCall, entityOf}
 use Rattle.rules.specs.declared.AnyContext.{AnyContext}
 use Rattle.rules.specs.declared.Operation.{Operation}
@@ -46,8 +46,8 @@ drop-cut (suc k) (suc n) (x ∷ s) h = let e : n - k ≡ suc n - suc k = omega a
 module _ (t : List ℕ) (long : 8192 < size t) where
   -- What is printed for a text that is too long, by the rule, if there is one.
   abbrev refusal : Option Rule → List ℕ
-  refusal none = printed (answer 5 0 0 0) []
-  refusal (some rule) = printed (answer 1 0 0 0) []
+  refusal none = printed (refused 5 0 0) []
+  refusal (some rule) = printed (refused 1 0 0) []
 
   abbrev prints : Option Rule → Case → List ℕ
   prints by row = printed (answerAt row t (movesOf by t)) (shown (answerAt row t (movesOf by t)) (result (movesOf by t)))

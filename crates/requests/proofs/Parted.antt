@@ -29,7 +29,7 @@ over-within w out₀ out e k = omega (arith, k, ap length e ∙ length-append w 
 pub next-part : (w rest : List ℕ) → Next (w ++ rest) w rest
 next-part w rest = record { next = refl }
 
--- ---- an answer: four numbers with their names, and the name of the text
+-- ---- an answer: five numbers with their names, and the name of the text
 
 abbrev pub statusPart : Answer → List ℕ
 statusPart a = ascii "status=" ++ decimal (a .status)
@@ -40,6 +40,9 @@ lengthPart a = ascii "\nlength=" ++ decimal (a .length)
 abbrev pub samePart : Answer → List ℕ
 samePart a = ascii "\nsame=" ++ decimal (a .same)
 
+abbrev pub replacedPart : Answer → List ℕ
+replacedPart a = ascii "\nreplaced=" ++ decimal (a .replaced)
+
 abbrev pub placePart : Answer → List ℕ
 placePart a = ascii "\nplace=" ++ decimal (a .place)
 
@@ -48,30 +51,34 @@ textPart = ascii "\ntext="
 
 -- The parts, each before all that come after it.
 abbrev pub parts : Answer → List ℕ
-parts a = statusPart a ++ (lengthPart a ++ (samePart a ++ (placePart a ++ textPart)))
+parts a = statusPart a ++ (lengthPart a ++ (samePart a ++ (replacedPart a ++ (placePart a ++ textPart))))
 
-nine : (a b c d e f g h i : List ℕ) → (a ++ b) ++ ((c ++ d) ++ ((e ++ f) ++ ((g ++ h) ++ i))) ≡ a ++ b ++ c ++ d ++ e ++ f ++ g ++ h ++ i ++ []
-nine a b c d e f g h i = simp (append-assoc, append-nil)
+eleven : (a b c d e f g h i j k : List ℕ) → (a ++ b) ++ ((c ++ d) ++ ((e ++ f) ++ ((g ++ h) ++ ((i ++ j) ++ k)))) ≡ a ++ b ++ c ++ d ++ e ++ f ++ g ++ h ++ i ++ j ++ k ++ []
+eleven a b c d e f g h i j k = simp (append-assoc, append-nil)
 
 -- They are the lines.
 pub printed-parts : (a : Answer) → parts a ≡ printed a []
-printed-parts a = nine (ascii "status=") (decimal (a .status)) (ascii "\nlength=") (decimal (a .length)) (ascii "\nsame=") (decimal (a .same)) (ascii "\nplace=") (decimal (a .place)) textPart
+printed-parts a =
+    eleven (ascii "status=") (decimal (a .status)) (ascii "\nlength=") (decimal (a .length)) (ascii "\nsame=") (decimal (a .same)) (ascii "\nreplaced=") (decimal (a .replaced))
+    (ascii "\nplace=") (decimal (a .place)) textPart
 
 number-room : (name : List ℕ) (n : ℕ) → length (name ++ decimal n) ≤ length name + 20
 number-room name n = omega (arith, length-append name (decimal n), digits-length 20 n)
 
--- They take at most 114 bytes: 34 of names, and four times twenty digits.
-pub parts-room : (a : Answer) → length (parts a) ≤ 114
+-- They take at most 144 bytes: 44 of names, and five times twenty digits.
+pub parts-room : (a : Answer) → length (parts a) ≤ 144
 parts-room a =
     omega (
       arith,
-      length-append (statusPart a) (lengthPart a ++ (samePart a ++ (placePart a ++ textPart))),
-      length-append (lengthPart a) (samePart a ++ (placePart a ++ textPart)),
-      length-append (samePart a) (placePart a ++ textPart),
+      length-append (statusPart a) (lengthPart a ++ (samePart a ++ (replacedPart a ++ (placePart a ++ textPart)))),
+      length-append (lengthPart a) (samePart a ++ (replacedPart a ++ (placePart a ++ textPart))),
+      length-append (samePart a) (replacedPart a ++ (placePart a ++ textPart)),
+      length-append (replacedPart a) (placePart a ++ textPart),
       length-append (placePart a) textPart,
       number-room (ascii "status=") (a .status),
       number-room (ascii "\nlength=") (a .length),
       number-room (ascii "\nsame=") (a .same),
+      number-room (ascii "\nreplaced=") (a .replaced),
       number-room (ascii "\nplace=") (a .place),
     )
 
@@ -81,4 +88,4 @@ after p t = ap (λ (l : List ℕ). l ++ t) (sym (append-nil p))
 -- The text stands after the lines.
 pub printed-text : (a : Answer) (t : List ℕ) → printed a t ≡ printed a [] ++ t
 printed-text a t =
-    after (ascii "status=" ++ decimal (a .status) ++ ascii "\nlength=" ++ decimal (a .length) ++ ascii "\nsame=" ++ decimal (a .same) ++ ascii "\nplace=" ++ decimal (a .place) ++ textPart) t
+    after (ascii "status=" ++ decimal (a .status) ++ ascii "\nlength=" ++ decimal (a .length) ++ ascii "\nsame=" ++ decimal (a .same) ++ ascii "\nreplaced=" ++ decimal (a .replaced) ++ ascii "\nplace=" ++ decimal (a .place) ++ textPart) t

@@ -9,7 +9,7 @@ use lib.Dec.{eqb}
 use lib.ListN.{length as size}
 use Rattle.rules.specs.Bytes.{over}
 use Rattle.rules.specs.Contexts.{contextOf}
-use Rattle.rules.specs.Refusals.{Call, answer, answerAt, outAt, caseOf, movesIn}
+use Rattle.rules.specs.Refusals.{Call, refusal, answerAt, outAt, caseOf, movesIn}
 use Rattle.rules.specs.Program.{printed, printedCall}
 use Rattle.rules.specs.declared.Answer.{Answer}
 use Rattle.rules.specs.declared.Operation.{Operation}
@@ -18,9 +18,9 @@ use Rattle.rules.specs.declared.Operation.{Operation}
 abbrev pub resultRoom : ℕ
 resultRoom = 49152
 
--- The most bytes of an answer's lines up to its text: 34 of names and line ends, and four numbers of at most twenty digits.
+-- The most bytes of an answer's lines up to its text: 44 of names and line ends, and five numbers of at most twenty digits.
 abbrev pub linesMost : ℕ
-linesMost = 114
+linesMost = 144
 
 -- Room for every reply.
 abbrev pub replyRoom : ℕ
@@ -40,11 +40,11 @@ outputOf k out = outAt (caseOf k) (movesIn k) out
 
 -- What is answered where the text is too long, if `empty` is the answer for the empty text.
 abbrev pub refused : Answer → Answer
-refused empty = cond (eqb (empty .status) 5) empty (answer 1 0 0 0)
+refused empty = cond (eqb (empty .status) 5) empty (refusal 1 0 0)
 
 -- What is printed for a request, if it is one.
 abbrev pub printedBy : Option Call → List ℕ
-printedBy none = printed (answer 6 0 0 0) []
+printedBy none = printed (refusal 6 0 0) []
 printedBy (some k) = printedCall k
 
 -- The bytes w are written to the start of an output, and r is their number; the rest keeps its values.

@@ -11,7 +11,7 @@ ghost use Prim.Native.Nat.{ℕ, _≤_};
 ghost use lib.ListN.{length, take};
 ghost use Rattle.rules.specs.Bytes.{over};
 ghost use Rattle.rules.specs.Contexts.{contextOf};
-ghost use Rattle.rules.specs.Refusals.{answer};
+ghost use Rattle.rules.specs.Refusals.{refusal as refusalOf};
 ghost use Rattle.rules.specs.Program.{entityOf, requestOf, contextLine, textOf, printedCall};
 ghost use Rattle.requests.specs.Asked.{resultRoom, replyRoom, asked, answerTo, outputOf, refused, printedBy, Prints};
 use crate::lines::Line;
@@ -43,12 +43,13 @@ pub fn is_enough(n: usize) -> bool
 
 // Returns a refusal with no length and no place.
 fn refusal(status: usize) -> Answer
-    ensures { λ r. ⌜ r ≡ answer status 0 0 0 ⌝ }
+    ensures { λ r. ⌜ r ≡ refusalOf status 0 0 ⌝ }
 {
     Answer {
         status,
         length: 0,
         same: 0,
+        replaced: 0,
         place: 0,
     }
 }

@@ -50,6 +50,7 @@ pub fn put_answer(answer: Answer, output: &mut [u8]) -> usize
     let mut at = put_number(b"status=", answer.status, output);
     at += put_number(b"\nlength=", answer.length, &mut output[at..]);
     at += put_number(b"\nsame=", answer.same, &mut output[at..]);
+    at += put_number(b"\nreplaced=", answer.replaced, &mut output[at..]);
     at += put_number(b"\nplace=", answer.place, &mut output[at..]);
     at += base::put(b"\ntext=", &mut output[at..]);
     at
