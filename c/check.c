@@ -27,10 +27,10 @@ static void check(int holds, const char *what, uint32_t which)
     }
 }
 
-/* Whether the answer is these four numbers. */
-static int is(lintelrye_answer answer, uint64_t status, uint64_t length, uint64_t same, uint64_t place)
+/* Whether the answer is these five numbers. */
+static int is(lintelrye_answer answer, uint64_t status, uint64_t length, uint64_t same, uint64_t replaced, uint64_t place)
 {
-    return answer.status == status && answer.length == length && answer.same == same && answer.place == place;
+    return answer.status == status && answer.length == length && answer.same == same && answer.replaced == replaced && answer.place == place;
 }
 
 /* Whether the output holds these bytes at its front and nothing new past them. */
@@ -59,12 +59,12 @@ static void check_null(uint32_t which)
     uint32_t context;
     memset(output, UNTOUCHED, OUTPUT);
     for (context = 0; context < contexts[which]; context++) {
-        check(is(calls[which](context, NULL, 0, NULL, 0), LINTELRYE_PASSED, 0, 1, 0), "null text, null output", which);
-        check(is(calls[which](context, NULL, 0, output, OUTPUT), LINTELRYE_PASSED, 0, 1, 0), "null text", which);
+        check(is(calls[which](context, NULL, 0, NULL, 0), LINTELRYE_PASSED, 0, 1, 0, 0), "null text, null output", which);
+        check(is(calls[which](context, NULL, 0, output, OUTPUT), LINTELRYE_PASSED, 0, 1, 0, 0), "null text", which);
         if (which % 2 == 1) {
-            check(is(calls[which](context, letters, 3, NULL, 0), LINTELRYE_PASSED, 3, 1, 0), "null output, nothing replaced", which);
+            check(is(calls[which](context, letters, 3, NULL, 0), LINTELRYE_PASSED, 3, 1, 0, 0), "null output, nothing replaced", which);
         } else {
-            check(is(calls[which](context, letters, 3, NULL, 0), LINTELRYE_NO_ROOM, 3, 0, 0), "null output", which);
+            check(is(calls[which](context, letters, 3, NULL, 0), LINTELRYE_NO_ROOM, 3, 0, 0, 0), "null output", which);
         }
     }
     check(holds(""), "null pointers leave the output", which);
@@ -73,34 +73,34 @@ static void check_null(uint32_t which)
 /* The refusals that every call has. */
 static void check_refusals(uint32_t which)
 {
-    check(is(of(which, contexts[which], "a", OUTPUT), LINTELRYE_BAD_CONTEXT, 0, 0, 0) && holds(""), "bad context", which);
-    check(is(of(which, UINT32_MAX, "a", OUTPUT), LINTELRYE_BAD_CONTEXT, 0, 0, 0) && holds(""), "worst context", which);
-    check(is(of(which, 1, "a\xC3(", OUTPUT), LINTELRYE_NOT_UTF8, 0, 0, 1) && holds(""), "not UTF-8", which);
-    check(is(of(which, 1, "a\xE0\x9F", OUTPUT), LINTELRYE_NOT_UTF8, 0, 0, 1) && holds(""), "not UTF-8, however it goes on", which);
-    check(is(of(which, 1, "a\xE2\x82", OUTPUT), LINTELRYE_CUT_SHORT, 0, 0, 1) && holds(""), "cut short", which);
-    check(is(calls[which](1, letters, sizeof letters, output, OUTPUT), LINTELRYE_TOO_LONG, 0, 0, 0) && holds(""), "too long", which);
+    check(is(of(which, contexts[which], "a", OUTPUT), LINTELRYE_BAD_CONTEXT, 0, 0, 0, 0) && holds(""), "bad context", which);
+    check(is(of(which, UINT32_MAX, "a", OUTPUT), LINTELRYE_BAD_CONTEXT, 0, 0, 0, 0) && holds(""), "worst context", which);
+    check(is(of(which, 1, "a\xC3(", OUTPUT), LINTELRYE_NOT_UTF8, 0, 0, 0, 1) && holds(""), "not UTF-8", which);
+    check(is(of(which, 1, "a\xE0\x9F", OUTPUT), LINTELRYE_NOT_UTF8, 0, 0, 0, 1) && holds(""), "not UTF-8, however it goes on", which);
+    check(is(of(which, 1, "a\xE2\x82", OUTPUT), LINTELRYE_CUT_SHORT, 0, 0, 0, 1) && holds(""), "cut short", which);
+    check(is(calls[which](1, letters, sizeof letters, output, OUTPUT), LINTELRYE_TOO_LONG, 0, 0, 0, 0) && holds(""), "too long", which);
     if (which % 2 == 0) {
-        check(is(of(which, 1, "abc", 2), LINTELRYE_NO_ROOM, 3, 0, 0) && holds(""), "no room to copy", which);
-        check(is(of(which, 1, "abc", 3), LINTELRYE_PASSED, 3, 1, 0) && holds("abc"), "room to copy", which);
+        check(is(of(which, 1, "abc", 2), LINTELRYE_NO_ROOM, 3, 0, 0, 0) && holds(""), "no room to copy", which);
+        check(is(of(which, 1, "abc", 3), LINTELRYE_PASSED, 3, 1, 0, 0) && holds("abc"), "room to copy", which);
     } else {
-        check(is(of(which, 1, "abc", 0), LINTELRYE_PASSED, 3, 1, 0) && holds(""), "nothing to replace", which);
+        check(is(of(which, 1, "abc", 0), LINTELRYE_PASSED, 3, 1, 0, 0) && holds(""), "nothing to replace", which);
     }
 }
 
 /* What an operation writes, and what it needs. */
-static void check_written(uint32_t which, uint32_t context, const char *text, const char *result)
+static void check_written(uint32_t which, uint32_t context, const char *text, uint64_t replaced, const char *result)
 {
     size_t n = strlen(result);
-    check(is(of(which, context, text, OUTPUT), LINTELRYE_PASSED, n, 0, 0) && holds(result), "the result", which);
-    check(is(of(which, context, text, n), LINTELRYE_PASSED, n, 0, 0) && holds(result), "the result in exact room", which);
-    check(is(of(which, context, text, n - 1), LINTELRYE_NO_ROOM, n, 0, 0) && holds(""), "one byte too few", which);
+    check(is(of(which, context, text, OUTPUT), LINTELRYE_PASSED, n, 0, replaced, 0) && holds(result), "the result", which);
+    check(is(of(which, context, text, n), LINTELRYE_PASSED, n, 0, replaced, 0) && holds(result), "the result in exact room", which);
+    check(is(of(which, context, text, n - 1), LINTELRYE_NO_ROOM, n, 0, 0, 0) && holds(""), "one byte too few", which);
 }
 
 /* lintelrye_view: the text, the front of the output, or none. */
 static void check_view(void)
 {
     const uint8_t *text = letters;
-    lintelrye_answer answer = {LINTELRYE_PASSED, 3, 1, 0};
+    lintelrye_answer answer = {LINTELRYE_PASSED, 3, 1, 0, 0};
     size_t n = 99;
     check(lintelrye_view(text, 7, output, 2, answer, &n) == text && n == 7, "view of the text", 0);
     answer.same = 0;
@@ -120,19 +120,19 @@ int main(void)
 {
     uint32_t which;
     memset(letters, 'a', sizeof letters);
-    check(sizeof(lintelrye_answer) == 32, "the answer's size", 0);
+    check(sizeof(lintelrye_answer) == 40, "the answer's size", 0);
     for (which = 0; which < 8; which++) {
         check_null(which);
         check_refusals(which);
     }
     for (which = 0; which < 2; which++) {
-        check_written(which, LINTELRYE_TEXT, "a<", "a&lt;");
-        check_written(which, LINTELRYE_SCRIPT_RAW, "</script>", "<\\/script>");
-        check_written(2 + which, LINTELRYE_TEXT, "&nGt;", "\xE2\x89\xAB\xE2\x83\x92");
-        check_written(2 + which, LINTELRYE_SCRIPT_SINGLE, "it\\'s", "it's");
-        check_written(4 + which, LINTELRYE_QUOTED, "Mum &amp; Dad&#x27;s", "Mum & Dad's");
-        check_written(6 + which, LINTELRYE_TEXT, "&#0;", "\xEF\xBF\xBD");
-        check(is(of(4 + which, LINTELRYE_TEXT_MINIMAL, "a&lt;&gt;", OUTPUT), LINTELRYE_NOT_A_FORM, 0, 0, 5) && holds(""), "no form", 4 + which);
+        check_written(which, LINTELRYE_TEXT, "a<", 1, "a&lt;");
+        check_written(which, LINTELRYE_SCRIPT_RAW, "</script>", 1, "<\\/script>");
+        check_written(2 + which, LINTELRYE_TEXT, "&nGt;", 1, "\xE2\x89\xAB\xE2\x83\x92");
+        check_written(2 + which, LINTELRYE_SCRIPT_SINGLE, "it\\'s", 1, "it's");
+        check_written(4 + which, LINTELRYE_QUOTED, "Mum &amp; Dad&#x27;s", 2, "Mum & Dad's");
+        check_written(6 + which, LINTELRYE_TEXT, "&#0;", 1, "\xEF\xBF\xBD");
+        check(is(of(4 + which, LINTELRYE_TEXT_MINIMAL, "a&lt;&gt;", OUTPUT), LINTELRYE_NOT_A_FORM, 0, 0, 0, 5) && holds(""), "no form", 4 + which);
     }
     check_view();
     printf("c/check: %s\n", failed ? "FAILED" : "what the header says holds");

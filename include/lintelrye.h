@@ -1,7 +1,7 @@
 /* Lintelrye for C and C++: HTML escaping with proofs. Link liblintelrye_c.a (x86-64, System V calls); nothing else is needed.
  *
  * Four operations, each as a copying and as a borrowing call. Every call takes a context by its number, a text, and an output that the caller
- * lends, and returns four numbers. No call allocates, keeps a pointer or writes to a global, and every call ends.
+ * lends, and returns five numbers. No call allocates, keeps a pointer or writes to a global, and every call ends.
  *
  * What a caller owes, and all that is owed:
  *   - `text` can be read for `text_length` bytes, and `output` read and written for `output_length` bytes, during the call;
@@ -70,11 +70,23 @@ enum lintelrye_status {
 
 /* The answer of a call. */
 typedef struct lintelrye_answer {
-    uint64_t status; /* LINTELRYE_PASSED, or the refusal */
-    uint64_t length; /* the result's length; after NO_ROOM the length needed; after any other refusal 0 */
-    uint64_t same;   /* 1 exactly if nothing was replaced, so that the result is the text; after a refusal 0 */
-    uint64_t place;  /* after NOT_UTF8, CUT_SHORT and NOT_A_FORM the length of the longest correct prefix; otherwise 0 */
+    uint64_t status;   /* LINTELRYE_PASSED, or the refusal */
+    uint64_t length;   /* the result's length; after NO_ROOM the length needed; after any other refusal 0 */
+    uint64_t same;     /* 1 exactly if nothing was replaced, so that the result is the text; after a refusal 0 */
+    uint64_t replaced; /* how many places were replaced: characters by encode and read, references or escapes by decode and browse; after a refusal 0 */
+    uint64_t place;    /* after NOT_UTF8, CUT_SHORT and NOT_A_FORM the length of the longest correct prefix; otherwise 0 */
 } lintelrye_answer;
+
+/* The archive's names of the calls end in how many numbers an answer has. A program that was compiled with a header of another record does not link
+ * with this archive, nor one compiled with this header with another archive. */
+#define lintelrye_encode lintelrye_encode_5
+#define lintelrye_encode_borrowing lintelrye_encode_borrowing_5
+#define lintelrye_decode lintelrye_decode_5
+#define lintelrye_decode_borrowing lintelrye_decode_borrowing_5
+#define lintelrye_read lintelrye_read_5
+#define lintelrye_read_borrowing lintelrye_read_borrowing_5
+#define lintelrye_browse lintelrye_browse_5
+#define lintelrye_browse_borrowing lintelrye_browse_borrowing_5
 
 /* encode: escapes the text for the context. Every character that the context replaces is replaced, everything else is copied. */
 lintelrye_answer lintelrye_encode(uint32_t context, const uint8_t *text, size_t text_length, uint8_t *output, size_t output_length);

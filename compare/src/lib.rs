@@ -12,6 +12,7 @@ pub struct Answer {
     pub status: u64,
     pub length: u64,
     pub same: u64,
+    pub replaced: u64,
     pub place: u64,
 }
 
@@ -40,8 +41,8 @@ macro_rules! exported {
 
 #[cfg(feature = "archive")]
 exported! {
-    lintelrye_encode lintelrye_encode_borrowing lintelrye_decode lintelrye_decode_borrowing
-    lintelrye_read lintelrye_read_borrowing lintelrye_browse lintelrye_browse_borrowing
+    lintelrye_encode_5 lintelrye_encode_borrowing_5 lintelrye_decode_5 lintelrye_decode_borrowing_5
+    lintelrye_read_5 lintelrye_read_borrowing_5 lintelrye_browse_5 lintelrye_browse_borrowing_5
 }
 
 /// The four operations.
@@ -82,14 +83,14 @@ pub struct Call(Exported);
 impl Call {
     pub fn find(operation: Operation, borrowing: bool) -> Call {
         Call(match (operation, borrowing) {
-            (Operation::Encode, false) => lintelrye_encode,
-            (Operation::Encode, true) => lintelrye_encode_borrowing,
-            (Operation::Decode, false) => lintelrye_decode,
-            (Operation::Decode, true) => lintelrye_decode_borrowing,
-            (Operation::Read, false) => lintelrye_read,
-            (Operation::Read, true) => lintelrye_read_borrowing,
-            (Operation::Browse, false) => lintelrye_browse,
-            (Operation::Browse, true) => lintelrye_browse_borrowing,
+            (Operation::Encode, false) => lintelrye_encode_5,
+            (Operation::Encode, true) => lintelrye_encode_borrowing_5,
+            (Operation::Decode, false) => lintelrye_decode_5,
+            (Operation::Decode, true) => lintelrye_decode_borrowing_5,
+            (Operation::Read, false) => lintelrye_read_5,
+            (Operation::Read, true) => lintelrye_read_borrowing_5,
+            (Operation::Browse, false) => lintelrye_browse_5,
+            (Operation::Browse, true) => lintelrye_browse_borrowing_5,
         })
     }
 

@@ -1,5 +1,5 @@
-//! What each call is to answer, worked out from the crate html-escape, from `std::str::from_utf8` and from docs/RULES.md.
-//! Nothing here calls the library.
+//! What each call is to answer, worked out from the crate html-escape, from `std::str::from_utf8` and from docs/RULES.md. The crate gives no count of
+//! replaced places: that is counted here, by the rules' own division of the text. Nothing here calls the library.
 
 use crate::{Answer, Operation, CRATE_DECODERS, CRATE_ENCODERS, CRATE_LENDING_DECODERS, CRATE_LENDING_ENCODERS};
 use std::borrow::Cow;
@@ -20,17 +20,17 @@ pub const CUT_SHORT: u64 = 7;
 pub struct Outcome {
     pub status: u64,
     pub place: usize,
-    pub same: bool,
+    pub replaced: u64,
     pub result: Vec<u8>,
 }
 
 impl Outcome {
-    fn passed(result: Vec<u8>, same: bool) -> Outcome {
-        Outcome { status: PASSED, place: 0, same, result }
+    fn passed(result: Vec<u8>, replaced: u64) -> Outcome {
+        Outcome { status: PASSED, place: 0, replaced, result }
     }
 
     fn refused(status: u64, place: usize) -> Outcome {
-        Outcome { status, place, same: false, result: Vec::new() }
+        Outcome { status, place, replaced: 0, result: Vec::new() }
     }
 
     /// The answer of a call with an output of `room` bytes, and how many bytes of the result it writes.
@@ -38,15 +38,14 @@ impl Outcome {
         let length = self.result.len() as u64;
         let place = self.place as u64;
         if self.status != PASSED {
-            return (Answer { status: self.status, length: 0, same: 0, place }, 0);
+            return (Answer { status: self.status, length: 0, same: 0, replaced: 0, place }, 0);
         }
-        if borrowing && self.same {
-            return (Answer { status: PASSED, length, same: 1, place }, 0);
+        let same = self.replaced == 0;
+        if !(borrowing && same) && room < self.result.len() {
+            return (Answer { status: NO_ROOM, length, same: 0, replaced: 0, place }, 0);
         }
-        if room < self.result.len() {
-            return (Answer { status: NO_ROOM, length, same: 0, place }, 0);
-        }
-        (Answer { status: PASSED, length, same: self.same as u64, place }, self.result.len())
+        let written = if borrowing && same { 0 } else { self.result.len() };
+        (Answer { status: PASSED, length, same: same as u64, replaced: self.replaced, place }, written)
     }
 }
 
@@ -87,11 +86,38 @@ impl Model {
         };
         let context = context as usize;
         match operation {
-            Operation::Encode => of_crate(CRATE_LENDING_ENCODERS[context](text), text, CRATE_ENCODERS[context]),
-            Operation::Decode => of_crate(CRATE_LENDING_DECODERS[context](text), text, CRATE_DECODERS[context]),
+            Operation::Encode => self.encode(context, text),
+            Operation::Decode => self.decode(context, text),
             Operation::Read => self.units[context].read(text),
-            Operation::Browse => browse(text),
+            Operation::Browse => {
+                let (result, replaced) = references(text, browsed);
+                Outcome::passed(result.into_bytes(), replaced)
+            }
         }
+    }
+}
+
+impl Model {
+    /// The crate's encoding. A character is replaced if it is when it stands alone; in script_raw each backslash is one place.
+    fn encode(&self, context: usize, text: &str) -> Outcome {
+        let written = of_crate(CRATE_LENDING_ENCODERS[context](text), text, CRATE_ENCODERS[context]);
+        let replaced = match self.units.get(context) {
+            Some(units) => units.count(text),
+            None => written.result.len() - text.len(),
+        };
+        written.counted(replaced as u64)
+    }
+
+    /// The crate's decoding. The places are found by the rules, and must give the crate's result.
+    fn decode(&self, context: usize, text: &str) -> Outcome {
+        let decoded = of_crate(CRATE_LENDING_DECODERS[context](text), text, CRATE_DECODERS[context]);
+        let (result, replaced) = match context {
+            0..=6 => references(text, decoded_reference),
+            7..=9 => self.units[context].unescape(text, "script"),
+            _ => self.units[context].unescape(text, "style"),
+        };
+        assert!(result.as_bytes() == decoded.result, "the places that the rules replace do not make the crate's result of {:?}", text);
+        decoded.counted(replaced)
     }
 }
 
@@ -101,12 +127,26 @@ impl Default for Model {
     }
 }
 
-/// What the crate gives: `same` where it lends the text. Its two ways to the result must agree.
-fn of_crate(lent: Cow<str>, text: &str, to_vec: crate::ToVec) -> Outcome {
+/// What the crate gives, and whether it lends the text.
+struct OfCrate {
+    result: Vec<u8>,
+    lent: bool,
+}
+
+impl OfCrate {
+    /// The crate's result with a count of replaced places, which is 0 exactly where the crate lends the text.
+    fn counted(self, replaced: u64) -> Outcome {
+        assert!(self.lent == (replaced == 0), "{} places are replaced in {:?}, and the crate sees it otherwise", replaced, String::from_utf8_lossy(&self.result));
+        Outcome::passed(self.result, replaced)
+    }
+}
+
+/// What the crate gives. Its two ways to the result must agree.
+fn of_crate(lent: Cow<str>, text: &str, to_vec: crate::ToVec) -> OfCrate {
     let mut copied = Vec::new();
     to_vec(text, &mut copied);
     assert!(copied == lent.as_bytes(), "the crate's two functions disagree on {:?}", text);
-    Outcome::passed(copied, matches!(lent, Cow::Borrowed(_)))
+    OfCrate { result: copied, lent: matches!(lent, Cow::Borrowed(_)) }
 }
 
 /// The units of a context: what the crate's encoder writes for each character that it replaces.
@@ -136,10 +176,35 @@ impl Units {
         units
     }
 
+    /// How many characters of a text are replaced.
+    fn count(&self, text: &str) -> usize {
+        text.chars().filter(|c| self.replaced.contains(c)).count()
+    }
+
+    /// decode of a string by RULES 11: the escapes that the context writes, and after a `<` of the text the two of older pages. Gives the result, and how
+    /// many escapes are replaced.
+    fn unescape(&self, text: &str, element: &str) -> (String, u64) {
+        let (mut result, mut replaced, mut at) = (String::new(), 0, 0);
+        while let Some(c) = text[at..].chars().next() {
+            let rest = &text[at..];
+            let row = self.rows.iter().find(|row| rest.as_bytes().starts_with(&row.0));
+            let older = c == '\\' && text[..at].ends_with('<') && (rest.starts_with("\\!--") || closes(&rest[1..], element));
+            let (meant, taken) = match row {
+                Some((written, meant)) => (*meant, written.len()),
+                None if older => (rest.as_bytes()[1] as char, 2),
+                None => (c, 0),
+            };
+            result.push(meant);
+            replaced += (taken > 0) as u64;
+            at += if taken > 0 { taken } else { c.len_utf8() };
+        }
+        (result, replaced)
+    }
+
     /// The strict reader: at each place a replacement, or a character that is not replaced; otherwise the text is no form.
     fn read(&self, text: &str) -> Outcome {
         let mut result = String::new();
-        let mut same = true;
+        let mut replaced = 0;
         let mut at = 0;
         while let Some(c) = text[at..].chars().next() {
             if !self.replaced.contains(&c) {
@@ -148,19 +213,26 @@ impl Units {
             } else if let Some((written, meant)) = self.rows.iter().find(|row| text.as_bytes()[at..].starts_with(&row.0)) {
                 result.push(*meant);
                 at += written.len();
-                same = false;
+                replaced += 1;
             } else {
                 return Outcome::refused(NOT_A_FORM, at);
             }
         }
-        Outcome::passed(result.into_bytes(), same)
+        Outcome::passed(result.into_bytes(), replaced)
     }
 }
 
-/// browse: references are found by RULES 10.1, names are the crate's decode, numbers are RULES 10.5.
-fn browse(text: &str) -> Outcome {
+/// Whether the bytes begin with `/`, the element's name in any letter case, and a byte that ends a name (RULES 7.3).
+fn closes(rest: &str, element: &str) -> bool {
+    let bytes = rest.as_bytes();
+    let end = 1 + element.len();
+    bytes.len() > end && bytes[0] == b'/' && bytes[1..end].eq_ignore_ascii_case(element.as_bytes()) && matches!(bytes[end], 9..=13 | 28..=32 | b'/' | b'>')
+}
+
+/// References are found by RULES 10.1, and each that stands for another text is replaced. Gives the result, and how many are replaced.
+fn references(text: &str, meaning: fn(&str) -> Cow<'_, str>) -> (String, u64) {
     let mut result = String::new();
-    let mut same = true;
+    let mut replaced = 0;
     let mut rest = text;
     while let Some(start) = rest.find('&') {
         result.push_str(&rest[..start]);
@@ -176,12 +248,12 @@ fn browse(text: &str) -> Outcome {
         }
         let reference = &rest[..=end];
         rest = &rest[end + 1..];
-        let meant = browsed(reference);
-        same = same && matches!(meant, Cow::Borrowed(_));
+        let meant = meaning(reference);
+        replaced += matches!(meant, Cow::Owned(_)) as u64;
         result.push_str(&meant);
     }
     result.push_str(rest);
-    Outcome::passed(result.into_bytes(), same)
+    (result, replaced)
 }
 
 /// What a browser takes the numbers from 80 to 9F hex for: the bytes of windows-1252, and the control character for the five that it leaves free.
@@ -190,7 +262,12 @@ const WINDOWS: [char; 32] = [
     '\u{90}', '‘', '’', '“', '”', '•', '–', '—', '˜', '™', 'š', '›', 'œ', '\u{9D}', 'ž', 'Ÿ',
 ];
 
-/// What a browser takes one reference for: from its `&` to its `;`.
+/// What decode takes one reference for, from its `&` to its `;`: what the crate's decoder does.
+fn decoded_reference(reference: &str) -> Cow<'_, str> {
+    CRATE_LENDING_DECODERS[0](reference)
+}
+
+/// What browse takes one for: names are the crate's decode, numbers are RULES 10.5.
 fn browsed(reference: &str) -> Cow<'_, str> {
     let body = &reference[1..reference.len() - 1];
     let hex = body.strip_prefix("#x").or_else(|| body.strip_prefix("#X"));

@@ -78,7 +78,7 @@ impl fmt::Display for Refusal {
 #[cfg(feature = "std")]
 impl std::error::Error for Refusal {}
 
-/// A result, and whether anything was replaced: what a `Cow` is in html-escape. It can be used as a `&str`, and be given to the next call.
+/// A result, and how many places were replaced: what a `Cow` is in html-escape. It can be used as a `&str`, and be given to the next call.
 ///
 /// ```
 /// // A script string in an attribute: onclick="greet('HERE')"
@@ -89,24 +89,32 @@ impl std::error::Error for Refusal {}
 /// # Ok::<(), lintelrye::Refusal>(())
 /// ```
 #[derive(Clone, Copy, Debug, PartialEq, Eq)]
-pub enum Written<'a> {
-    /// Nothing was replaced. From a borrowing call this is the text itself, from a copying call its copy in the buffer.
-    Same(&'a str),
-    /// Something was replaced: the part of the buffer that was written.
-    Replaced(&'a str),
+pub struct Written<'a> {
+    result: &'a str,
+    replaced: usize,
 }
 
 impl<'a> Written<'a> {
-    /// The result.
+    /// The result: the part of the buffer that was written, or from a borrowing call that replaced nothing the text itself.
     pub fn as_str(self) -> &'a str {
-        match self {
-            Written::Same(result) | Written::Replaced(result) => result,
-        }
+        self.result
     }
 
-    /// Whether nothing was replaced.
+    /// Whether nothing was replaced, so that the result is the text.
     pub fn is_same(self) -> bool {
-        matches!(self, Written::Same(_))
+        self.replaced == 0
+    }
+
+    /// How many places were replaced: characters by [`encode`] and [`read`], references or escapes by [`decode`] and [`browse`].
+    ///
+    /// ```
+    /// let mut line = [0; 64];
+    /// let name = lintelrye::encode_double_quoted_attribute("Tom's \"5\" & <up>", &mut line)?;
+    /// assert_eq!(name.replaced(), 5);
+    /// # Ok::<(), lintelrye::Refusal>(())
+    /// ```
+    pub fn replaced(self) -> usize {
+        self.replaced
     }
 }
 
@@ -167,9 +175,9 @@ fn written(result: Option<&[u8]>, answer: Answer) -> Result<Written<'_>, Refusal
     if answer.status != raw::PASSED {
         return Err(refusal(answer));
     }
-    match (result.map(str::from_utf8), answer.same) {
-        (Some(Ok(result)), 1) => Ok(Written::Same(result)),
-        (Some(Ok(result)), 0) => Ok(Written::Replaced(result)),
+    let replaced = answer.replaced as usize;
+    match result.map(str::from_utf8) {
+        Some(Ok(result)) if answer.same == (replaced == 0) as u64 => Ok(Written { result, replaced }),
         _ => Err(Refusal::WrongArchive),
     }
 }
@@ -195,11 +203,12 @@ operation! {
     /// Escapes the text for the context: every character that the context replaces is replaced, everything else is copied.
     ///
     /// ```
-    /// use lintelrye::{encode, Context, Refusal, Written};
+    /// use lintelrye::{encode, Context, Refusal};
     /// let mut line = [0; 16];
-    /// assert_eq!(encode(Context::Text, "a<b", &mut line), Ok(Written::Replaced("a&lt;b")));
+    /// assert_eq!(encode(Context::Text, "a<b", &mut line)?, "a&lt;b");
     /// assert_eq!(&line[..7], b"a&lt;b\0");
     /// assert_eq!(encode(Context::Text, "a<b", &mut line[..5]), Err(Refusal::NoRoom { needed: 6 }));
+    /// # Ok::<(), lintelrye::Refusal>(())
     /// ```
     encode encode_borrowing
 }

@@ -1,4 +1,4 @@
-//! The calls as the archive exports them: they take any context number and return the four numbers of the answer. The other calls of this crate are
+//! The calls as the archive exports them: they take any context number and return the five numbers of the answer. The other calls of this crate are
 //! made of these.
 
 /// The answer of a call, as include/lintelrye.h lays it out.
@@ -11,6 +11,8 @@ pub struct Answer {
     pub length: u64,
     /// 1 exactly if nothing was replaced, so that the result is the text; after a refusal 0.
     pub same: u64,
+    /// How many places were replaced: characters by encode and read, references or escapes by decode and browse; after a refusal 0.
+    pub replaced: u64,
     /// After [`NOT_UTF8`], [`CUT_SHORT`] and [`NOT_A_FORM`] the length of the longest correct prefix; otherwise 0.
     pub place: u64,
 }
@@ -30,6 +32,7 @@ pub const BAD_CONTEXT: u64 = 5;
 /// The text ends within a character that more bytes could complete, and is valid up to there.
 pub const CUT_SHORT: u64 = 7;
 
+// The archive's names end in how many numbers an answer has: with an archive of another record the crate does not link.
 macro_rules! exported {
     ($($name:ident is $symbol:ident: $does:literal;)*) => {
         #[link(name = "lintelrye_c", kind = "static")]
@@ -48,14 +51,14 @@ macro_rules! exported {
 }
 
 exported! {
-    encode is lintelrye_encode: "`lintelrye_encode`, see [`crate::encode`].";
-    encode_borrowing is lintelrye_encode_borrowing: "`lintelrye_encode_borrowing`, see [`crate::encode_borrowing`].";
-    decode is lintelrye_decode: "`lintelrye_decode`, see [`crate::decode`].";
-    decode_borrowing is lintelrye_decode_borrowing: "`lintelrye_decode_borrowing`, see [`crate::decode_borrowing`].";
-    read is lintelrye_read: "`lintelrye_read`, see [`crate::read`].";
-    read_borrowing is lintelrye_read_borrowing: "`lintelrye_read_borrowing`, see [`crate::read_borrowing`].";
-    browse is lintelrye_browse: "`lintelrye_browse`, see [`crate::browse`].";
-    browse_borrowing is lintelrye_browse_borrowing: "`lintelrye_browse_borrowing`, see [`crate::browse_borrowing`].";
+    encode is lintelrye_encode_5: "`lintelrye_encode`, see [`crate::encode`].";
+    encode_borrowing is lintelrye_encode_borrowing_5: "`lintelrye_encode_borrowing`, see [`crate::encode_borrowing`].";
+    decode is lintelrye_decode_5: "`lintelrye_decode`, see [`crate::decode`].";
+    decode_borrowing is lintelrye_decode_borrowing_5: "`lintelrye_decode_borrowing`, see [`crate::decode_borrowing`].";
+    read is lintelrye_read_5: "`lintelrye_read`, see [`crate::read`].";
+    read_borrowing is lintelrye_read_borrowing_5: "`lintelrye_read_borrowing`, see [`crate::read_borrowing`].";
+    browse is lintelrye_browse_5: "`lintelrye_browse`, see [`crate::browse`].";
+    browse_borrowing is lintelrye_browse_borrowing_5: "`lintelrye_browse_borrowing`, see [`crate::browse_borrowing`].";
 }
 
 /// Returns the result of a call: the whole text where `same` is 1, otherwise the first `length` bytes of the output, or none where the output is shorter.

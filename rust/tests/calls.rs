@@ -17,11 +17,11 @@ fn a_borrowing_call_gives_the_text_itself() {
     let text = "Hall";
     let mut output = [0xEE; 8];
     let written = lintelrye::encode_text(text, &mut output).unwrap();
-    assert_eq!(written, Written::Same("Hall"));
+    assert_eq!(written, "Hall");
     assert_eq!(written.as_str().as_ptr(), text.as_ptr());
-    assert!(written.is_same());
+    assert_eq!((written.is_same(), written.replaced()), (true, 0));
     assert_eq!(output, [0xEE; 8]);
-    assert_eq!(lintelrye::encode_text(text, &mut []), Ok(Written::Same("Hall")));
+    assert_eq!(lintelrye::encode_text(text, &mut []), Ok(written));
 }
 
 #[test]
@@ -30,7 +30,8 @@ fn a_copying_call_gives_the_front_of_the_buffer() {
     let mut output = [0xEE; 8];
     let start = output.as_ptr();
     let written = lintelrye::encode_text_to_slice(text, &mut output).unwrap();
-    assert_eq!(written, Written::Same("Hall"));
+    assert_eq!(written, "Hall");
+    assert_eq!((written.is_same(), written.replaced()), (true, 0));
     assert_eq!(written.as_ptr(), start);
     assert_eq!(&output, b"Hall\xEE\xEE\xEE\xEE");
     assert_eq!(lintelrye::encode_text_to_slice(text, &mut output[..3]), Err(Refusal::NoRoom { needed: 4 }));
@@ -39,17 +40,17 @@ fn a_copying_call_gives_the_front_of_the_buffer() {
 #[test]
 fn what_is_replaced_is_in_the_buffer() {
     for borrowing in [false, true] {
-        let mut output = [0xEE; 8];
+        let mut output = [0xEE; 12];
         let start = output.as_ptr();
         let written = match borrowing {
-            false => lintelrye::encode(Context::Text, "a<", &mut output),
-            true => lintelrye::encode_borrowing(Context::Text, "a<", &mut output),
+            false => lintelrye::encode(Context::Text, "<a<", &mut output),
+            true => lintelrye::encode_borrowing(Context::Text, "<a<", &mut output),
         };
         let written = written.unwrap();
-        assert_eq!(written, Written::Replaced("a&lt;"));
+        assert_eq!(written, "&lt;a&lt;");
         assert_eq!(written.as_ptr(), start);
-        assert_eq!((written.len(), written.is_same()), (5, false));
-        assert_eq!(&output, b"a&lt;\xEE\xEE\xEE");
+        assert_eq!((written.len(), written.is_same(), written.replaced()), (9, false, 2));
+        assert_eq!(&output, b"&lt;a&lt;\xEE\xEE\xEE");
     }
 }
 
@@ -100,8 +101,10 @@ fn results_and_refusals_in_words() {
 fn the_empty_text_and_the_empty_buffer() {
     for (copying, borrowing, contexts) in OPERATIONS {
         for context in &Context::ALL[..contexts] {
-            assert_eq!(copying(*context, b"", &mut []), Ok(Written::Same("")));
-            assert_eq!(borrowing(*context, b"", &mut []), Ok(Written::Same("")));
+            for call in [copying, borrowing] {
+                let written = call(*context, b"", &mut []).unwrap();
+                assert_eq!((written.as_str(), written.replaced()), ("", 0));
+            }
         }
     }
 }
@@ -173,14 +176,14 @@ fn the_texts_tell_contexts_apart() {
 mod exported {
     use super::Answer;
     extern "C" {
-        pub fn lintelrye_encode(c: u32, t: *const u8, n: usize, o: *mut u8, m: usize) -> Answer;
-        pub fn lintelrye_encode_borrowing(c: u32, t: *const u8, n: usize, o: *mut u8, m: usize) -> Answer;
-        pub fn lintelrye_decode(c: u32, t: *const u8, n: usize, o: *mut u8, m: usize) -> Answer;
-        pub fn lintelrye_decode_borrowing(c: u32, t: *const u8, n: usize, o: *mut u8, m: usize) -> Answer;
-        pub fn lintelrye_read(c: u32, t: *const u8, n: usize, o: *mut u8, m: usize) -> Answer;
-        pub fn lintelrye_read_borrowing(c: u32, t: *const u8, n: usize, o: *mut u8, m: usize) -> Answer;
-        pub fn lintelrye_browse(c: u32, t: *const u8, n: usize, o: *mut u8, m: usize) -> Answer;
-        pub fn lintelrye_browse_borrowing(c: u32, t: *const u8, n: usize, o: *mut u8, m: usize) -> Answer;
+        pub fn lintelrye_encode_5(c: u32, t: *const u8, n: usize, o: *mut u8, m: usize) -> Answer;
+        pub fn lintelrye_encode_borrowing_5(c: u32, t: *const u8, n: usize, o: *mut u8, m: usize) -> Answer;
+        pub fn lintelrye_decode_5(c: u32, t: *const u8, n: usize, o: *mut u8, m: usize) -> Answer;
+        pub fn lintelrye_decode_borrowing_5(c: u32, t: *const u8, n: usize, o: *mut u8, m: usize) -> Answer;
+        pub fn lintelrye_read_5(c: u32, t: *const u8, n: usize, o: *mut u8, m: usize) -> Answer;
+        pub fn lintelrye_read_borrowing_5(c: u32, t: *const u8, n: usize, o: *mut u8, m: usize) -> Answer;
+        pub fn lintelrye_browse_5(c: u32, t: *const u8, n: usize, o: *mut u8, m: usize) -> Answer;
+        pub fn lintelrye_browse_borrowing_5(c: u32, t: *const u8, n: usize, o: *mut u8, m: usize) -> Answer;
     }
 }
 
@@ -189,16 +192,16 @@ mod exported {
 fn null_pointers_of_length_0() {
     use exported::*;
     let calls = [
-        lintelrye_encode,
-        lintelrye_encode_borrowing,
-        lintelrye_decode,
-        lintelrye_decode_borrowing,
-        lintelrye_read,
-        lintelrye_read_borrowing,
-        lintelrye_browse,
-        lintelrye_browse_borrowing,
+        lintelrye_encode_5,
+        lintelrye_encode_borrowing_5,
+        lintelrye_decode_5,
+        lintelrye_decode_borrowing_5,
+        lintelrye_read_5,
+        lintelrye_read_borrowing_5,
+        lintelrye_browse_5,
+        lintelrye_browse_borrowing_5,
     ];
-    let passed = Answer { status: 0, length: 0, same: 1, place: 0 };
+    let passed = Answer { status: 0, length: 0, same: 1, replaced: 0, place: 0 };
     let text = b"a&lt;";
     for call in calls {
         let mut output = [0xEE; 8];

@@ -1,5 +1,5 @@
 //! Contexts by number and name, results given to the next call, and buffers that are always long enough.
-use lintelrye::{decoded_at_most, encoded_at_most, Context, Refusal, UnknownContext, Written};
+use lintelrye::{decoded_at_most, encoded_at_most, Context, Refusal, UnknownContext};
 
 #[test]
 fn contexts_by_number() {
@@ -41,9 +41,11 @@ fn a_result_is_the_text_of_the_next_call() -> Result<(), Refusal> {
 
 #[test]
 fn a_result_as_text_and_as_bytes() {
-    for written in [Written::Same("a"), Written::Replaced("a")] {
-        assert_eq!(AsRef::<str>::as_ref(&written), "a");
-        assert_eq!(AsRef::<[u8]>::as_ref(&written), b"a");
+    let mut output = [0; 8];
+    for text in ["&amp;", "&"] {
+        let written = lintelrye::decode_html_entities(text, &mut output).unwrap();
+        assert_eq!(AsRef::<str>::as_ref(&written), "&");
+        assert_eq!(AsRef::<[u8]>::as_ref(&written), b"&");
     }
 }
 

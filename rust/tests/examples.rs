@@ -17,10 +17,10 @@ const SCRIPT_QUOTED: u32 = 9;
 const STYLE_QUOTED: u32 = 12;
 const SCRIPT_RAW: u32 = 13;
 
-/// Both calls pass with this result, into a buffer of 64 bytes.
-fn passes(calls: [Call; 2], context: u32, text: &[u8], result: &[u8]) {
+/// Both calls pass with this result and so many replaced places, into a buffer of 64 bytes.
+fn passes(calls: [Call; 2], context: u32, text: &[u8], replaced: u64, result: &[u8]) {
     let same = text == result;
-    let answer = Answer { status: 0, length: result.len() as u64, same: same as u64, place: 0 };
+    let answer = Answer { status: 0, length: result.len() as u64, same: same as u64, replaced, place: 0 };
     for (borrowing, call) in calls.iter().enumerate() {
         let mut output = [0xEE; 64];
         assert_eq!(call(context, text, &mut output), answer, "of {:?}", text);
@@ -44,56 +44,56 @@ fn refuses(calls: [Call; 2], context: u32, text: &[u8], room: usize, answer: Ans
 /// Texts that stay as they are.
 fn stay(calls: [Call; 2], context: u32, texts: &[&[u8]]) {
     for text in texts {
-        passes(calls, context, text, text);
+        passes(calls, context, text, 0, text);
     }
 }
 
 #[test]
 fn encoding_1_to_7() {
-    passes(ENCODE, TEXT_MINIMAL, b"a<b>&", b"a&lt;b>&amp;");
-    passes(ENCODE, SAFE, b"'/\"", b"&#x27;&#x2F;&quot;");
-    passes(ENCODE, SCRIPT_SINGLE, b"it's \"x\"\\", b"it\\'s \"x\"\\\\");
-    passes(ENCODE, SCRIPT_DOUBLE, b"\x0A\x3C", b"\\x0A\\x3C");
-    passes(ENCODE, STYLE_QUOTED, b"\x0A\x3C\x00", b"\\0A \\3C \xEF\xBF\xBD");
-    passes(ENCODE, SCRIPT_QUOTED, b"\xE2\x80\xA8", b"\\u2028");
+    passes(ENCODE, TEXT_MINIMAL, b"a<b>&", 2, b"a&lt;b>&amp;");
+    passes(ENCODE, SAFE, b"'/\"", 3, b"&#x27;&#x2F;&quot;");
+    passes(ENCODE, SCRIPT_SINGLE, b"it's \"x\"\\", 2, b"it\\'s \"x\"\\\\");
+    passes(ENCODE, SCRIPT_DOUBLE, b"\x0A\x3C", 2, b"\\x0A\\x3C");
+    passes(ENCODE, STYLE_QUOTED, b"\x0A\x3C\x00", 3, b"\\0A \\3C \xEF\xBF\xBD");
+    passes(ENCODE, SCRIPT_QUOTED, b"\xE2\x80\xA8", 1, b"\\u2028");
     stay(ENCODE, SCRIPT_QUOTED, &[b"\xE2\x80\xAA"]);
-    passes(ENCODE, SCRIPT_RAW, b"<</script", b"<<\\/script");
+    passes(ENCODE, SCRIPT_RAW, b"<</script", 1, b"<<\\/script");
     stay(ENCODE, SCRIPT_RAW, &[b"</scripts>"]);
 }
 
 #[test]
 fn decoding_8_to_11() {
-    passes(DECODE, TEXT, b"&&lt;", b"&<");
-    passes(DECODE, TEXT, b"&amp;lt;", b"&lt;");
-    passes(DECODE, TEXT, b"&#9;", b"\x09");
+    passes(DECODE, TEXT, b"&&lt;", 1, b"&<");
+    passes(DECODE, TEXT, b"&amp;lt;", 1, b"&lt;");
+    passes(DECODE, TEXT, b"&#9;", 1, b"\x09");
     stay(DECODE, TEXT, &[b"&#11;", b"&#0;", b"&#+65;", b"&#xD800;", b"&#4294967296;"]);
-    passes(DECODE, SCRIPT_QUOTED, b"\\\\x3C", b"\\x3C");
+    passes(DECODE, SCRIPT_QUOTED, b"\\\\x3C", 1, b"\\x3C");
     stay(DECODE, SCRIPT_QUOTED, &[b"\\x3c", b"\\x20"]);
-    passes(DECODE, STYLE_QUOTED, b"\\3C ", b"<");
+    passes(DECODE, STYLE_QUOTED, b"\\3C ", 1, b"<");
     stay(DECODE, STYLE_QUOTED, &[b"\\3C", b"\\00 "]);
 }
 
 #[test]
 fn reading_12() {
-    refuses(READ, TEXT_MINIMAL, b"a&lt;&gt;", 64, Answer { status: 4, length: 0, same: 0, place: 5 });
+    refuses(READ, TEXT_MINIMAL, b"a&lt;&gt;", 64, Answer { status: 4, length: 0, same: 0, replaced: 0, place: 5 });
 }
 
 #[test]
 fn decoding_13_and_14() {
-    passes(DECODE, SCRIPT_QUOTED, b"<\\/SCRIPT ", b"</SCRIPT ");
+    passes(DECODE, SCRIPT_QUOTED, b"<\\/SCRIPT ", 1, b"</SCRIPT ");
     stay(DECODE, SCRIPT_QUOTED, &[b"<\\/script"]);
-    passes(DECODE, TEXT, b"&nGt;", b"\xE2\x89\xAB\xE2\x83\x92");
-    refuses(DECODE, TEXT, b"&nGt;", 5, Answer { status: 3, length: 6, same: 0, place: 0 });
+    passes(DECODE, TEXT, b"&nGt;", 1, b"\xE2\x89\xAB\xE2\x83\x92");
+    refuses(DECODE, TEXT, b"&nGt;", 5, Answer { status: 3, length: 6, same: 0, replaced: 0, place: 0 });
 }
 
 #[test]
 fn limits_15() {
     let letters = vec![b'a'; 65_537];
     for calls in [ENCODE, DECODE, READ, BROWSE] {
-        refuses(calls, TEXT, b"\x61\xC3\x28", 64, Answer { status: 2, length: 0, same: 0, place: 1 });
-        refuses(calls, TEXT, &letters, 64, Answer { status: 1, length: 0, same: 0, place: 0 });
+        refuses(calls, TEXT, b"\x61\xC3\x28", 64, Answer { status: 2, length: 0, same: 0, replaced: 0, place: 1 });
+        refuses(calls, TEXT, &letters, 64, Answer { status: 1, length: 0, same: 0, replaced: 0, place: 0 });
         let mut output = vec![0xEE; 65_540];
-        let passed = Answer { status: 0, length: 65_536, same: 1, place: 0 };
+        let passed = Answer { status: 0, length: 65_536, same: 1, replaced: 0, place: 0 };
         assert_eq!(calls[1](TEXT, &letters[..65_536], &mut []), passed);
         assert_eq!(calls[0](TEXT, &letters[..65_536], &mut output), passed);
         assert_eq!(output[..65_536], letters[..65_536]);
@@ -103,7 +103,7 @@ fn limits_15() {
 
 #[test]
 fn room_16() {
-    refuses(ENCODE, TEXT, b"<", 3, Answer { status: 3, length: 4, same: 0, place: 0 });
+    refuses(ENCODE, TEXT, b"<", 3, Answer { status: 3, length: 4, same: 0, replaced: 0, place: 0 });
     let mut output = [0; 4];
     assert_eq!(raw::encode(TEXT, b"<", &mut output).status, 0);
     assert_eq!(&output, b"&lt;");
@@ -111,7 +111,7 @@ fn room_16() {
 
 #[test]
 fn browsing_17() {
-    passes(BROWSE, TEXT, b"&#0;", b"\xEF\xBF\xBD");
+    passes(BROWSE, TEXT, b"&#0;", 1, b"\xEF\xBF\xBD");
 }
 
 #[test]
@@ -128,7 +128,7 @@ fn contexts_of_the_operations() {
             stay(calls, context, &[b"Hall"]);
         }
         for context in [contexts, 14, 255, 256, u32::MAX] {
-            refuses(calls, context, b"\xFF", 0, Answer { status: 5, length: 0, same: 0, place: 0 });
+            refuses(calls, context, b"\xFF", 0, Answer { status: 5, length: 0, same: 0, replaced: 0, place: 0 });
         }
     }
 }

@@ -63,7 +63,7 @@ fn one_call(operation: Operation, context: u32, text: &[u8], outcome: &Outcome, 
 }
 
 fn shown(answer: Answer) -> String {
-    format!("status {} length {} same {} place {}", answer.status, answer.length, answer.same, answer.place)
+    format!("status {} length {} same {} replaced {} place {}", answer.status, answer.length, answer.same, answer.replaced, answer.place)
 }
 
 fn readable(bytes: &[u8]) -> String {

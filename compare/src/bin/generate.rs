@@ -93,8 +93,9 @@ impl List {
         let operation_letters: String = operations.iter().map(|&operation| letter(operation)).collect();
         let context_letters: String = contexts.iter().map(|&context| if context > 25 { 'z' } else { (b'a' + context as u8) as char }).collect();
         for (kind, (answer, written)) in kinds {
-            let numbers = format!("{} {} {} {} {} {}", room, answer.status, answer.length, answer.same, answer.place, written);
-            self.lines.push_str(&format!("{} {} {} {}\n", operation_letters, context_letters, kind, numbers));
+            let numbers = [room as u64, answer.status, answer.length, answer.same, answer.replaced, answer.place, written as u64];
+            let words: Vec<String> = numbers.iter().map(u64::to_string).collect();
+            self.lines.push_str(&format!("{} {} {} {}\n", operation_letters, context_letters, kind, words.join(" ")));
             for &operation in operations {
                 for &context in contexts {
                     self.counts[operation as usize][context.min(14) as usize] += kind.len() as u64;

@@ -1,5 +1,6 @@
 // Lintelrye for C and Rust: the calls of crates/lintelrye, exported under names of C. `rt staticlib lintelrye_c` writes the archive, and
-// include/lintelrye.h documents each function for a C caller. A text or an output is a pointer and a length.
+// include/lintelrye.h documents each function for a C caller. A text or an output is a pointer and a length. The names end in how many numbers an
+// answer has, so that a program which expects another record does not link.
 ghost use mathlib.Core.Bool.{true, false};
 ghost use Rattle.rules.specs.Contexts.{contextOf};
 ghost use Rattle.rules.specs.Refusals.{Allowed};
@@ -8,7 +9,7 @@ use lintelrye::Answer;
 
 // Escapes `text` for `context`: `lintelrye::encode`.
 #[no_mangle]
-pub extern "C" fn lintelrye_encode(context: u32, text: &[u8], output: &mut [u8]) -> Answer
+pub extern "C" fn lintelrye_encode_5(context: u32, text: &[u8], output: &mut [u8]) -> Answer
     ensures { λ r. ⌜ Allowed Encode (contextOf context) false (now (text .entry)) (now (output .entry)) r (now (output .exit)) ⌝ }
 {
     lintelrye::encode(context, text, output)
@@ -16,7 +17,7 @@ pub extern "C" fn lintelrye_encode(context: u32, text: &[u8], output: &mut [u8])
 
 // The same as a borrowing call: `lintelrye::encode_borrowing`.
 #[no_mangle]
-pub extern "C" fn lintelrye_encode_borrowing(context: u32, text: &[u8], output: &mut [u8]) -> Answer
+pub extern "C" fn lintelrye_encode_borrowing_5(context: u32, text: &[u8], output: &mut [u8]) -> Answer
     ensures { λ r. ⌜ Allowed Encode (contextOf context) true (now (text .entry)) (now (output .entry)) r (now (output .exit)) ⌝ }
 {
     lintelrye::encode_borrowing(context, text, output)
@@ -24,7 +25,7 @@ pub extern "C" fn lintelrye_encode_borrowing(context: u32, text: &[u8], output: 
 
 // Undoes the replacements as html-escape does: `lintelrye::decode`.
 #[no_mangle]
-pub extern "C" fn lintelrye_decode(context: u32, text: &[u8], output: &mut [u8]) -> Answer
+pub extern "C" fn lintelrye_decode_5(context: u32, text: &[u8], output: &mut [u8]) -> Answer
     ensures { λ r. ⌜ Allowed Decode (contextOf context) false (now (text .entry)) (now (output .entry)) r (now (output .exit)) ⌝ }
 {
     lintelrye::decode(context, text, output)
@@ -32,7 +33,7 @@ pub extern "C" fn lintelrye_decode(context: u32, text: &[u8], output: &mut [u8])
 
 // The same as a borrowing call: `lintelrye::decode_borrowing`.
 #[no_mangle]
-pub extern "C" fn lintelrye_decode_borrowing(context: u32, text: &[u8], output: &mut [u8]) -> Answer
+pub extern "C" fn lintelrye_decode_borrowing_5(context: u32, text: &[u8], output: &mut [u8]) -> Answer
     ensures { λ r. ⌜ Allowed Decode (contextOf context) true (now (text .entry)) (now (output .entry)) r (now (output .exit)) ⌝ }
 {
     lintelrye::decode_borrowing(context, text, output)
@@ -40,7 +41,7 @@ pub extern "C" fn lintelrye_decode_borrowing(context: u32, text: &[u8], output: 
 
 // Undoes exactly what encode writes: `lintelrye::read`.
 #[no_mangle]
-pub extern "C" fn lintelrye_read(context: u32, text: &[u8], output: &mut [u8]) -> Answer
+pub extern "C" fn lintelrye_read_5(context: u32, text: &[u8], output: &mut [u8]) -> Answer
     ensures { λ r. ⌜ Allowed Read (contextOf context) false (now (text .entry)) (now (output .entry)) r (now (output .exit)) ⌝ }
 {
     lintelrye::read(context, text, output)
@@ -48,7 +49,7 @@ pub extern "C" fn lintelrye_read(context: u32, text: &[u8], output: &mut [u8]) -
 
 // The same as a borrowing call: `lintelrye::read_borrowing`.
 #[no_mangle]
-pub extern "C" fn lintelrye_read_borrowing(context: u32, text: &[u8], output: &mut [u8]) -> Answer
+pub extern "C" fn lintelrye_read_borrowing_5(context: u32, text: &[u8], output: &mut [u8]) -> Answer
     ensures { λ r. ⌜ Allowed Read (contextOf context) true (now (text .entry)) (now (output .entry)) r (now (output .exit)) ⌝ }
 {
     lintelrye::read_borrowing(context, text, output)
@@ -56,7 +57,7 @@ pub extern "C" fn lintelrye_read_borrowing(context: u32, text: &[u8], output: &m
 
 // Undoes character references, with numbers as a browser reads them: `lintelrye::browse`.
 #[no_mangle]
-pub extern "C" fn lintelrye_browse(context: u32, text: &[u8], output: &mut [u8]) -> Answer
+pub extern "C" fn lintelrye_browse_5(context: u32, text: &[u8], output: &mut [u8]) -> Answer
     ensures { λ r. ⌜ Allowed Browse (contextOf context) false (now (text .entry)) (now (output .entry)) r (now (output .exit)) ⌝ }
 {
     lintelrye::browse(context, text, output)
@@ -64,7 +65,7 @@ pub extern "C" fn lintelrye_browse(context: u32, text: &[u8], output: &mut [u8])
 
 // The same as a borrowing call: `lintelrye::browse_borrowing`.
 #[no_mangle]
-pub extern "C" fn lintelrye_browse_borrowing(context: u32, text: &[u8], output: &mut [u8]) -> Answer
+pub extern "C" fn lintelrye_browse_borrowing_5(context: u32, text: &[u8], output: &mut [u8]) -> Answer
     ensures { λ r. ⌜ Allowed Browse (contextOf context) true (now (text .entry)) (now (output .entry)) r (now (output .exit)) ⌝ }
 {
     lintelrye::browse_borrowing(context, text, output)

@@ -1,14 +1,14 @@
 // Replays the list of the oracle's answers, which compare/src/bin/generate.rs makes of the unchanged Rust: reads it from standard input, makes
-// each call that it names, and compares the four numbers, every byte written, every byte that must stay as it was, and what view gives.
+// each call that it names, and compares the five numbers, every byte written, every byte that must stay as it was, and what view gives.
 // It prints how many cases ran and how many differ, for each operation and context and in all, and names the first that differ.
 //
 // A line of the list is one of these:
 //   # ..       a remark;
 //   tTEXT      the text of the cases that follow, and what they give, until an r line says otherwise;
 //   rRESULT    what the cases that follow give where they pass;
-//   OPERATIONS CONTEXTS KINDS ROOM STATUS LENGTH SAME PLACE WRITTEN
+//   OPERATIONS CONTEXTS KINDS ROOM STATUS LENGTH SAME REPLACED PLACE WRITTEN
 //              a case for each operation (E, D, R, B), context (a for 0, b for 1, ..; z for the largest number) and kind of call (c, b): with an
-//              output of ROOM bytes the answer is the four numbers, and the first WRITTEN bytes of the output are those of the result;
+//              output of ROOM bytes the answer is the five numbers, and the first WRITTEN bytes of the output are those of the result;
 //   end COUNT  the last line: how many cases the list has.
 // crates/replay_list says how a text is spelt. A list with any other line, or with another count, is reported as malformed.
 ghost use mathlib.Core.Path.{_≡_};
@@ -185,26 +185,28 @@ fn each_case(
     false
 }
 
-// The six numbers of a line of cases, and the place past them; `found` is false where one is missing.
+// The seven numbers of a line of cases, and the place past them; `found` is false where one is missing.
 struct Numbers {
     found: bool,
     expected: Expected,
     next: usize,
 }
 
-// Reads the six numbers of a line of cases.
+// Reads the seven numbers of a line of cases.
 fn read_numbers(list: &[u8], at: usize) -> Numbers {
     let room = read_number(list, at);
     let status = read_number(list, after(room.next));
     let length = read_number(list, after(status.next));
     let same = read_number(list, after(length.next));
-    let place = read_number(list, after(same.next));
+    let replaced = read_number(list, after(same.next));
+    let place = read_number(list, after(replaced.next));
     let written = read_number(list, after(place.next));
     let expected = Expected {
         room: room.value,
         status: status.value,
         length: length.value,
         same: same.value,
+        replaced: replaced.value,
         place: place.value,
         written: written.value,
     };

@@ -15,6 +15,7 @@ pub struct Expected {
     pub status: usize,
     pub length: usize,
     pub same: usize,
+    pub replaced: usize,
     pub place: usize,
     pub written: usize,
 }
@@ -25,6 +26,7 @@ pub enum Difference {
     Status,
     Length,
     Same,
+    Replaced,
     Place,
     Written,
     Kept,
@@ -107,7 +109,7 @@ fn is_viewed<'a>(text: &'a [u8], result: &[u8], output: &'a [u8], answer: Answer
     viewed.len() == 0
 }
 
-// The first of the four numbers that differs.
+// The first of the five numbers that differs.
 fn of_numbers(answer: Answer, expected: Expected) -> Difference {
     if answer.status != expected.status {
         return Difference::Status;
@@ -117,6 +119,9 @@ fn of_numbers(answer: Answer, expected: Expected) -> Difference {
     }
     if answer.same != expected.same {
         return Difference::Same;
+    }
+    if answer.replaced != expected.replaced {
+        return Difference::Replaced;
     }
     if answer.place != expected.place {
         return Difference::Place;

@@ -101,6 +101,7 @@ fn print_difference(difference: Difference) {
         Difference::Status => print(b"status"),
         Difference::Length => print(b"length"),
         Difference::Same => print(b"same"),
+        Difference::Replaced => print(b"replaced"),
         Difference::Place => print(b"place"),
         Difference::Written => print(b"a byte of the result"),
         Difference::Kept => print(b"a byte that is to stay"),
