@@ -1,4 +1,4 @@
--- A text may be cut where no line separator lies across: what is written for it is what is written for the two parts.
+-- A text may be cut where no line separator lies across: what is written for it is what is written for the two parts, and as many places are replaced.
 -- Assumes nothing.
 use mathlib.Core.Bool.{Bool, true, false}
 use mathlib.Core.Logic.{_⊎_, inl, inr}
@@ -11,14 +11,14 @@ use borrow.Author.Tests.{eqb-true, eqb-false, ltb-true, ltb-false}
 use lib.Dec.{T, eqb, ltb}
 use lib.ListN.{length, take, drop, getD, length-append, drop-of-length-le}
 use lib.Seq.{getD-drop}
-use Rattle.rules.specs.Moves.{Move, keep, takes}
+use Rattle.rules.specs.Moves.{Move, keep, takes, through, replaced}
 use Rattle.rules.specs.Encoding.{encodeStep}
 use Rattle.rules.specs.Operations.{encodeOf}
 use Rattle.rules.specs.declared.Quotes.{Quotes}
 use Rattle.rules.specs.declared.Context.{Context}
 use Rattle.rules.specs.declared.Context.the-variants.{InScript, InStyle}
 use Rattle.rules.proofs.Tests.{is-false}
-use Rattle.rules.proofs.Blind.{Local, Parted, parted-result}
+use Rattle.rules.proofs.Blind.{Local, Parted, parted-result, parted-replaced}
 use Rattle.base.proofs.Part.{part-length, part-at, parted as part-split}
 use Rattle.base.proofs.Filled.{Next}
 use Rattle.encode_strings.specs.Strings.{endsOf, ended, Apart}
@@ -132,3 +132,12 @@ module _ (language : Language) (quotes : Quotes) where
     pub next-length : Apart t e
         → length (encodeOf (stringOf language quotes) (drop i t)) ≡ length (encodeOf (stringOf language quotes) (take (e - i) (drop i t))) + length (encodeOf (stringOf language quotes) (drop e t))
     next-length p = ap length (next-part p .next) ∙ length-append (encodeOf (stringOf language quotes) (take (e - i) (drop i t))) (encodeOf (stringOf language quotes) (drop e t))
+
+    -- The same of how many places are replaced.
+    pub next-replaced : Apart t e
+        → replaced (through (encodeStep (stringOf language quotes)) (drop i t))
+        ≡ replaced (through (encodeStep (stringOf language quotes)) (take (e - i) (drop i t))) + replaced (through (encodeStep (stringOf language quotes)) (drop e t))
+    next-replaced p =
+        ap (λ (s : List ℕ). replaced (through (encodeStep (stringOf language quotes)) s)) (sym (part-split t i e h))
+        ∙ parted-replaced (encodeStep (stringOf language quotes)) (encode-blind (stringOf language quotes)) (take (e - i) (drop i t)) (drop e t)
+        (parted (take (e - i) (drop i t)) (drop e t) (clear-part p))

@@ -6,14 +6,14 @@ use mathlib.Core.Logic.{_⊎_, inl, inr}
 use mathlib.Core.Option.{Option, none, some}
 use mathlib.Core.Path.{_≡_, refl, sym, ap, _∙_, subst}
 use mathlib.Core.List.{List, [], _∷_, _++_}
-use Prim.Native.Nat.{ℕ, _+_, _-_, _<_, _≤_}
+use Prim.Native.Nat.{ℕ, _+_, _-_, _*_, _<_, _≤_}
 use native.Mathlib.Nat.{not-suc-le-zero}
 use native.Mathlib.Omega.{arith}
 use borrow.Author.Tests.{ne-eqb, lt-ltb, le-ltb, eqb-true, eqb-false, ltb-true, ltb-false}
 use lib.Dec.{T, eqb, leb, ltb, eqb→eq, leb→le}
 use lib.ListN.{length, drop, getD}
 use Rattle.rules.specs.Bytes.{ascii, inside, stands, sameBytes}
-use Rattle.rules.specs.Moves.{Move, keep, swap, stop, takes, gives}
+use Rattle.rules.specs.Moves.{Move, keep, swap, stop, takes, gives, replaced}
 use Rattle.rules.specs.Tables.{Row, rowAt, key, value, table, lineSeparator, paragraphSeparator}
 use Rattle.rules.specs.Encoding.{write, keepByte, encodeStep}
 use Rattle.rules.specs.Answers.{replacementMove, replacedMove}
@@ -26,7 +26,7 @@ use Rattle.rules.specs.declared.Replaced.{Replaced}
 use Rattle.rules.specs.declared.Replaced.the-variants.{By, Nothing}
 use Rattle.rules.proofs.Tests.{and-left, and-right, or-cases, same-bytes}
 use Rattle.rules.proofs.Below.{below, eqb-comm}
-use Rattle.encode_strings.specs.Strings.{isSlashed, isHexed, hexBy, replacedBy, starts, Held, HeldAt, singleKey, doubleKey, weightOf, gainOf, sameOf, endsOf, ended}
+use Rattle.encode_strings.specs.Strings.{isSlashed, isHexed, hexBy, replacedBy, starts, Held, HeldAt, singleKey, doubleKey, escapedOf, hexedOf, sameOf, endsOf, ended}
 use Rattle.encode_strings.proofs.Heads.{not-ascii, kept, no-start, lone}
 use Rattle.rules.specs.Contexts.{stringOf}
 use Rattle.rules.specs.declared.Language.{Language}
@@ -74,19 +74,21 @@ ruled language quotes b = sameMove (replacedMove language (b ∷ []) (replacedBy
 abbrev grown : Language → Quotes → ℕ → Bool
 grown language quotes b =
     eqb (length (takes (alone language quotes b))) 1
-    && eqb (length (gives (alone language quotes b)) + less language b) (1 + gainOf (singleKey quotes) (doubleKey quotes) b)
+    && eqb (length (gives (alone language quotes b)) + less language b) (1 + (escapedOf (singleKey quotes) (doubleKey quotes) b + 2 * hexedOf b))
+    && eqb (replaced (alone language quotes b ∷ [])) (escapedOf (singleKey quotes) (doubleKey quotes) b)
 
--- A byte by itself takes one byte, and gives as much more as it grows; but one less for NUL in a style sheet.
+-- A byte by itself takes one byte, and gives as much more as it grows, but one less for NUL in a style sheet; and it is replaced where it is escaped.
 abbrev pub Grows : Language → Quotes → ℕ → Type 0
 Grows language quotes b =
     (length (takes (alone language quotes b)) ≡ 1)
-    × (length (gives (alone language quotes b)) + less language b ≡ 1 + gainOf (singleKey quotes) (doubleKey quotes) b)
+    × (length (gives (alone language quotes b)) + less language b ≡ 1 + (escapedOf (singleKey quotes) (doubleKey quotes) b + 2 * hexedOf b))
+    × (replaced (alone language quotes b ∷ []) ≡ escapedOf (singleKey quotes) (doubleKey quotes) b)
 
 abbrev right : Language → Quotes → ℕ → Bool
 right language quotes b = ruled language quotes b && grown language quotes b
 
 all-right : (language : Language) (q : Quotes) (b : ℕ) → b < 0x80 → T (right language q b)
-unfolding encodeStep isSlashed isHexed weightOf sameOf
+unfolding encodeStep isSlashed isHexed escapedOf hexedOf sameOf
 all-right Style Single = below (right Style Single) 0x80 tt
 all-right Style Double = below (right Style Double) 0x80 tt
 all-right Style Both = below (right Style Both) 0x80 tt
@@ -99,9 +101,11 @@ module _ (language : Language) (quotes : Quotes) (b : ℕ) (h : b < 0x80) where
   pub ascii-grows : Grows language quotes b
   ascii-grows =
       let one = eqb (length (takes (alone language quotes b))) 1 in
-      let more = eqb (length (gives (alone language quotes b)) + less language b) (1 + gainOf (singleKey quotes) (doubleKey quotes) b) in
+      let more = eqb (length (gives (alone language quotes b)) + less language b) (1 + (escapedOf (singleKey quotes) (doubleKey quotes) b + 2 * hexedOf b)) in
+      let hit = eqb (replaced (alone language quotes b ∷ [])) (escapedOf (singleKey quotes) (doubleKey quotes) b) in
       let g = and-right (ruled language quotes b) (grown language quotes b) (all-right language quotes b h) in
-      (eqb→eq _ _ (and-left one more g), eqb→eq _ _ (and-right one more g))
+      let k = and-left (one && more) hit g in
+      (eqb→eq _ _ (and-left one more k), eqb→eq _ _ (and-right one more k), eqb→eq _ _ (and-right (one && more) hit g))
 
   ascii-ruled : replacedMove language (b ∷ []) (replacedBy language quotes b) ≡ alone language quotes b
   ascii-ruled = same-move _ (alone language quotes b) (and-left (ruled language quotes b) (grown language quotes b) (all-right language quotes b h))

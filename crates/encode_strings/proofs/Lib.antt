@@ -3,3 +3,4 @@ pub mod Finds
 pub mod Sums
 pub mod Cuts
 pub mod Steps
+pub mod Parts

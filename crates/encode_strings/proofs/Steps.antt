@@ -1,6 +1,5 @@
 -- A turn of the writing loops: what is found at a place is what is written next.
 -- Assumes nothing.
-use mathlib.Core.Logic.{_⊎_, inl, inr}
 use mathlib.Core.Path.{_≡_, refl, sym, _∙_}
 use mathlib.Core.List.{List, [], _∷_}
 use Prim.Native.Nat.{ℕ, _+_, _-_, _≤_, _<_}
@@ -9,7 +8,7 @@ use native.Mathlib.Omega.{arith}
 use lib.Dec.{eqb}
 use lib.ListN.{length, take, drop, getD, length-drop, drop-of-length-le}
 use lib.Seq.{length-take-le, getD-drop}
-use Rattle.rules.specs.Moves.{Move, takes, gives}
+use Rattle.rules.specs.Moves.{Move, takes, gives, through, replaced}
 use Rattle.rules.specs.Encoding.{keepByte, encodeStep}
 use Rattle.rules.specs.Operations.{encodeOf}
 use Rattle.rules.specs.Answers.{replacementMove, replacedMove}
@@ -18,11 +17,11 @@ use Rattle.rules.specs.declared.Replacement.{Replacement}
 use Rattle.rules.specs.declared.Replacement.the-variants.{Slashed, Hex, Separator, Substitute}
 use Rattle.rules.specs.declared.Replaced.{Replaced}
 use Rattle.rules.proofs.Blind.{blind-result}
-use Rattle.rules.proofs.Growth.{encode-no-longer}
+use Rattle.rules.proofs.Laws.{encode-same}
 use Rattle.base.proofs.Filled.{Next, lent-rest}
-use Rattle.encode_strings.specs.Strings.{singleKey, doubleKey, leadOf, weightOf, sameOf, total, separatorsIn, takenBy, Held, HeldAt}
+use Rattle.encode_strings.specs.Strings.{takenBy, Held, HeldAt}
 use Rattle.encode_strings.proofs.Finds.{kept-gives, separator-sizes}
-use Rattle.encode_strings.proofs.Sums.{encode-blind, weightless, lead-free, gained-style, gained-script}
+use Rattle.encode_strings.proofs.Sums.{encode-blind}
 use Rattle.rules.specs.declared.Quotes.{Quotes}
 use Rattle.rules.specs.Contexts.{stringOf}
 use Rattle.rules.specs.declared.Language.{Language}
@@ -85,18 +84,6 @@ module _ (language : Language) (quotes : Quotes) (t : List ℕ) (i : ℕ) (h : i
 pub encode-end : (c : Context) (t : List ℕ) (i : ℕ) → length t ≤ i → encodeOf c (drop i t) ≡ []
 encode-end c t i h = rw (drop-of-length-le t h)
 
--- What does not grow is copied.
-pub no-growth : (c : Context) (s : List ℕ) (n : ℕ) → length s + n ≡ length (encodeOf c s) → n ≡ 0 → encodeOf c s ≡ s
-no-growth c s n e z = encode-no-longer c s (omega arith)
-
--- Where its bytes weigh nothing a text is copied, unless a script has a line separator in it.
-pub unescaped : (language : Language) (quotes : Quotes) (s : List ℕ) → total (weightOf 1 (singleKey quotes) (doubleKey quotes)) s ≡ 0
-    → (total (sameOf (leadOf language)) s ≡ 0) ⊎ (separatorsIn s ≡ 0) → encodeOf (stringOf language quotes) s ≡ s
-unescaped Script quotes s w h = no-growth (stringOf Script quotes) s 0 (gained-script Script quotes s 0 (sym (weightless (singleKey quotes) (doubleKey quotes) s w)) refl 0 (sym (none h))) refl
-  where
-    none : (total (sameOf 0xE2) s ≡ 0) ⊎ (separatorsIn s ≡ 0) → separatorsIn s ≡ 0
-    none (inl e) = lead-free s e
-    none (inr e) = e
-unescaped Style quotes s w h =
-    let g = gained-style Style quotes s 0 (sym (weightless (singleKey quotes) (doubleKey quotes) s w)) refl (total (sameOf 0) s) refl in
-    no-growth (stringOf Style quotes) s (0 - total (sameOf 0) s) (g .1) (omega arith)
+-- A text in which nothing is replaced is copied.
+pub none-replaced : (c : Context) (s : List ℕ) (n : ℕ) → n ≡ replaced (through (encodeStep c) s) → n ≡ 0 → encodeOf c s ≡ s
+none-replaced c s n e z = encode-same c s .0 (sym e ∙ z)

@@ -1,26 +1,27 @@
 -- By how much a text grows in a string: what its bytes grow by themselves, less one for each NUL in a style sheet, and three more for each line
--- separator in a script. Assumes nothing.
+-- separator in a script. And how many of its places are replaced: its escaped bytes, and the line separators in a script. Assumes nothing.
 use mathlib.Core.Bool.{Bool, true, false, _&&_, cond}
 use mathlib.Core.Path.{_≡_, refl, sym, ap, _∙_}
-use mathlib.Core.List.{List, [], _∷_, _++_}
+use mathlib.Core.List.{List, [], _∷_}
 use Prim.Native.Nat.{ℕ, suc, _+_, _-_, _*_, _≤_, _<_}
 use native.Mathlib.Omega.{arith}
-use borrow.Author.Tests.{ne-eqb, ltb-true, ltb-false, eqb-true, eqb-false}
+use borrow.Author.Tests.{ne-eqb, le-ltb, ltb-true, ltb-false, eqb-true, eqb-false}
 use lib.Dec.{eqb, ltb}
 use lib.ListN.{length, drop, getD, length-append, drop-of-length-le}
-use Rattle.rules.specs.Moves.{keep, gives, result}
+use Rattle.rules.specs.Moves.{Move, keep, takes, gives, through, result, replaced}
 use Rattle.rules.specs.Encoding.{encodeStep}
 use Rattle.rules.specs.Operations.{encodeOf}
 use Rattle.rules.specs.Answers.{replacementMove}
 use Rattle.rules.specs.declared.Quotes.{Quotes}
+use Rattle.rules.specs.declared.Quotes.the-variants.{Single, Double, Both}
 use Rattle.rules.specs.declared.Context.{Context}
 use Rattle.rules.specs.declared.Context.the-variants.{InScript, InStyle}
 use Rattle.rules.specs.declared.Replacement.the-variants.{Separator}
-use Rattle.rules.proofs.Blind.{Blind, blind-next}
+use Rattle.rules.proofs.Blind.{Blind, blind-next, replaced-append}
 use Rattle.rules.proofs.Loops.{drop-next}
 use Rattle.rules.proofs.Growth.{encode-sum}
-use Rattle.encode_strings.specs.Strings.{singleKey, doubleKey, isSlashed, isHexed, weightOf, gainOf, sameOf, total, endsOf, ended, separatorsIn}
-use Rattle.encode_strings.proofs.Heads.{kept, no-start, lone}
+use Rattle.encode_strings.specs.Strings.{singleKey, doubleKey, escapedOf, hexedOf, sameOf, total, endsOf, ended, separatorsIn}
+use Rattle.encode_strings.proofs.Heads.{not-ascii, kept, no-start, lone}
 use Rattle.encode_strings.proofs.Finds.{less, alone, Grows, ascii-grows, slashed-high, hexed-high, ends-are, lead-kept, lead-taken, lead-style, separator-sizes}
 use Rattle.rules.specs.Contexts.{stringOf}
 use Rattle.rules.specs.declared.Language.{Language}
@@ -67,10 +68,17 @@ pub encode-blind : (c : Context) → Blind (encodeStep c)
 unfolding encodeStep
 encode-blind c p q s = refl
 
--- Only ASCII bytes grow by themselves.
-gain-high : (q : Quotes) (b : ℕ) → 0x80 ≤ b → gainOf (singleKey q) (doubleKey q) b ≡ 0
-unfolding weightOf
-gain-high q b h = rw (slashed-high q b h, hexed-high b h)
+-- How many bytes are escaped, and how many of them by their hex digits.
+abbrev escapes : Quotes → List ℕ → ℕ
+escapes q = total (escapedOf (singleKey q) (doubleKey q))
+
+abbrev hexes : List ℕ → ℕ
+hexes = total hexedOf
+
+-- Only ASCII bytes are.
+none-high : (q : Quotes) (b : ℕ) → 0x80 ≤ b → (escapedOf (singleKey q) (doubleKey q) b ≡ 0) × (hexedOf b ≡ 0)
+unfolding escapedOf hexedOf
+none-high q b h = (rw (slashed-high q b h, hexed-high b h), rw (hexed-high b h))
 
 module _ (language : Language) (quotes : Quotes) where
   -- The other bytes are copied.
@@ -78,7 +86,8 @@ module _ (language : Language) (quotes : Quotes) where
   unfolding sameOf
   high-grows b h ne =
       let z : eqb 0 b ≡ false = ne-eqb 0 b (λ e. omega arith) in
-      rw (kept (stringOf language quotes) 0 b [] (no-start (stringOf language quotes) b h ne), gain-high quotes b h) (refl, same language z)
+      let n = none-high quotes b h in
+      rw (kept (stringOf language quotes) 0 b [] (no-start (stringOf language quotes) b h ne), n .0, n .1) (refl, same language z, refl)
     where
       same : (language : Language) → eqb 0 b ≡ false → 1 + less language b ≡ 1
       same Script z = refl
@@ -92,73 +101,95 @@ module _ (language : Language) (quotes : Quotes) where
       go true e = ascii-grows language quotes b (ltb-true b 0x80 e)
       go false e = high-grows b (ltb-false b 0x80 e) ne
 
-  -- What is written for a text that such a byte begins.
-  byte-first : (b : ℕ) (s : List ℕ) → (b ≡ 0xE2 → ⊥) → encodeOf (stringOf language quotes) (b ∷ s) ≡ gives (alone language quotes b) ++ encodeOf (stringOf language quotes) s
-  byte-first b s ne =
-      ap result (blind-next (encodeStep (stringOf language quotes)) (encode-blind (stringOf language quotes)) b s 0 (alone language quotes b) (lone (stringOf language quotes) 0 b s ne) (grows b ne .0))
+-- ---- the move at the head of a text
 
--- What is written where the byte that begins a text is kept.
-kept-first : (c : Context) (b : ℕ) (s : List ℕ) → encodeStep c 0 (b ∷ s) ≡ keep (b ∷ []) → encodeOf c (b ∷ s) ≡ b ∷ encodeOf c s
-kept-first c b s e = ap result (blind-next (encodeStep c) (encode-blind c) b s 0 (keep (b ∷ [])) e refl)
+-- What it adds to the length, and to the replaced places.
+abbrev Adds : Context → Move → List ℕ → List ℕ → Type 0
+Adds c m t s =
+    (length (encodeOf c t) ≡ length (gives m) + length (encodeOf c s))
+    × (replaced (through (encodeStep c) t) ≡ replaced (m ∷ []) + replaced (through (encodeStep c) s))
+
+adds : (c : Context) (b : ℕ) (s : List ℕ) (k : ℕ) (m : Move) → encodeStep c 0 (b ∷ s) ≡ m → length (takes m) ≡ suc k → Adds c m (b ∷ s) (drop k s)
+adds c b s k m e z =
+    let f = blind-next (encodeStep c) (encode-blind c) b s k m e z in
+    let rest = through (encodeStep c) (drop k s) in
+    (ap (λ (ms : List Move). length (result ms)) f ∙ length-append (gives m) (result rest), ap replaced f ∙ replaced-append (m ∷ []) rest)
+
+-- That of a byte which grows by itself, and that of one which is kept.
+byte-adds : (language : Language) (quotes : Quotes) (b : ℕ) (s : List ℕ) → (b ≡ 0xE2 → ⊥) → Adds (stringOf language quotes) (alone language quotes b) (b ∷ s) s
+byte-adds language quotes b s ne = adds (stringOf language quotes) b s 0 (alone language quotes b) (lone (stringOf language quotes) 0 b s ne) (grows language quotes b ne .0)
+
+kept-adds : (c : Context) (b : ℕ) (s : List ℕ) → encodeStep c 0 (b ∷ s) ≡ keep (b ∷ []) → Adds c (keep (b ∷ [])) (b ∷ s) s
+kept-adds c b s e = adds c b s 0 (keep (b ∷ [])) e refl
 
 -- ---- style sheets
 
-grows-style : (q : Quotes) (s : List ℕ) → length (encodeOf (InStyle q) s) + total (sameOf 0) s ≡ length s + total (gainOf (singleKey q) (doubleKey q)) s
+abbrev InSheet : Quotes → List ℕ → Type 0
+InSheet q s =
+    (length (encodeOf (InStyle q) s) + total (sameOf 0) s ≡ length s + (escapes q s + 2 * hexes s)) × (replaced (through (encodeStep (InStyle q)) s) ≡ escapes q s)
+
+sheet : (q : Quotes) (s : List ℕ) → InSheet q s
 unfolding sameOf
-grows-style q [] = refl
-grows-style q (b ∷ s) = go (eqb b 0xE2) refl (grows-style q s)
+sheet q [] = (refl, refl)
+sheet q (b ∷ s) = go (eqb b 0xE2) refl (sheet q s)
   where
-    f : ℕ → ℕ
-    f = gainOf (singleKey q) (doubleKey q)
-
-    sum : (w z g l n m k : ℕ) → w + z ≡ 1 + g → l + n ≡ m + k → w + l + (z + n) ≡ suc m + (g + k)
-    sum w z g l n m k e ih = omega arith
-
-    go : (t : Bool) → eqb b 0xE2 ≡ t → length (encodeOf (InStyle q) s) + total (sameOf 0) s ≡ length s + total f s
-        → length (encodeOf (InStyle q) (b ∷ s)) + total (sameOf 0) (b ∷ s) ≡ length (b ∷ s) + total f (b ∷ s)
-    go true e ih = rw (eqb-true b 0xE2 e, kept-first (InStyle q) 0xE2 s (kept (InStyle q) 0 0xE2 s (lead-style q)), gain-high q 0xE2 (omega arith)) (omega arith)
+    go : (t : Bool) → eqb b 0xE2 ≡ t → InSheet q s → InSheet q (b ∷ s)
+    go true e ih =
+        let a = kept-adds (InStyle q) 0xE2 s (kept (InStyle q) 0 0xE2 s (lead-style q)) in
+        let n = none-high q 0xE2 (omega arith) in
+        rw (eqb-true b 0xE2 e, n .0, n .1) (omega (arith, a .0, ih .0), omega (arith, a .1, ih .1))
     go false e ih =
-        rw (byte-first Style q b s (eqb-false b 0xE2 e), length-append)
-        (sum _ _ _ _ _ _ _ (grows Style q b (eqb-false b 0xE2 e) .1) ih)
+        let ne = eqb-false b 0xE2 e in
+        let a = byte-adds Style q b s ne in
+        let g = grows Style q b ne in
+        (omega (arith, a .0, g .1, ih .0), omega (arith, a .1, g .2, ih .1))
 
 -- ---- scripts
 
--- The last two bytes of a separator do not grow, and begin none.
-ends-none : (q : Quotes) (x y : ℕ) → endsOf x y ≡ true
-    → (gainOf (singleKey q) (doubleKey q) x ≡ 0) × (gainOf (singleKey q) (doubleKey q) y ≡ 0) × (eqb x 0xE2 ≡ false) × (eqb y 0xE2 ≡ false)
+-- The last two bytes of a separator are not escaped, and begin none.
+ends-none : (q : Quotes) (x y : ℕ) → endsOf x y ≡ true → (0x80 ≤ x) × (0x80 ≤ y) × (eqb x 0xE2 ≡ false) × (eqb y 0xE2 ≡ false)
 ends-none q x y e =
     let (b, l, u) = ends-are x y e in
-    (gain-high q x (omega arith), gain-high q y (omega arith), ne-eqb x 0xE2 (λ r. omega arith), ne-eqb y 0xE2 (λ r. omega arith))
+    (omega arith, omega arith, ne-eqb x 0xE2 (λ r. omega arith), ne-eqb y 0xE2 (λ r. omega arith))
 
 abbrev Grown : Quotes → List ℕ → Type 0
-Grown q s = length (encodeOf (InScript q) s) ≡ length s + total (gainOf (singleKey q) (doubleKey q)) s + 3 * separatorsIn s
+Grown q s =
+    (length (encodeOf (InScript q) s) ≡ length s + (escapes q s + 2 * hexes s) + 3 * separatorsIn s)
+    × (replaced (through (encodeStep (InScript q)) s) ≡ escapes q s + separatorsIn s)
 
 module _ (q : Quotes) where
   -- A byte that begins no separator.
   grown-byte : (b : ℕ) (s : List ℕ) → eqb b 0xE2 && ended s ≡ false → Grown q s → Grown q (b ∷ s)
-  grown-byte b s n ih = rw n (go (eqb b 0xE2) refl n)
+  grown-byte b s n ih = go (eqb b 0xE2) refl n
     where
-      sum : (w g l m k n : ℕ) → w + 0 ≡ 1 + g → l ≡ m + k + 3 * n → w + l ≡ suc m + (g + k) + 3 * (0 + n)
-      sum w g l m k n h i = omega arith
+      none : _≡_ {A = ℕ} (cond (eqb b 0xE2 && ended s) 1 0) 0
+      none = rw n
 
-      go : (t : Bool) → eqb b 0xE2 ≡ t → t && ended s ≡ false
-          → length (encodeOf (InScript q) (b ∷ s)) ≡ suc (length s) + (gainOf (singleKey q) (doubleKey q) b + total (gainOf (singleKey q) (doubleKey q)) s) + 3 * (0 + separatorsIn s)
-      go true e f = rw (eqb-true b 0xE2 e, kept-first (InScript q) 0xE2 s (lead-kept q s f), gain-high q 0xE2 (omega arith)) (omega arith)
+      go : (t : Bool) → eqb b 0xE2 ≡ t → t && ended s ≡ false → Grown q (b ∷ s)
+      go true e f =
+          let a = kept-adds (InScript q) 0xE2 s (lead-kept q s f) in
+          let m = none-high q 0xE2 (omega arith) in
+          let at = rw (eqb-true b 0xE2 e) at none in
+          rw (eqb-true b 0xE2 e, m .0, m .1) (omega (arith, a .0, ih .0, at), omega (arith, a .1, ih .1, at))
       go false e f =
-          rw (byte-first Script q b s (eqb-false b 0xE2 e), length-append)
-          (sum _ _ _ _ _ _ (grows Script q b (eqb-false b 0xE2 e) .1) ih)
+          let ne = eqb-false b 0xE2 e in
+          let a = byte-adds Script q b s ne in
+          let g = grows Script q b ne in
+          (omega (arith, a .0, g .1, ih .0, none), omega (arith, a .1, g .2, ih .1, none))
 
   -- A separator.
   grown-separator : (x y : ℕ) (s : List ℕ) → endsOf x y ≡ true → Grown q s → Grown q (0xE2 ∷ x ∷ y ∷ s)
   grown-separator x y s e ih =
       let (g, h, m, n) = ends-none q x y e in
-      let w : encodeOf (InScript q) (0xE2 ∷ x ∷ y ∷ s) ≡ gives (replacementMove Script (0xE2 ∷ x ∷ y ∷ s) Separator) ++ encodeOf (InScript q) s =
-      ap result (blind-next (encodeStep (InScript q)) (encode-blind (InScript q)) 0xE2 (x ∷ y ∷ s) 2 (replacementMove Script (0xE2 ∷ x ∷ y ∷ s) Separator)
-      (lead-taken q (x ∷ y ∷ s) e) (separator-sizes (eqb y 0xA8) .0)) in
-      rw (w, length-append, separator-sizes (eqb y 0xA8) .1, gain-high q 0xE2 (omega arith), g, h, e, m, n) (omega arith)
+      let z = none-high q 0xE2 (omega arith) in
+      let u = none-high q x g in
+      let v = none-high q y h in
+      let a = adds (InScript q) 0xE2 (x ∷ y ∷ s) 2 (replacementMove Script (0xE2 ∷ x ∷ y ∷ s) Separator) (lead-taken q (x ∷ y ∷ s) e) (separator-sizes (eqb y 0xA8) .0) in
+      let long = separator-sizes (eqb y 0xA8) .1 in
+      rw (z .0, z .1, u .0, u .1, v .0, v .1, e, m, n) (omega (arith, a .0, long, ih .0), omega (arith, a .1, ih .1))
 
   grows-script : (s : List ℕ) → Grown q s
-  grows-script [] = refl
+  grows-script [] = (refl, refl)
   grows-script (b ∷ []) = grown-byte b [] (and-none (eqb b 0xE2)) (grows-script [])
   grows-script (b ∷ x ∷ []) = grown-byte b (x ∷ []) (and-none (eqb b 0xE2)) (grows-script (x ∷ []))
   grows-script (b ∷ x ∷ y ∷ s) = go (eqb b 0xE2) (endsOf x y) refl refl (grows-script (x ∷ y ∷ s)) (grows-script s)
@@ -180,25 +211,20 @@ lead-free (b ∷ s) h = go (eqb b 0xE2) refl (lead-free s)
     go true e ih = let z : _≡_ {A = ℕ} (cond (eqb 0xE2 b) 1 0) 1 = rw (eqb-true b 0xE2 e) in absurd (omega arith)
     go false e ih = let z : _≡_ {A = ℕ} (cond (eqb 0xE2 b) 1 0) 0 = rw (ne-eqb 0xE2 b (λ q. eqb-false b 0xE2 e (sym q))) in rw (e, ih (omega arith))
 
--- Where the bytes weigh nothing they do not grow.
-pub weightless : (single double : ℕ) (s : List ℕ) → total (weightOf 1 single double) s ≡ 0 → total (gainOf single double) s ≡ 0
-unfolding weightOf
-weightless single double [] h = refl
-weightless single double (b ∷ s) h = go (isSlashed single double b) (isHexed b) h (weightless single double s)
-  where
-    go : (t u : Bool) → cond t 1 (cond u 1 0) + total (weightOf 1 single double) s ≡ 0 → (total (weightOf 1 single double) s ≡ 0 → total (gainOf single double) s ≡ 0)
-        → cond t 1 (cond u 3 0) + total (gainOf single double) s ≡ 0
-    go true u e ih = absurd (omega arith)
-    go false true e ih = absurd (omega arith)
-    go false false e ih = let r = ih (omega arith) in omega arith
+module _ (language : Language) (quotes : Quotes) (s : List ℕ) (a b : ℕ) (e : a ≡ escapes quotes s) (f : b ≡ hexes s) where
+  pub gained-style : language ≡ Style → (z : ℕ) → z ≡ total (sameOf 0) s
+      → (z ≤ a + 2 * b) × (length s + (a + 2 * b - z) ≡ length (encodeOf (stringOf language quotes) s)) × (a ≡ replaced (through (encodeStep (stringOf language quotes)) s))
+  gained-style h z g =
+      let w = sheet quotes s in
+      let l = encode-sum (InStyle quotes) s in
+      rw h (omega (arith, w .0, l), omega (arith, w .0, l), omega (arith, w .1))
 
-module _ (language : Language) (quotes : Quotes) (s : List ℕ) (g : ℕ) (e : g ≡ total (gainOf (singleKey quotes) (doubleKey quotes)) s) where
-  pub gained-style : language ≡ Style → (z : ℕ) → z ≡ total (sameOf 0) s → (z ≤ g) × (length s + (g - z) ≡ length (encodeOf (stringOf language quotes) s))
-  gained-style h z f =
-      let q = quotes in
-      let w = grows-style q s in
-      let l = encode-sum (InStyle q) s in
-      rw h (omega arith, omega arith)
+  pub gained-script : language ≡ Script → (n : ℕ) → n ≡ separatorsIn s
+      → (length s + (a + 2 * b + 3 * n) ≡ length (encodeOf (stringOf language quotes) s)) × (a + n ≡ replaced (through (encodeStep (stringOf language quotes)) s))
+  gained-script h n g = let w = grows-script quotes s in rw h (omega (arith, w .0), omega (arith, w .1))
 
-  pub gained-script : language ≡ Script → (n : ℕ) → n ≡ separatorsIn s → length s + (g + 3 * n) ≡ length (encodeOf (stringOf language quotes) s)
-  gained-script h n f = let w = grows-script quotes s in rw h (omega arith)
+-- Without line separators the escaped bytes are all, in either language.
+pub free-places : (language : Language) (quotes : Quotes) (s : List ℕ) (a : ℕ) → a ≡ escapes quotes s → separatorsIn s ≡ 0
+    → a ≡ replaced (through (encodeStep (stringOf language quotes)) s)
+free-places Script quotes s a e z = omega (arith, grows-script quotes s .1, e, z)
+free-places Style quotes s a e z = e ∙ sym (sheet quotes s .1)

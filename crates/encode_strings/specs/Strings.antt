@@ -45,11 +45,6 @@ abbrev pub hexBy : Language → ℕ → Replacement
 hexBy Script b = Hex
 hexBy Style b = cond (eqb b 0) Substitute Hex
 
--- The byte that begins the line separators in a script; a style string escapes none, and has the backslash once more.
-abbrev pub leadOf : Language → ℕ
-leadOf Script = 0xE2
-leadOf Style = 0x5C
-
 -- What replaces a character of one byte.
 abbrev pub replacedBy : Language → Quotes → ℕ → Replaced
 replacedBy language quotes b = cond (isSlashed (singleKey quotes) (doubleKey quotes) b) (By Slashed) (cond (isHexed b) (By (hexBy language b)) Nothing)
@@ -90,13 +85,13 @@ HeldAt Nothing s = 1 ≤ length s
 
 -- ---- growth
 
--- The weight of a byte: one where a backslash escapes it, `hexed` where its hex digits do.
-unfoldable pub weightOf : ℕ → ℕ → ℕ → ℕ → ℕ
-weightOf hexed single double b = cond (isSlashed single double b) 1 (cond (isHexed b) hexed 0)
+-- 1 where the byte is escaped, by a backslash or by its hex digits.
+unfoldable pub escapedOf : ℕ → ℕ → ℕ → ℕ
+escapedOf single double b = cond (isSlashed single double b || isHexed b) 1 0
 
--- By how much a byte grows: the backslash and the quotes by one, `<` and the bytes 0 to 31 by three.
-abbrev pub gainOf : ℕ → ℕ → ℕ → ℕ
-gainOf = weightOf 3
+-- 1 where it is escaped by its hex digits, so that it grows by two bytes more.
+unfoldable pub hexedOf : ℕ → ℕ
+hexedOf b = cond (isHexed b) 1 0
 
 -- 1 where the two bytes are the same.
 unfoldable pub sameOf : ℕ → ℕ → ℕ

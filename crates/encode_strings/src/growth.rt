@@ -1,52 +1,62 @@
-// How much longer a part of a text becomes when it is escaped.
+// How many places of a part are replaced, and how much longer it becomes.
 use crate::escapes;
 use crate::rule;
 use rules::Language;
 use rules::Quotes;
-ghost use mathlib.Core.Bool.{true};
+ghost use mathlib.Core.Bool.{cond};
 ghost use mathlib.Core.Path.{_≡_};
 ghost use Prim.Native.Nat.{_+_, _*_, _≤_};
 ghost use lib.ListN.{length};
 ghost use Rattle.rules.specs.Contexts.{stringOf};
+ghost use Rattle.rules.specs.Encoding.{encodeStep};
+ghost use Rattle.rules.specs.Moves.{through, replaced};
 ghost use Rattle.rules.specs.Operations.{encodeOf};
-ghost use Rattle.encode_strings.specs.Strings.{weightOf, sameOf, total, separatorsIn};
+ghost use Rattle.encode_strings.specs.Strings.{escapedOf, hexedOf, sameOf, total, separatorsIn};
 
-// The weight of the bytes of a part, and how often it has the byte that is counted beside.
+// How many bytes of a part are escaped, how many of these by their hex digits, and how often it has the byte that is counted beside.
 pub struct Tally {
-    pub weight: u8,
+    pub escaped: u8,
+    pub hexed: u8,
     pub odd: u8,
 }
 
-// Returns the weight of a byte: 1 if a backslash escapes it, `hexed` if its hex digits do, else 0.
-fn weight_of(hexed: u8, single: u8, double: u8, b: u8) -> u8
-    requires { ⌜ hexed ≤ 3 ⌝ }
-    ensures { λ r. ⌜ (r ≡ weightOf hexed single double b) × (r ≤ 3) ⌝ }
-{
-    if rule::is_slashed(single, double, b) {
-        return 1;
-    }
-    if rule::is_hexed(b) {
-        return hexed;
-    }
-    0
+// By how much a part grows, and how many of its places are replaced.
+pub struct Change {
+    pub growth: usize,
+    pub replaced: usize,
 }
 
-// Sums the weight of the bytes of a part and counts the byte `odd`. Short parts keep the sums in a byte, and the loop has no branch, so that it
-// compiles to vector code.
-fn weigh(hexed: u8, single: u8, double: u8, odd: u8, part: &[u8]) -> Tally
-    requires { ⌜ (length (now part) ≤ 64) × (hexed ≤ 3) ⌝ }
-    ensures { λ r. ⌜ (r .weight ≡ total (weightOf hexed single double) (now (part .entry))) × (r .odd ≡ total (sameOf odd) (now (part .entry))) × (r .weight ≤ 3 * length (now (part .entry))) ⌝ }
+// Returns 1 where a test holds, else 0.
+fn bit(holds: bool) -> u8
+    ensures { λ r. ⌜ (r ≡ cond holds 1 0) × (r ≤ 1) ⌝ }
 {
-    let mut weight: u8 = 0;
+    if holds { 1 } else { 0 }
+}
+
+// Counts the bytes of a part that are escaped, those that are by their hex digits, and the byte `odd`. Short parts keep the counts in a byte, and the
+// loop has no branch, so that it compiles to vector code.
+fn weigh(single: u8, double: u8, odd: u8, part: &[u8]) -> Tally
+    requires { ⌜ length (now part) ≤ 64 ⌝ }
+    ensures { λ r. ⌜ (r .escaped ≡ total (escapedOf single double) (now (part .entry))) × (r .hexed ≡ total hexedOf (now (part .entry))) × (r .odd ≡ total (sameOf odd) (now (part .entry))) ⌝ }
+    ensures { λ r. ⌜ (r .escaped ≤ length (now (part .entry))) × (r .hexed ≤ length (now (part .entry))) ⌝ }
+{
+    let mut escaped: u8 = 0;
+    let mut hexed: u8 = 0;
     let mut n: u8 = 0;
     let mut i: usize = 0;
     while i < part.len() {
         let b = part[i];
-        weight += weight_of(hexed, single, double, b);
+        let hex = rule::is_hexed(b);
+        escaped += bit(rule::is_slashed(single, double, b) | hex);
+        hexed += bit(hex);
         n += base::when(odd, b, 1);
         i += 1;
     }
-    Tally { weight, odd: n }
+    Tally {
+        escaped,
+        hexed,
+        odd: n,
+    }
 }
 
 // Counts the line separators of a part.
@@ -67,42 +77,61 @@ fn separators(part: &[u8]) -> usize
     n
 }
 
-// Whether nothing in a part is escaped, so that it can be copied. Each escaped byte weighs 1 here: that is quicker to sum than by how much it grows.
-pub fn is_copied(language: Language, quotes: Quotes, part: &[u8]) -> bool
+// Returns how many places of a part are replaced: each escaped byte and, in a script, each line separator.
+pub fn places(language: Language, quotes: Quotes, part: &[u8]) -> usize
     requires { ⌜ length (now part) ≤ 64 ⌝ }
-    ensures { λ r. ⌜ (r ≡ true → encodeOf (stringOf language quotes) (now (part .entry)) ≡ now (part .entry)) ⌝ }
+    ensures { λ r. ⌜ (r ≡ replaced (through (encodeStep (stringOf language quotes)) (now (part .entry)))) × (r ≤ 2 * length (now (part .entry))) ⌝ }
 {
     let single = rule::single_key(quotes);
     let double = rule::double_key(quotes);
-    let found = weigh(1, single, double, rule::lead(language), part);
-    if found.weight != 0 {
-        return false;
-    }
+    let found = weigh(single, double, rule::SEPARATOR_LEAD, part);
+    let escaped = found.escaped as usize;
     if found.odd == 0 {
-        return true;
+        return escaped;
     }
-    separators(part) == 0
+    match language {
+        Language::Script => escaped + separators(part),
+        Language::Style => escaped,
+    }
 }
 
-// Returns by how much a part grows: a byte in hex by three, but NUL in a style sheet by two only, and in a script each line separator by three.
-pub fn gained(language: Language, quotes: Quotes, part: &[u8]) -> usize
+// Adds up what was counted: a backslash is one byte more, `\x3C` is three bytes more than `<`, `\3C ` with its space too, and `\u2028` three more than
+// the separator.
+fn sum(found: Tally, separators: usize) -> Change
+    requires { ⌜ separators ≤ 64 ⌝ }
+    ensures { λ r. ⌜ (r .growth ≡ found .escaped + 2 * found .hexed + 3 * separators) × (r .replaced ≡ found .escaped + separators) ⌝ }
+{
+    let escaped = found.escaped as usize;
+    let hexed = found.hexed as usize;
+    Change {
+        growth: escaped + 2 * hexed + 3 * separators,
+        replaced: escaped + separators,
+    }
+}
+
+// Returns by how much a part grows and how many of its places are replaced: in a style sheet NUL grows by two only, in a script line separators are
+// replaced too.
+pub fn gained(language: Language, quotes: Quotes, part: &[u8]) -> Change
     requires { ⌜ length (now part) ≤ 64 ⌝ }
-    ensures { λ r. ⌜ length (now (part .entry)) + r ≡ length (encodeOf (stringOf language quotes) (now (part .entry))) ⌝ }
+    ensures { λ r. ⌜ (length (now (part .entry)) + r .growth ≡ length (encodeOf (stringOf language quotes) (now (part .entry)))) × (r .replaced ≡ replaced (through (encodeStep (stringOf language quotes)) (now (part .entry)))) × (r .replaced ≤ 2 * length (now (part .entry))) ⌝ }
 {
     let single = rule::single_key(quotes);
     let double = rule::double_key(quotes);
     match language {
         Language::Script => {
-            let found = weigh(3, single, double, rule::SEPARATOR_LEAD, part);
-            let growth = found.weight as usize;
+            let found = weigh(single, double, rule::SEPARATOR_LEAD, part);
             if found.odd == 0 {
-                return growth;
+                return sum(found, 0);
             }
-            growth + 3 * separators(part)
+            sum(found, separators(part))
         }
         Language::Style => {
-            let found = weigh(3, single, double, 0, part);
-            (found.weight - found.odd) as usize
+            let found = weigh(single, double, 0, part);
+            let all = sum(found, 0);
+            Change {
+                growth: all.growth - found.odd as usize,
+                replaced: all.replaced,
+            }
         }
     }
 }

@@ -4,12 +4,16 @@ mod growth;
 mod rule;
 
 use rules::Language;
+use rules::Measured;
 use rules::Quotes;
 ghost use mathlib.Core.Path.{_≡_};
-ghost use Prim.Native.Nat.{_+_, _*_, _≤_, _<_};
+ghost use Prim.Native.Nat.{_+_, _≤_, _<_};
 ghost use lib.ListN.{length};
 ghost use Rattle.rules.specs.Bytes.{over};
 ghost use Rattle.rules.specs.Contexts.{stringOf};
+ghost use Rattle.rules.specs.Encoding.{encodeStep};
+ghost use Rattle.rules.specs.Moves.{through, replaced};
+ghost use Rattle.rules.specs.Answers.{Measures};
 ghost use Rattle.rules.specs.Operations.{encodeOf};
 ghost use Rattle.encode_strings.specs.Strings.{Apart};
 
@@ -31,43 +35,63 @@ fn cut(text: &[u8], at: usize, step: usize) -> usize
     end
 }
 
-// Returns the length of the escaped text, part by part.
-pub fn measure(language: Language, quotes: Quotes, text: &[u8]) -> usize
+// Measures the escaped text, part by part.
+pub fn measure(language: Language, quotes: Quotes, text: &[u8]) -> Measured
     requires { ⌜ length (now text) ≤ 65536 ⌝ }
-    ensures { λ r. ⌜ (r ≡ length (encodeOf (stringOf language quotes) (now (text .entry)))) × (r ≤ 6 * length (now (text .entry))) ⌝ }
+    ensures { λ r. ⌜ Measures r (through (encodeStep (stringOf language quotes)) (now (text .entry))) ⌝ }
 {
     let mut n: usize = 0;
+    let mut places: usize = 0;
     let mut i: usize = 0;
     while i < text.len() {
         let end = cut(text, i, 64);
-        n += end - i + growth::gained(language, quotes, &text[i..end]);
+        let part = growth::gained(language, quotes, &text[i..end]);
+        n += end - i + part.growth;
+        places += part.replaced;
         i = end;
     }
-    n
+    Measured {
+        length: n,
+        place: i,
+        replaced: places,
+    }
 }
 
-// Writes the escaped part; one in which nothing is escaped is copied.
-fn write_part(language: Language, quotes: Quotes, part: &[u8], output: &mut [u8]) -> usize
-    requires { ⌜ (length (now part) ≤ 64) × (length (encodeOf (stringOf language quotes) (now part)) ≤ length (now output)) ⌝ }
+// Writes the escaped part, of which so many places are replaced; one of which none is is copied.
+fn write_part(
+    language: Language,
+    quotes: Quotes,
+    places: usize,
+    part: &[u8],
+    output: &mut [u8],
+) -> usize
+    requires { ⌜ (places ≡ replaced (through (encodeStep (stringOf language quotes)) (now part))) × (length (encodeOf (stringOf language quotes) (now part)) ≤ length (now output)) ⌝ }
     ensures { λ r. ⌜ (r ≡ length (encodeOf (stringOf language quotes) (now (part .entry)))) × (now (output .exit) ≡ over (encodeOf (stringOf language quotes) (now (part .entry))) (now (output .entry))) ⌝ }
 {
-    if growth::is_copied(language, quotes, part) {
+    if places == 0 {
         return base::put(part, output);
     }
     escapes::write_bytes(language, quotes, part, output)
 }
 
-// Writes the escaped text to the start of `output`, part by part, leaves the bytes after it as they were, and returns its length.
-pub fn write(language: Language, quotes: Quotes, text: &[u8], output: &mut [u8]) -> usize
-    requires { ⌜ length (encodeOf (stringOf language quotes) (now text)) ≤ length (now output) ⌝ }
-    ensures { λ r. ⌜ (r ≡ length (encodeOf (stringOf language quotes) (now (text .entry)))) × (now (output .exit) ≡ over (encodeOf (stringOf language quotes) (now (text .entry))) (now (output .entry))) ⌝ }
+// Writes the escaped text to the start of `output`, part by part, leaves the bytes after it as they were, and returns what `measure` does.
+pub fn write(language: Language, quotes: Quotes, text: &[u8], output: &mut [u8]) -> Measured
+    requires { ⌜ (length (now text) ≤ 65536) × (length (encodeOf (stringOf language quotes) (now text)) ≤ length (now output)) ⌝ }
+    ensures { λ r. ⌜ Measures r (through (encodeStep (stringOf language quotes)) (now (text .entry))) × (now (output .exit) ≡ over (encodeOf (stringOf language quotes) (now (text .entry))) (now (output .entry))) ⌝ }
 {
     let mut at: usize = 0;
+    let mut places: usize = 0;
     let mut i: usize = 0;
     while i < text.len() {
         let end = cut(text, i, 32);
-        at += write_part(language, quotes, &text[i..end], &mut output[at..]);
+        let more = growth::places(language, quotes, &text[i..end]);
+        at += write_part(language, quotes, more, &text[i..end], &mut output[at..]);
+        places += more;
         i = end;
     }
-    at
+    Measured {
+        length: at,
+        place: i,
+        replaced: places,
+    }
 }

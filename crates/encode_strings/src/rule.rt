@@ -3,7 +3,7 @@ use rules::Language;
 use rules::Quotes;
 use rules::Replacement;
 ghost use mathlib.Core.Path.{_≡_};
-ghost use Rattle.encode_strings.specs.Strings.{singleKey, doubleKey, isSlashed, isHexed, hexBy, leadOf};
+ghost use Rattle.encode_strings.specs.Strings.{singleKey, doubleKey, isSlashed, isHexed, hexBy};
 
 // The first byte of U+2028 and U+2029, the line separators, which script strings escape.
 pub const SEPARATOR_LEAD: u8 = 0xE2;
@@ -55,15 +55,5 @@ pub fn hex_by(language: Language, b: u8) -> Replacement
         } else {
             Replacement::Hex
         },
-    }
-}
-
-// Returns E2 for a script string. A style string escapes no line separators: for it, the backslash once more.
-pub fn lead(language: Language) -> u8
-    ensures { λ r. ⌜ r ≡ leadOf language ⌝ }
-{
-    match language {
-        Language::Script => SEPARATOR_LEAD,
-        Language::Style => b'\\',
     }
 }

@@ -1,35 +1,29 @@
--- `encode_strings::measure` meets its contract. The invariant: what is counted, with what is written for the rest, is the whole length. The measure is what
--- is left of the text.
+-- `encode_strings::measure` meets its contract. The invariant: the parts so far, with what is left, are the whole (Parts). The measure is what is left of
+-- the text.
 -- Assumes nothing.
+use Prim.Native.Nat.{_+_, _-_, _*_, _≤_}
 use mathlib.Core.Path.{_≡_}
-use Prim.Native.Nat.{_+_, _-_, _≤_}
 use native.Mathlib.Omega.{arith}
 use borrow.Author.Needs.{needs}
-use lib.ListN.{length, drop}
-use Rattle.rules.specs.Operations.{encodeOf}
-use Rattle.rules.proofs.Growth.{encode-six}
+use lib.ListN.{length, take, drop}
 use Rattle.base.proofs.Part.{part-length}
 use Rattle.rules.specs.Contexts.{stringOf}
-use Rattle.encode_strings.proofs.Steps.{encode-end}
-use Rattle.encode_strings.proofs.Cuts.{next-length}
+use Rattle.rules.specs.Operations.{encodeOf}
+use Rattle.encode_strings.proofs.Parts.{Gone, gone-start, gone-part, gone-small, gone-end}
 use Rattle.encode_strings.proofs.measure.Statement.{statement}
 use Rattle.encode_strings.proofs.measure.Tie as tie
 
 abbrev Inv-loop : tie.InvT-loop
-Inv-loop language quotes text n₀ i₀ n i =
-    (i ≤ length text) × (n + length (encodeOf (stringOf language quotes) (drop i text)) ≡ length (encodeOf (stringOf language quotes) text))
+Inv-loop language quotes text n₀ places₀ i₀ n places i = Gone language quotes text i n places
 
 abbrev μ-loop : tie.MeasureT-loop
-μ-loop language quotes text n₀ i₀ n i = length text - i
+μ-loop language quotes text n₀ places₀ i₀ n places i = length text - i
 
 loop-holds : tie.Need-loop-holds Inv-loop μ-loop
-loop-holds c = (search needs, omega arith)
+loop-holds c = let a = c .before .args in gone-start (a .language) (a .quotes) (a .text .now)
 
 cut-requires : tie.Need-cut-requires Inv-loop μ-loop
 cut-requires c κs = search needs
-
-sub-n : tie.Need-sub-n Inv-loop μ-loop
-sub-n c = omega (arith, c .cut .ensures .0)
 
 sub-gained : tie.Need-sub-gained Inv-loop μ-loop
 sub-gained c = omega (arith, c .cut .ensures .0)
@@ -42,59 +36,56 @@ part-gained-end c = c .cut .ensures .1
 
 gained-requires : tie.Need-gained-requires Inv-loop μ-loop
 gained-requires c κs =
-    let c₁ = c .before .before .before in
-    let a = c₁ .before .before .args in
-    let t = a .text .now in
-    let l = c₁ .loop in
+    let t = c .before .before .before .before .before .args .text .now in
+    let l = c .before .before .before .loop in
     let e = c .before .cut .ensures in
-    let p = part-length t (l .i) (c .before .cut .result) (search needs) (e .1) in
-    omega (arith, e .2)
+    omega (arith, e .0, e .2, part-length t (l .i) (c .before .cut .result) (omega (arith, e .0)) (e .1))
+
+sub-n : tie.Need-sub-n Inv-loop μ-loop
+sub-n c = omega (arith, c .before .before .cut .ensures .0)
+
+-- What the part gives, and that the sums stay small.
+given : (c : tie.After-struct-known Inv-loop μ-loop)
+    → let a = c .before .before .before .before .before .before .before .args in
+    let l = c .before .before .before .before .before .loop in
+    let e = c .before .before .before .cut .result in
+    let y = c .before .gained .result in
+    (e - l .i + y .growth ≡ length (encodeOf (stringOf (a .language) (a .quotes)) (take (e - l .i) (drop (l .i) (a .text .now)))))
+    × (l .n + (e - l .i + y .growth) ≤ 393216)
+    × (l .places + y .replaced ≤ 131072)
+given c =
+    let s = c .before .before .before .before .before .before .before in
+    let l = c .before .before .before .before .before .loop in
+    let e = c .before .before .before .cut in
+    let y = c .before .gained in
+    let from : l .i ≤ e .result = omega (arith, e .ensures .0) in
+    let w : e .result - l .i + y .result .growth ≡ length (encodeOf (stringOf (s .args .language) (s .args .quotes)) (take (e .result - l .i) (drop (l .i) (s .args .text .now)))) =
+    omega (arith, y .ensures .0, part-length (s .args .text .now) (l .i) (e .result) from (e .ensures .1)) in
+    let m = gone-small (s .args .language) (s .args .quotes) (s .args .text .now) (l .inv) (e .result) from (e .ensures .1) (e .ensures .3) _ (y .result .replaced) (s .pre) w (y .ensures .2) in
+    (w, m .0, m .1)
 
 add-n : tie.Need-add-n Inv-loop μ-loop
-add-n c =
-    let c₁ = c .before .before .before .before in
-    let a = c₁ .before .before .args in
-    let t = a .text .now in
-    let l = c₁ .loop in
-    let e = c .before .before .cut .ensures in
-    let p = part-length t (l .i) (c .before .before .cut .result) (search needs) (e .1) in
-    let s = next-length (a .language) (a .quotes) t (l .i) (c .before .before .cut .result) (search needs) (e .1) (e .3) in
-    let m = encode-six (stringOf (a .language) (a .quotes)) t in
-    omega (arith, c .gained .ensures)
+add-n c = omega (arith, given c .1)
 
 add-n-2 : tie.Need-add-n-2 Inv-loop μ-loop
-add-n-2 c =
-    let c₁ = c .before .before .before .before in
-    let a = c₁ .before .before .args in
-    let t = a .text .now in
-    let l = c₁ .loop in
-    let e = c .before .before .cut .ensures in
-    let p = part-length t (l .i) (c .before .before .cut .result) (search needs) (e .1) in
-    let s = next-length (a .language) (a .quotes) t (l .i) (c .before .before .cut .result) (search needs) (e .1) (e .3) in
-    let m = encode-six (stringOf (a .language) (a .quotes)) t in
-    omega (arith, c .gained .ensures)
+add-n-2 c = omega (arith, given c .1)
+
+add-places : tie.Need-add-places Inv-loop μ-loop
+add-places c = omega (arith, given (c .before) .2)
 
 loop-less : tie.Need-loop-less Inv-loop μ-loop
-loop-less c = omega (arith, c .before .before .cut .ensures .0, c .before .before .cut .ensures .1)
+loop-less c = omega (arith, c .before .before .before .before .cut .ensures .0, c .before .before .before .before .cut .ensures .1)
 
 loop-again : tie.Need-loop-again Inv-loop μ-loop
 loop-again c =
-    let c₁ = c .before .before .before .before in
-    let a = c₁ .before .before .args in
-    let t = a .text .now in
-    let l = c₁ .loop in
-    let e = c .before .before .cut .ensures in
-    let p = part-length t (l .i) (c .before .before .cut .result) (search needs) (e .1) in
-    let s = next-length (a .language) (a .quotes) t (l .i) (c .before .before .cut .result) (search needs) (e .1) (e .3) in
-    let m = encode-six (stringOf (a .language) (a .quotes)) t in
-    (e .1, omega (arith, c .gained .ensures))
+    let a = c .before .before .before .before .before .before .before .before .args in
+    let l = c .before .before .before .before .before .before .loop in
+    let e = c .before .before .before .before .cut in
+    let y = c .before .before .gained in
+    gone-part (a .language) (a .quotes) (a .text .now) (l .inv) (e .result) (omega (arith, e .ensures .0)) (e .ensures .1) (e .ensures .3) _ (y .result .replaced) (given (c .before) .0) (y .ensures .1) (y .ensures .2)
 
 returns : tie.Need-returns Inv-loop μ-loop
-returns c =
-    let a = c .before .before .before .args in
-    let m = encode-six (stringOf (a .language) (a .quotes)) (a .text .now) in
-    let z = rw (encode-end (stringOf (a .language) (a .quotes)) (a .text .now) (c .before .loop .i) (c .loop-test .left)) at (c .before .loop .inv .1) in
-    (omega (arith, z), omega (arith, z))
+returns c = let a = c .before .before .before .args in gone-end (a .language) (a .quotes) (a .text .now) (c .before .loop .inv) (c .loop-test .left)
 
 pub measure-spec : {M : Type 1} → statement M
 measure-spec =
@@ -104,13 +95,14 @@ measure-spec =
     μ-loop
     loop-holds
     cut-requires
-    sub-n
     sub-gained
     part-gained-start
     part-gained-end
     gained-requires
+    sub-n
     add-n
     add-n-2
+    add-places
     loop-less
     loop-again
     returns)

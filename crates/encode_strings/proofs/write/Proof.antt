@@ -1,5 +1,5 @@
--- `encode_strings::write` meets its contract: the parts are written one after the other. The invariant is that of every writing loop, `Filled`; the measure
--- is what is left of the text.
+-- `encode_strings::write` meets its contract: the parts are written one after the other. The invariant: the parts so far, with what is left, are the
+-- whole (Parts), and they are written (`Filled`). The measure is what is left of the text.
 -- Assumes nothing.
 use Prim.Native.Nat.{_-_, _≤_}
 use native.Mathlib.Omega.{arith}
@@ -11,30 +11,48 @@ use Rattle.base.proofs.Filled.{Filled, filled-start, filled-next, filled-room, 
 use Rattle.rules.specs.Contexts.{stringOf}
 use Rattle.encode_strings.proofs.Steps.{encode-end}
 use Rattle.encode_strings.proofs.Cuts.{next-part}
+use Rattle.encode_strings.proofs.Parts.{Gone, gone-start, gone-part, gone-small, gone-end}
 use Rattle.encode_strings.proofs.write.Statement.{statement}
 use Rattle.encode_strings.proofs.write.Tie as tie
 
 abbrev Inv-loop : tie.InvT-loop
-Inv-loop language quotes text output₀ at₀ i₀ output at i =
-    (i ≤ length text) × Filled (encodeOf (stringOf language quotes) text) (encodeOf (stringOf language quotes) (drop i text)) output₀ output at
+Inv-loop language quotes text output₀ at₀ places₀ i₀ output at places i =
+    Gone language quotes text i at places
+    × Filled (encodeOf (stringOf language quotes) text) (encodeOf (stringOf language quotes) (drop i text)) output₀ output at
 
 abbrev μ-loop : tie.MeasureT-loop
-μ-loop language quotes text output₀ at₀ i₀ output at i = length text - i
+μ-loop language quotes text output₀ at₀ places₀ i₀ output at places i = length text - i
 
 loop-holds : tie.Need-loop-holds Inv-loop μ-loop
-loop-holds c = (search needs, filled-start _ _ (c .before .before .pre))
+loop-holds c = let s = c .before .before in (gone-start (s .args .language) (s .args .quotes) (s .args .text .now), filled-start _ _ (s .pre .1))
 
 cut-requires : tie.Need-cut-requires Inv-loop μ-loop
 cut-requires c κs = search needs
 
+sub-places : tie.Need-sub-places Inv-loop μ-loop
+sub-places c = omega (arith, c .cut .ensures .0)
+
+part-places-start : tie.Need-part-places-start Inv-loop μ-loop
+part-places-start c = omega (arith, c .cut .ensures .0)
+
+part-places-end : tie.Need-part-places-end Inv-loop μ-loop
+part-places-end c = c .cut .ensures .1
+
+places-requires : tie.Need-places-requires Inv-loop μ-loop
+places-requires c κs =
+    let t = c .before .before .before .before .before .before .args .text .now in
+    let l = c .before .before .before .loop in
+    let e = c .before .cut .ensures in
+    omega (arith, e .0, e .2, part-length t (l .i) (c .before .cut .result) (omega (arith, e .0)) (e .1))
+
 sub-write-part : tie.Need-sub-write-part Inv-loop μ-loop
-sub-write-part c = omega (arith, c .cut .ensures .0)
+sub-write-part c = omega (arith, c .before .before .cut .ensures .0)
 
 part-write-part-start : tie.Need-part-write-part-start Inv-loop μ-loop
-part-write-part-start c = omega (arith, c .cut .ensures .0)
+part-write-part-start c = omega (arith, c .before .before .cut .ensures .0)
 
 part-write-part-end : tie.Need-part-write-part-end Inv-loop μ-loop
-part-write-part-end c = c .cut .ensures .1
+part-write-part-end c = c .before .before .cut .ensures .1
 
 sub-write-part-2 : tie.Need-sub-write-part-2 Inv-loop μ-loop
 sub-write-part-2 c = search needs
@@ -47,52 +65,62 @@ part-write-part-end-2 c = search needs
 
 write-part-requires : tie.Need-write-part-requires Inv-loop μ-loop
 write-part-requires c κs =
-    let c₁ = c .before .before in
-    let c₂ = c₁ .before .before .before .before .before in
-    let a = c₂ .args in
-    let t = a .text .now in
-    let l = c₁ .before .before .loop in
-    let e = c₁ .cut .ensures in
-    let x = next-part (a .language) (a .quotes) t (l .i) (c₁ .cut .result) (search needs) (e .1) (e .3) in
-    (omega (arith, part-length t (l .i) (c₁ .cut .result) (search needs) (e .1), e .2), filled-room (l .inv .1) x)
+    let s = c .before .before .before .before .before .before .before .before .before in
+    let t = s .args .text .now in
+    let l = c .before .before .before .before .before .before .loop in
+    let e = c .before .before .before .before .cut in
+    let from : l .i ≤ e .result = omega (arith, e .ensures .0) in
+    let x = next-part (s .args .language) (s .args .quotes) t (l .i) (e .result) from (e .ensures .1) (e .ensures .3) in
+    (c .before .before .places .ensures .0, filled-room (l .inv .1) x)
 
 add-at : tie.Need-add-at Inv-loop μ-loop
 add-at c =
-    let c₁ = c .before .before .before .before .before in
-    let c₂ = c₁ .before .before .before .before .before in
-    let a = c₂ .args in
-    let t = a .text .now in
-    let l = c₁ .before .before .loop in
-    let e = c₁ .cut .ensures in
-    let x = next-part (a .language) (a .quotes) t (l .i) (c₁ .cut .result) (search needs) (e .1) (e .3) in
+    let s = c .before .before .before .before .before .before .before .before .before .before .before .before in
+    let t = s .args .text .now in
+    let l = c .before .before .before .before .before .before .before .before .before .loop in
+    let e = c .before .before .before .before .before .before .before .cut in
+    let from : l .i ≤ e .result = omega (arith, e .ensures .0) in
+    let x = next-part (s .args .language) (s .args .quotes) t (l .i) (e .result) from (e .ensures .1) (e .ensures .3) in
     omega (arith, c .before .before .write-part .ensures .0, filled-next (l .inv .1) x)
 
+add-places : tie.Need-add-places Inv-loop μ-loop
+add-places c =
+    let s = c .before .before .before .before .before .before .before .before .before .before .before .before in
+    let t = s .args .text .now in
+    let l = c .before .before .before .before .before .before .before .before .before .loop in
+    let e = c .before .before .before .before .before .before .before .cut in
+    let from : l .i ≤ e .result = omega (arith, e .ensures .0) in
+    let y = c .before .before .before .before .before .places in
+    let p = c .before .before .write-part in
+    let m = gone-small (s .args .language) (s .args .quotes) t (l .inv .0) (e .result) from (e .ensures .1) (e .ensures .3) (p .result) (y .result) (s .pre .0) (p .ensures .0) (y .ensures .1) in
+    omega (arith, m .1)
+
 loop-less : tie.Need-loop-less Inv-loop μ-loop
-loop-less c =
-    let c₁ = c .before .before .before .before .before in
-    omega (arith, c₁ .cut .ensures .0, c₁ .cut .ensures .1)
+loop-less c = let e = c .before .before .before .before .before .before .before .cut .ensures in omega (arith, e .0, e .1)
 
 loop-again : tie.Need-loop-again Inv-loop μ-loop
 loop-again c =
-    let c₁ = c .before .before .before .before .before in
-    let c₂ = c₁ .before .before .before .before .before in
-    let a = c₂ .args in
-    let t = a .text .now in
-    let l = c₁ .before .before .loop in
-    let e = c₁ .cut .ensures in
-    let x = next-part (a .language) (a .quotes) t (l .i) (c₁ .cut .result) (search needs) (e .1) (e .3) in
-    let p = c .before .before .write-part in
-    (e .1, filled-put (l .inv .1) x (p .last .1 .1 .1 .0) (p .result) (p .ensures .0) (p .ensures .1))
+    let s = c .before .before .before .before .before .before .before .before .before .before .before .before in
+    let t = s .args .text .now in
+    let l = c .before .before .before .before .before .before .before .before .before .loop in
+    let e = c .before .before .before .before .before .before .before .cut in
+    let from : l .i ≤ e .result = omega (arith, e .ensures .0) in
+    let x = next-part (s .args .language) (s .args .quotes) t (l .i) (e .result) from (e .ensures .1) (e .ensures .3) in
+    let y = c .before .before .before .before .before .places in
+    let p = c .before .before .write-part in (
+      gone-part (s .args .language) (s .args .quotes) t (l .inv .0) (e .result) from (e .ensures .1) (e .ensures .3) (p .result) (y .result) (p .ensures .0) (y .ensures .0) (y .ensures .1),
+      filled-put (l .inv .1) x (p .last .1 .1 .1 .1 .0) (p .result) (p .ensures .0) (p .ensures .1),
+    )
 
 same-length : tie.Need-same-length Inv-loop μ-loop
 same-length c = search needs
 
 returns : tie.Need-returns Inv-loop μ-loop
 returns c =
-    let c₁ = c .before .before .before .before in
-    let a = c₁ .args in
-    let f = rw (encode-end (stringOf (a .language) (a .quotes)) (a .text .now) (c .before .loop .i) (c .loop-test .left)) at (c .before .loop .inv .1) in
-    (omega (arith, f .sum), filled-end f)
+    let a = c .before .before .before .before .args in
+    let l = c .before .loop in
+    let f = rw (encode-end (stringOf (a .language) (a .quotes)) (a .text .now) (l .i) (c .loop-test .left)) at (l .inv .1) in
+    (gone-end (a .language) (a .quotes) (a .text .now) (l .inv .0) (c .loop-test .left), filled-end f)
 
 pub write-spec : {M : Type 1} → statement M
 write-spec =
@@ -102,6 +130,10 @@ write-spec =
     μ-loop
     loop-holds
     cut-requires
+    sub-places
+    part-places-start
+    part-places-end
+    places-requires
     sub-write-part
     part-write-part-start
     part-write-part-end
@@ -110,6 +142,7 @@ write-spec =
     part-write-part-end-2
     write-part-requires
     add-at
+    add-places
     loop-less
     loop-again
     same-length

@@ -1,4 +1,5 @@
--- `gained` meets its contract: in a style sheet the bytes grow by themselves, less one for each NUL; in a script three more for each line separator.
+-- `gained` meets its contract: in a style sheet the bytes grow by themselves, less one for each NUL; in a script line separators are replaced too, each
+-- by three bytes more.
 -- Assumes nothing.
 use mathlib.Core.Path.{sym, _∙_}
 use native.Mathlib.Omega.{arith}
@@ -19,29 +20,25 @@ enum-told c = search needs
 weigh-requires : tie.Need-weigh-requires
 weigh-requires c κs = search needs
 
-cast-growth : tie.Need-cast-growth
-cast-growth c = search needs
+sum-requires : tie.Need-sum-requires
+sum-requires c κs = search needs
 
 returns : tie.Need-returns
 returns c =
-    let single-key = c .before .before .before .before .before .before .before .single-key in
-    let double-key = c .before .before .before .before .before .before .double-key in
-    let weigh = c .before .before .before .weigh in
     let a = c .before .before .before .before .before .before .before .before .before .args in
-    let enum-told = c .before .before .before .before .enum-told in
-    let e = rw (single-key .ensures, double-key .ensures) at (weigh .ensures .0) in
-    let z = lead-free (a .part .now) (sym (weigh .ensures .1) ∙ c .if1 .taken) in
-    let g = gained-script (a .language) (a .quotes) (a .part .now) (weigh .result .weight) e (enum-told .given .1) 0 (sym z) in
-    omega arith
+    let w = c .before .before .before .weigh in
+    let single = c .before .before .before .before .before .before .before .single-key .ensures in
+    let double = c .before .before .before .before .before .before .double-key .ensures in
+    let escaped = rw (single, double) at (w .ensures .0 .0) in
+    let z = lead-free (a .part .now) (sym (w .ensures .0 .2) ∙ c .before .if1 .taken) in
+    let g = gained-script (a .language) (a .quotes) (a .part .now) (w .result .escaped) (w .result .hexed) escaped (w .ensures .0 .1) (c .before .before .before .before .enum-told .given .1) 0 (sym z) in
+    (omega (arith, g .0, c .sum .ensures .0), omega (arith, g .1, c .sum .ensures .1), omega (arith, w .ensures .1, c .sum .ensures .1))
 
 separators-requires : tie.Need-separators-requires
 separators-requires c κs = search needs
 
-mul-result : tie.Need-mul-result
-mul-result c = omega (arith, c .separators .ensures .1)
-
-add-result : tie.Need-add-result
-add-result c = omega (arith, c .before .before .before .before .weigh .ensures .2, c .separators .ensures .1)
+sum-requires-2 : tie.Need-sum-requires-2
+sum-requires-2 c κs = search needs
 
 enum-told-2 : tie.Need-enum-told-2
 enum-told-2 c = search needs
@@ -49,38 +46,44 @@ enum-told-2 c = search needs
 weigh-requires-2 : tie.Need-weigh-requires-2
 weigh-requires-2 c κs = search needs
 
-sub-result : tie.Need-sub-result
-sub-result c =
-    let single-key = c .before .before .before .before .before .single-key in
-    let double-key = c .before .before .before .before .double-key in
-    let weigh2 = c .before .weigh2 in
-    let a = c .before .before .before .before .before .before .before .args in
-    let e = rw (single-key .ensures, double-key .ensures) at (weigh2 .ensures .0) in
-    let g = gained-style (a .language) (a .quotes) (a .part .now) (weigh2 .result .weight) e (c .before .before .enum-told2 .given .1) (weigh2 .result .odd) (weigh2 .ensures .1) in
-    g .0
+sum-requires-3 : tie.Need-sum-requires-3
+sum-requires-3 c κs = search needs
 
-cast-result : tie.Need-cast-result
-cast-result c = search needs
+cast-t12 : tie.Need-cast-t12
+cast-t12 c = search needs
+
+sub-t13 : tie.Need-sub-t13
+sub-t13 c =
+    let a = c .before .before .before .before .before .before .before .before .before .args in
+    let w = c .before .before .before .weigh2 in
+    let single = c .before .before .before .before .before .before .before .single-key .ensures in
+    let double = c .before .before .before .before .before .before .double-key .ensures in
+    let escaped = rw (single, double) at (w .ensures .0 .0) in
+    let all = c .before .before .sum3 in
+    let g = gained-style (a .language) (a .quotes) (a .part .now) (w .result .escaped) (w .result .hexed) escaped (w .ensures .0 .1) (c .before .before .before .before .enum-told2 .given .1) (w .result .odd) (w .ensures .0 .2) in
+    omega (arith, g .0, all .ensures .0)
 
 returns-2 : tie.Need-returns-2
 returns-2 c =
-    let single-key = c .before .before .before .before .before .before .before .before .single-key in
-    let double-key = c .before .before .before .before .before .before .before .double-key in
-    let weigh = c .before .before .before .before .weigh in
     let a = c .before .before .before .before .before .before .before .before .before .before .args in
-    let enum-told = c .before .before .before .before .before .enum-told in
-    let e = rw (single-key .ensures, double-key .ensures) at (weigh .ensures .0) in
-    gained-script (a .language) (a .quotes) (a .part .now) (weigh .result .weight) e (enum-told .given .1) (c .separators .result) (c .separators .ensures .0)
+    let w = c .before .before .before .before .weigh in
+    let single = c .before .before .before .before .before .before .before .before .single-key .ensures in
+    let double = c .before .before .before .before .before .before .before .double-key .ensures in
+    let escaped = rw (single, double) at (w .ensures .0 .0) in
+    let n = c .before .separators in
+    let g = gained-script (a .language) (a .quotes) (a .part .now) (w .result .escaped) (w .result .hexed) escaped (w .ensures .0 .1) (c .before .before .before .before .before .enum-told .given .1) (n .result) (n .ensures .0) in
+    (omega (arith, g .0, c .sum2 .ensures .0), omega (arith, g .1, c .sum2 .ensures .1), omega (arith, w .ensures .1, n .ensures .1, c .sum2 .ensures .1))
 
 returns-3 : tie.Need-returns-3
 returns-3 c =
-    let single-key = c .before .before .before .before .before .single-key in
-    let double-key = c .before .before .before .before .double-key in
-    let weigh2 = c .before .weigh2 in
-    let a = c .before .before .before .before .before .before .before .args in
-    let e = rw (single-key .ensures, double-key .ensures) at (weigh2 .ensures .0) in
-    let g = gained-style (a .language) (a .quotes) (a .part .now) (weigh2 .result .weight) e (c .before .before .enum-told2 .given .1) (weigh2 .result .odd) (weigh2 .ensures .1) in
-    g .1
+    let a = c .before .before .before .before .before .before .before .before .before .args in
+    let w = c .before .before .before .weigh2 in
+    let single = c .before .before .before .before .before .before .before .single-key .ensures in
+    let double = c .before .before .before .before .before .before .double-key .ensures in
+    let escaped = rw (single, double) at (w .ensures .0 .0) in
+    let all = c .before .before .sum3 in
+    let g = gained-style (a .language) (a .quotes) (a .part .now) (w .result .escaped) (w .result .hexed) escaped (w .ensures .0 .1) (c .before .before .before .before .enum-told2 .given .1) (w .result .odd) (w .ensures .0 .2) in
+    (omega (arith, g .0, g .1, all .ensures .0), omega (arith, g .2, all .ensures .1), omega (arith, w .ensures .1, all .ensures .1))
 
 pub gained-spec : {M : Type 1} → statement M
 gained-spec =
@@ -90,14 +93,14 @@ gained-spec =
     double-key-requires
     enum-told
     weigh-requires
-    cast-growth
+    sum-requires
     returns
     separators-requires
-    mul-result
-    add-result
+    sum-requires-2
     enum-told-2
     weigh-requires-2
-    sub-result
-    cast-result
+    sum-requires-3
+    cast-t12
+    sub-t13
     returns-2
     returns-3)
