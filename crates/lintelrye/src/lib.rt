@@ -1,10 +1,11 @@
 // Lintelrye: HTML escaping and unescaping with proofs. No call allocates, panics or fails to end, and no caller has to check anything first.
 //
-// Each call takes a context by its number, a text, and an output buffer that the caller lends, and returns four numbers:
-//   status  0, or the first refusal of the table below that applies;
-//   length  the length of the result (after NO_ROOM the length needed, after any other refusal 0);
-//   same    1 exactly if nothing was replaced, so that the result is the text;
-//   place   after NOT_UTF8, CUT_SHORT and NOT_A_FORM the length of the longest correct prefix of the text, else 0.
+// Each call takes a context by its number, a text, and an output buffer that the caller lends, and returns five numbers:
+//   status    0, or the first refusal of the table below that applies;
+//   length    the length of the result (after NO_ROOM the length needed, after any other refusal 0);
+//   same      1 exactly if nothing was replaced, so that the result is the text;
+//   replaced  how many places were replaced: characters by encode and read, references or escapes by decode and browse (after a refusal 0);
+//   place     after NOT_UTF8, CUT_SHORT and NOT_A_FORM the length of the longest correct prefix of the text, else 0.
 // After status 0 the first `length` bytes of the output are the result and the other bytes keep their values; after a refusal all keep them.
 // A borrowing call does not write, and needs no room, where nothing is replaced: `view` then returns the text itself.
 //
@@ -24,7 +25,7 @@
 //   - `script_raw` is for the whole text of a script element, in one call: parts that are escaped one by one can still close the element. It is no JSON
 //     encoder: it keeps the text from closing the element, and does not make a string or a value of it.
 //
-// The contracts cite the definitions of crates/rules/specs: `Allowed` (Refusals.antt) fixes status, length, same, place and every byte of the output,
+// The contracts cite the definitions of crates/rules/specs: `Allowed` (Refusals.antt) fixes the five numbers and every byte of the output,
 // by the rule of the operation in the context (Operations.antt).
 pub mod labels;
 

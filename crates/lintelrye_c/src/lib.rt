@@ -17,7 +17,11 @@ pub extern "C" fn lintelrye_encode_5(context: u32, text: &[u8], output: &mut [u8
 
 // The same as a borrowing call: `lintelrye::encode_borrowing`.
 #[no_mangle]
-pub extern "C" fn lintelrye_encode_borrowing_5(context: u32, text: &[u8], output: &mut [u8]) -> Answer
+pub extern "C" fn lintelrye_encode_borrowing_5(
+    context: u32,
+    text: &[u8],
+    output: &mut [u8],
+) -> Answer
     ensures { λ r. ⌜ Allowed Encode (contextOf context) true (now (text .entry)) (now (output .entry)) r (now (output .exit)) ⌝ }
 {
     lintelrye::encode_borrowing(context, text, output)
@@ -33,7 +37,11 @@ pub extern "C" fn lintelrye_decode_5(context: u32, text: &[u8], output: &mut [u8
 
 // The same as a borrowing call: `lintelrye::decode_borrowing`.
 #[no_mangle]
-pub extern "C" fn lintelrye_decode_borrowing_5(context: u32, text: &[u8], output: &mut [u8]) -> Answer
+pub extern "C" fn lintelrye_decode_borrowing_5(
+    context: u32,
+    text: &[u8],
+    output: &mut [u8],
+) -> Answer
     ensures { λ r. ⌜ Allowed Decode (contextOf context) true (now (text .entry)) (now (output .entry)) r (now (output .exit)) ⌝ }
 {
     lintelrye::decode_borrowing(context, text, output)
@@ -65,7 +73,11 @@ pub extern "C" fn lintelrye_browse_5(context: u32, text: &[u8], output: &mut [u8
 
 // The same as a borrowing call: `lintelrye::browse_borrowing`.
 #[no_mangle]
-pub extern "C" fn lintelrye_browse_borrowing_5(context: u32, text: &[u8], output: &mut [u8]) -> Answer
+pub extern "C" fn lintelrye_browse_borrowing_5(
+    context: u32,
+    text: &[u8],
+    output: &mut [u8],
+) -> Answer
     ensures { λ r. ⌜ Allowed Browse (contextOf context) true (now (text .entry)) (now (output .entry)) r (now (output .exit)) ⌝ }
 {
     lintelrye::browse_borrowing(context, text, output)

@@ -8,6 +8,7 @@ use lib.ListN.{length, drop, length-append, length-drop}
 use Rattle.rules.specs.Bytes.{ascii, over}
 use Rattle.rules.specs.Program.{decimal, printed}
 use Rattle.rules.specs.declared.Answer.{Answer}
+use Rattle.requests.specs.Asked.{firstLines}
 use Rattle.requests.proofs.Digits.{digits-length}
 use Rattle.base.proofs.Filled.{Filled, Next, filled-start, filled-more}
 
@@ -49,14 +50,23 @@ placePart a = ascii "\nplace=" ++ decimal (a .place)
 abbrev pub textPart : List ℕ
 textPart = ascii "\ntext="
 
--- The parts, each before all that come after it.
-abbrev pub parts : Answer → List ℕ
-parts a = statusPart a ++ (lengthPart a ++ (samePart a ++ (replacedPart a ++ (placePart a ++ textPart))))
+-- The parts, each before all that come after it: of the first three lines, and of all.
+abbrev pub firstParts : Answer → List ℕ
+firstParts a = statusPart a ++ (lengthPart a ++ samePart a)
 
-eleven : (a b c d e f g h i j k : List ℕ) → (a ++ b) ++ ((c ++ d) ++ ((e ++ f) ++ ((g ++ h) ++ ((i ++ j) ++ k)))) ≡ a ++ b ++ c ++ d ++ e ++ f ++ g ++ h ++ i ++ j ++ k ++ []
+abbrev pub parts : Answer → List ℕ
+parts a = firstLines a ++ (replacedPart a ++ (placePart a ++ textPart))
+
+six : (a b c d e f : List ℕ) → (a ++ b) ++ ((c ++ d) ++ (e ++ f)) ≡ a ++ b ++ c ++ d ++ e ++ f
+six a b c d e f = simp append-assoc
+
+eleven : (a b c d e f g h i j k : List ℕ) → (a ++ b ++ c ++ d ++ e ++ f) ++ ((g ++ h) ++ ((i ++ j) ++ k)) ≡ a ++ b ++ c ++ d ++ e ++ f ++ g ++ h ++ i ++ j ++ k ++ []
 eleven a b c d e f g h i j k = simp (append-assoc, append-nil)
 
 -- They are the lines.
+pub first-parts : (a : Answer) → firstParts a ≡ firstLines a
+first-parts a = six (ascii "status=") (decimal (a .status)) (ascii "\nlength=") (decimal (a .length)) (ascii "\nsame=") (decimal (a .same))
+
 pub printed-parts : (a : Answer) → parts a ≡ printed a []
 printed-parts a =
     eleven (ascii "status=") (decimal (a .status)) (ascii "\nlength=") (decimal (a .length)) (ascii "\nsame=") (decimal (a .same)) (ascii "\nreplaced=") (decimal (a .replaced))
@@ -65,19 +75,28 @@ printed-parts a =
 number-room : (name : List ℕ) (n : ℕ) → length (name ++ decimal n) ≤ length name + 20
 number-room name n = omega (arith, length-append name (decimal n), digits-length 20 n)
 
--- They take at most 144 bytes: 44 of names, and five times twenty digits.
+-- The first lines take at most 81 bytes: 21 of names, and three times twenty digits.
+pub first-room : (a : Answer) → length (firstParts a) ≤ 81
+first-room a =
+    omega (
+      arith,
+      length-append (statusPart a) (lengthPart a ++ samePart a),
+      length-append (lengthPart a) (samePart a),
+      number-room (ascii "status=") (a .status),
+      number-room (ascii "\nlength=") (a .length),
+      number-room (ascii "\nsame=") (a .same),
+    )
+
+-- All take at most 144: 23 of names more, and two numbers.
 pub parts-room : (a : Answer) → length (parts a) ≤ 144
 parts-room a =
     omega (
       arith,
-      length-append (statusPart a) (lengthPart a ++ (samePart a ++ (replacedPart a ++ (placePart a ++ textPart)))),
-      length-append (lengthPart a) (samePart a ++ (replacedPart a ++ (placePart a ++ textPart))),
-      length-append (samePart a) (replacedPart a ++ (placePart a ++ textPart)),
+      length-append (firstLines a) (replacedPart a ++ (placePart a ++ textPart)),
+      ap length (first-parts a),
+      first-room a,
       length-append (replacedPart a) (placePart a ++ textPart),
       length-append (placePart a) textPart,
-      number-room (ascii "status=") (a .status),
-      number-room (ascii "\nlength=") (a .length),
-      number-room (ascii "\nsame=") (a .same),
       number-room (ascii "\nreplaced=") (a .replaced),
       number-room (ascii "\nplace=") (a .place),
     )

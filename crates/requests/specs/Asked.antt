@@ -3,20 +3,28 @@
 use mathlib.Core.Bool.{false, cond}
 use mathlib.Core.Option.{Option, none, some}
 use mathlib.Core.Path.{_≡_}
-use mathlib.Core.List.{List, []}
+use mathlib.Core.List.{List, [], _++_}
 use Prim.Native.Nat.{ℕ}
 use lib.Dec.{eqb}
 use lib.ListN.{length as size}
-use Rattle.rules.specs.Bytes.{over}
+use Rattle.rules.specs.Bytes.{ascii, over}
 use Rattle.rules.specs.Contexts.{contextOf}
 use Rattle.rules.specs.Refusals.{Call, refusal, answerAt, outAt, caseOf, movesIn}
-use Rattle.rules.specs.Program.{printed, printedCall}
+use Rattle.rules.specs.Program.{decimal, printed, printedCall}
 use Rattle.rules.specs.declared.Answer.{Answer}
 use Rattle.rules.specs.declared.Operation.{Operation}
 
 -- Room for every result of a request: six times its longest text.
 abbrev pub resultRoom : ℕ
 resultRoom = 49152
+
+-- The first three lines of an answer: status, length and same.
+abbrev pub firstLines : Answer → List ℕ
+firstLines a = ascii "status=" ++ decimal (a .status) ++ ascii "\nlength=" ++ decimal (a .length) ++ ascii "\nsame=" ++ decimal (a .same)
+
+-- They have at most so many bytes: 21 of names and line ends, and three numbers of at most twenty digits.
+abbrev pub firstMost : ℕ
+firstMost = 81
 
 -- The most bytes of an answer's lines up to its text: 44 of names and line ends, and five numbers of at most twenty digits.
 abbrev pub linesMost : ℕ

@@ -5,7 +5,7 @@ ghost use Prim.Native.Nat.{_+_, _≤_, _<_};
 ghost use lib.ListN.{length};
 ghost use Rattle.rules.specs.Bytes.{over};
 ghost use Rattle.rules.specs.Program.{lastDigits, decimal, printed};
-ghost use Rattle.requests.specs.Asked.{linesMost};
+ghost use Rattle.requests.specs.Asked.{firstLines, firstMost, linesMost};
 use rules::Answer;
 
 // Returns the digit of a number below ten.
@@ -42,14 +42,23 @@ fn put_number(name: &[u8], n: usize, output: &mut [u8]) -> usize
     at + put_digits(20, n, &mut output[at..])
 }
 
+// Writes the first three lines of an answer, without the last line end.
+fn put_first(answer: Answer, output: &mut [u8]) -> usize
+    requires { ⌜ firstMost ≤ length (now output) ⌝ }
+    ensures { λ r. ⌜ (r ≡ length (firstLines answer)) × (now (output .exit) ≡ over (firstLines answer) (now (output .entry))) × (r ≤ firstMost) ⌝ }
+{
+    let mut at = put_number(b"status=", answer.status, output);
+    at += put_number(b"\nlength=", answer.length, &mut output[at..]);
+    at += put_number(b"\nsame=", answer.same, &mut output[at..]);
+    at
+}
+
 // Writes the lines of an answer up to `text=`.
 pub fn put_answer(answer: Answer, output: &mut [u8]) -> usize
     requires { ⌜ linesMost ≤ length (now output) ⌝ }
     ensures { λ r. ⌜ (r ≡ length (printed answer [])) × (now (output .exit) ≡ over (printed answer []) (now (output .entry))) × (r ≤ linesMost) ⌝ }
 {
-    let mut at = put_number(b"status=", answer.status, output);
-    at += put_number(b"\nlength=", answer.length, &mut output[at..]);
-    at += put_number(b"\nsame=", answer.same, &mut output[at..]);
+    let mut at = put_first(answer, output);
     at += put_number(b"\nreplaced=", answer.replaced, &mut output[at..]);
     at += put_number(b"\nplace=", answer.place, &mut output[at..]);
     at += base::put(b"\ntext=", &mut output[at..]);

@@ -3,7 +3,7 @@
 use mathlib.Core.Bool.{Bool, cond}
 use mathlib.Core.Path.{sym, ap, _∙_}
 use borrow.Author.Needs.{needs}
-use Rattle.rules.specs.Refusals.{answer}
+use Rattle.rules.specs.Refusals.{refusal}
 use Rattle.base.proofs.Filled.{lent-rest}
 use Rattle.frame.proofs.invalid.Statement.{statement}
 use Rattle.frame.proofs.invalid.Tie as tie
@@ -27,7 +27,7 @@ returns : tie.Need-returns
 returns c =
     let v = c .before .before .before .before .before .args .valid in
     let e = rw lent-rest at (sym (c .before .before .is-cut .ensures) ∙ c .before .if1 .taken) in
-    c .refusal .ensures ∙ ap (λ (b : Bool). answer (cond b 7 2) 0 0 v) (sym e)
+    c .refusal .ensures ∙ ap (λ (b : Bool). refusal (cond b 7 2) 0 v) (sym e)
 
 refusal-requires-2 : tie.Need-refusal-requires-2
 refusal-requires-2 c κs = search needs
@@ -36,7 +36,7 @@ returns-2 : tie.Need-returns-2
 returns-2 c =
     let v = c .before .before .before .before .before .args .valid in
     let e = rw lent-rest at (sym (c .before .before .is-cut .ensures) ∙ c .before .if1 .left) in
-    c .refusal2 .ensures ∙ ap (λ (b : Bool). answer (cond b 7 2) 0 0 v) (sym e)
+    c .refusal2 .ensures ∙ ap (λ (b : Bool). refusal (cond b 7 2) 0 v) (sym e)
 
 pub invalid-spec : {M : Type 1} → statement M
 invalid-spec =
