@@ -21,7 +21,7 @@ fn a_borrowing_call_gives_the_text_itself() {
     assert_eq!(written.as_str().as_ptr(), text.as_ptr());
     assert_eq!((written.is_same(), written.replaced()), (true, 0));
     assert_eq!(output, [0xEE; 8]);
-    assert_eq!(lintelrye::encode_text(text, &mut []), Ok(written));
+    assert_eq!(lintelrye::encode_text(text, &mut []).unwrap(), "Hall");
 }
 
 #[test]
