@@ -27,3 +27,7 @@ pub mod Bytewise
 pub mod Quiet
 pub mod Blind
 pub mod Below
+pub mod ScriptModes
+pub mod RawAgain
+pub mod RawCloses
+pub mod ScriptEdges

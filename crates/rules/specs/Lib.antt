@@ -16,3 +16,5 @@ pub mod Answers
 pub mod Program
 pub mod Examples
 pub mod Edges
+pub mod ScriptData
+pub mod ScriptEdges

@@ -159,6 +159,27 @@ pub enum Replaced {
     Nothing,
 }
 
+// How the text of a script element is read: as it is, escaped once (after `<!--`), or escaped twice (after a start tag `<script` in that).
+pub enum ScriptMode {
+    Plain,
+    Once,
+    Twice,
+}
+
+// The place of the `<` of the end tag that ends a script element's text.
+pub enum ClosingTag {
+    At(usize),
+    Nothing,
+}
+
+// The answer about a script element's text, laid out as C lays it out.
+#[repr(C)]
+pub struct Closing {
+    pub status: usize,
+    pub found: usize,
+    pub place: usize,
+}
+
 // Returns the context of a number, 0 to 13; any other number has none.
 pub fn context_of(number: u32) -> AnyContext
     ensures { λ r. ⌜ r ≡ contextOf number ⌝ }
