@@ -31,3 +31,4 @@ pub mod ScriptModes
 pub mod RawAgain
 pub mod RawCloses
 pub mod ScriptEdges
+pub mod Closings

@@ -18,3 +18,4 @@ pub mod Examples
 pub mod Edges
 pub mod ScriptData
 pub mod ScriptEdges
+pub mod Closings
