@@ -1,4 +1,4 @@
-/* Checks from C what the header says: all eight calls, every status, null pointers of length 0, what is left in the output, and lintelrye_view.
+/* Checks from C what the header says: all nine calls, every status, null pointers of length 0, what is left in the output, and lintelrye_view.
  * Compiles as C99 and as C++. Prints each check that fails; ends with 0 where none does. */
 #include <stdio.h>
 #include <string.h>
@@ -96,6 +96,35 @@ static void check_written(uint32_t which, uint32_t context, const char *text, ui
     check(is(of(which, context, text, n - 1), LINTELRYE_NO_ROOM, n, 0, 0, 0) && holds(""), "one byte too few", which);
 }
 
+/* Whether closing_tag answers these three numbers for a string. */
+static int closes(const char *text, uint64_t status, uint64_t found, uint64_t place)
+{
+    lintelrye_closing closing = lintelrye_closing_tag((const uint8_t *)text, strlen(text));
+    return closing.status == status && closing.found == found && closing.place == place;
+}
+
+/* lintelrye_closing_tag: a place, none, the refusals; and that none is not enough to embed a text. */
+static void check_closing(void)
+{
+    lintelrye_closing nothing = lintelrye_closing_tag(NULL, 0);
+    lintelrye_closing longest = lintelrye_closing_tag(letters, LINTELRYE_TEXT_LIMIT);
+    lintelrye_closing longer = lintelrye_closing_tag(letters, LINTELRYE_TEXT_LIMIT + 1);
+    check(sizeof(lintelrye_closing) == 24, "the size of the answer about a script element", 0);
+    check(nothing.status == LINTELRYE_PASSED && nothing.found == 0 && nothing.place == 0, "no end tag in a null text", 0);
+    check(longest.status == LINTELRYE_PASSED && longest.found == 0 && longest.place == 0, "no end tag in the longest text", 0);
+    check(longer.status == LINTELRYE_TOO_LONG && longer.found == 0 && longer.place == 0, "a script element's text that is too long", 0);
+    check(closes("a<b</ScRiPt\t", LINTELRYE_PASSED, 1, 3), "an end tag", 0);
+    check(closes("a</scripts>", LINTELRYE_PASSED, 0, 0), "no end tag", 0);
+    check(closes("</script>\xC3(", LINTELRYE_NOT_UTF8, 0, 9), "a script element's text that is not UTF-8", 0);
+    check(closes("</script>\xC3", LINTELRYE_CUT_SHORT, 0, 9), "a script element's text that is cut short", 0);
+    check(closes("<!--<script>", LINTELRYE_PASSED, 0, 0), "no end tag in a text that hides the next", 0);
+    check(closes("<!--<script></script>", LINTELRYE_PASSED, 0, 0), "the end tag after it is hidden", 0);
+    check(closes("<!--<script>--></script>", LINTELRYE_PASSED, 1, 15), "an end tag after the end of the escape", 0);
+    check(is(of(0, LINTELRYE_SCRIPT_RAW, "<!--<script>", OUTPUT), LINTELRYE_PASSED, 13, 0, 0), "the same text in script_raw", 0);
+    memcpy(output + 13, "</script>", sizeof "</script>");
+    check(closes((const char *)output, LINTELRYE_PASSED, 1, 13), "the end tag after that is not hidden", 0);
+}
+
 /* lintelrye_view: the text, the front of the output, or none. */
 static void check_view(void)
 {
@@ -134,6 +163,7 @@ int main(void)
         check_written(6 + which, LINTELRYE_TEXT, "&#0;", 1, "\xEF\xBF\xBD");
         check(is(of(4 + which, LINTELRYE_TEXT_MINIMAL, "a&lt;&gt;", OUTPUT), LINTELRYE_NOT_A_FORM, 0, 0, 0, 5) && holds(""), "no form", 4 + which);
     }
+    check_closing();
     check_view();
     printf("c/check: %s\n", failed ? "FAILED" : "what the header says holds");
     return failed != 0;

@@ -1,6 +1,6 @@
 /* Lintelrye for C and C++: HTML escaping with proofs. Link liblintelrye_c.a (x86-64, System V calls); nothing else is needed.
  *
- * Four operations, each as a copying and as a borrowing call. Every call takes a context by its number, a text, and an output that the caller
+ * Four operations, each as a copying and as a borrowing call. Every one of these takes a context by its number, a text, and an output that the caller
  * lends, and returns five numbers. No call allocates, keeps a pointer or writes to a global, and every call ends.
  *
  * What a caller owes, and all that is owed:
@@ -19,6 +19,9 @@
  * outside a string, in a comment, or as the name of a tag or attribute. LINTELRYE_SAFE is no sanitizer: like LINTELRYE_QUOTED it is right between tags
  * and in attributes with quotes, and nowhere else.
  * For a script string in an attribute, such as onclick="f('HERE')", encode by SCRIPT_SINGLE and then the result of that by DOUBLE_QUOTED.
+ *
+ * Script text that others wrote is judged by lintelrye_closing_tag, at the end of this file. Its answer "none" does not make a text safe to put into a
+ * page: judge the text together with the </script> that is to follow it.
  * docs/RULES.md has every rule.
  */
 #ifndef LINTELRYE_H
@@ -113,6 +116,26 @@ lintelrye_answer lintelrye_browse(uint32_t context, const uint8_t *text, size_t 
 
 /* browse as a borrowing call. */
 lintelrye_answer lintelrye_browse_borrowing(uint32_t context, const uint8_t *text, size_t text_length, uint8_t *output, size_t output_length);
+
+/* The answer about a script element's text. */
+typedef struct lintelrye_closing {
+    uint64_t status; /* LINTELRYE_PASSED, or LINTELRYE_TOO_LONG, LINTELRYE_NOT_UTF8 or LINTELRYE_CUT_SHORT */
+    uint64_t found;  /* 1 if an end tag in the text ends the element; 0 if none does, and after a refusal */
+    uint64_t place;  /* found 1: where that tag's `<` is; after NOT_UTF8 and CUT_SHORT the length of the longest valid prefix; otherwise 0 */
+} lintelrye_closing;
+
+/* closing_tag: where the text of a script element ends, by the HTML Standard's script data states: at the first end tag that a browser takes for the
+ * element's own. It takes the text after <script>, and no pages.
+ *
+ * FOUND 0 DOES NOT MAKE A TEXT SAFE TO EMBED. In <!--<script> there is no end tag, but it hides the </script> that you write after it, and the page goes on
+ * inside the script. So do not judge a supplier's text alone: judge it with </script> after it. It is right exactly if the place is the text's length:
+ *
+ *     memcpy(page + n, "</script>", 9);                                    (page has the text, n bytes, and room for nine more)
+ *     lintelrye_closing c = lintelrye_closing_tag(page, n + 9);
+ *     int right = c.status == LINTELRYE_PASSED && c.found == 1 && c.place == n;
+ *
+ * What lintelrye_encode writes in LINTELRYE_SCRIPT_RAW is always right, within the limit. */
+lintelrye_closing lintelrye_closing_tag(const uint8_t *text, size_t text_length);
 
 /* view: the result of a call, from the text, the output and the answer. It returns where the result begins and puts its length into *length: the whole
  * text where `same` is 1, otherwise the first `length` bytes of the output, or length 0 where the output is shorter. It never refuses; after a

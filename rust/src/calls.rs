@@ -1,4 +1,4 @@
-//! The four operations in a context, copying and borrowing, their results and their refusals.
+//! The four operations in a context, copying and borrowing, their results and their refusals; and where a script element's text ends.
 use crate::raw::{self, Answer};
 use crate::Context;
 use core::{fmt, ops, str};
@@ -252,4 +252,30 @@ operation! {
     /// # Ok::<(), lintelrye::Refusal>(())
     /// ```
     browse browse_borrowing
+}
+
+/// Returns where the text of a script element ends: at the `<` of the first end tag that a browser takes for the element's own, by the HTML Standard's script
+/// data states; `None` if no tag in the text is. It takes the text after `<script>`, and no pages.
+///
+/// **`None` does not make a text safe to embed.** In `<!--<script>` there is no end tag, but it hides the `</script>` that you write after it. So do not
+/// judge a supplier's text alone: judge it with `</script>` after it. It is right exactly if the place is the text's length.
+///
+/// ```
+/// use lintelrye::closing_tag;
+/// let right = |text: &str| closing_tag(&format!("{}</script>", text)) == Ok(Some(text.len()));
+/// assert!(right("if (a < b) c();"));
+/// assert!(!right("document.write('</script>')"));
+/// assert_eq!(closing_tag("<!--<script>"), Ok(None));
+/// assert!(!right("<!--<script>"));
+/// ```
+///
+/// What [`encode`] writes in [`Context::ScriptRaw`] is always right, where the text with the tag has at most [`TEXT_LIMIT`] bytes.
+pub fn closing_tag<T: ?Sized + AsRef<[u8]>>(text: &T) -> Result<Option<usize>, Refusal> {
+    let closing = raw::closing_tag(text.as_ref());
+    match (closing.status, closing.found) {
+        (raw::PASSED, 0) => Ok(None),
+        (raw::PASSED, 1) => Ok(Some(closing.place as usize)),
+        (raw::PASSED, _) => Err(Refusal::WrongArchive),
+        (status, _) => Err(refusal(Answer { status, length: 0, same: 0, place: closing.place })),
+    }
 }

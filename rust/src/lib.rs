@@ -39,6 +39,11 @@
 //! `encode_script` is no JSON encoder.
 //! In a style string a NUL becomes U+FFFD, so a text with NUL is not given back.
 //!
+//! # Script text that others wrote
+//!
+//! [`closing_tag`] says where a browser ends a script element. That it finds no end tag in a text does **not** make the text safe to embed: `<!--<script>` hides
+//! the tag that follows it. Judge a text with `</script>` after it: it is right exactly if the place is the text's length.
+//!
 //! # Texts and buffers
 //!
 //! A buffer of [`encoded_at_most`] bytes is enough to encode any text of that length, one of [`decoded_at_most`] bytes to decode or browse it, and one as long

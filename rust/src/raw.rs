@@ -17,6 +17,18 @@ pub struct Answer {
     pub place: u64,
 }
 
+/// The answer about a script element's text, as include/lintelrye.h lays it out.
+#[repr(C)]
+#[derive(Clone, Copy, Debug, PartialEq, Eq)]
+pub struct Closing {
+    /// [`PASSED`], or [`TOO_LONG`], [`NOT_UTF8`] or [`CUT_SHORT`].
+    pub status: u64,
+    /// 1 if an end tag in the text ends the element; 0 if none does, and after a refusal.
+    pub found: u64,
+    /// Where that tag's `<` is; after [`NOT_UTF8`] and [`CUT_SHORT`] the length of the longest valid prefix; otherwise 0.
+    pub place: u64,
+}
+
 /// The call passed.
 pub const PASSED: u64 = 0;
 /// The text is longer than [`TEXT_LIMIT`](crate::TEXT_LIMIT).
@@ -59,6 +71,17 @@ exported! {
     read_borrowing is lintelrye_read_borrowing_5: "`lintelrye_read_borrowing`, see [`crate::read_borrowing`].";
     browse is lintelrye_browse_5: "`lintelrye_browse`, see [`crate::browse`].";
     browse_borrowing is lintelrye_browse_borrowing_5: "`lintelrye_browse_borrowing`, see [`crate::browse_borrowing`].";
+}
+
+#[link(name = "lintelrye_c", kind = "static")]
+extern "C" {
+    fn lintelrye_closing_tag(text: *const u8, text_length: usize) -> Closing;
+}
+
+/// `lintelrye_closing_tag`, see [`crate::closing_tag`].
+pub fn closing_tag(text: &[u8]) -> Closing {
+    // SAFETY: the text can be read for its length, which is all that the call requires.
+    unsafe { lintelrye_closing_tag(text.as_ptr(), text.len()) }
 }
 
 /// Returns the result of a call: the whole text where `same` is 1, otherwise the first `length` bytes of the output, or none where the output is shorter.

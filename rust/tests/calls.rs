@@ -78,6 +78,24 @@ fn refusals_leave_the_buffer() {
 }
 
 #[test]
+fn where_a_script_element_ends() {
+    use lintelrye::closing_tag;
+    assert_eq!(closing_tag("a<b</ScRiPt\t"), Ok(Some(3)));
+    assert_eq!(closing_tag("a</scripts>"), Ok(None));
+    assert_eq!(closing_tag(""), Ok(None));
+    assert_eq!(closing_tag("<!--<script>"), Ok(None));
+    assert_eq!(closing_tag("<!--<script></script>"), Ok(None));
+    assert_eq!(closing_tag(b"</script>\xC3("), Err(Refusal::NotUtf8 { place: 9 }));
+    assert_eq!(closing_tag(b"</script>\xC3"), Err(Refusal::CutShort { place: 9 }));
+    assert_eq!(closing_tag(&vec![b'<'; lintelrye::TEXT_LIMIT]), Ok(None));
+    assert_eq!(closing_tag(&vec![b'<'; lintelrye::TEXT_LIMIT + 1]), Err(Refusal::TooLong));
+    let mut page = [0; 64];
+    let written = lintelrye::encode_script("<!--<script></script>", &mut page).unwrap().len();
+    page[written..written + 9].copy_from_slice(b"</script>");
+    assert_eq!(closing_tag(&page[..written + 9]), Ok(Some(written)));
+}
+
+#[test]
 fn texts_of_several_types() {
     let mut output = [0; 16];
     assert_eq!(lintelrye::encode_text(&String::from("<"), &mut output).unwrap(), "&lt;");

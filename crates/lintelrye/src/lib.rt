@@ -38,10 +38,17 @@ ghost use Rattle.lintelrye.specs.Viewed.{Viewed};
 // The call of an operation that is a value: `call(operation, context, borrows, text, output)`. Each call below is one of these.
 pub use frame::call;
 
-// The operations, the answer record, the contexts and the statuses.
+// Where the text of a script element ends: `closing_tag(text)`. It judges text that others wrote; its contract is
+// `r ≡ closingOf (now (text .entry))` (crates/rules/specs/Closings.antt). `found` is 1 if an end tag in the text ends the element, and `place` is then
+// the offset of that tag's `<`. Beware: `found` 0 does not make a text safe to put between `<script>` and `</script>`, since `<!--<script>` hides the end
+// tag that follows it. Hand over the text with `</script>` after it: it is right exactly if `place` is the length of the text alone.
+pub use scripts::closing_tag;
+
+// The operations, the answer records, the contexts and the statuses.
 pub use rules::Answer;
 pub use rules::BAD_CONTEXT;
 pub use rules::CUT_SHORT;
+pub use rules::Closing;
 pub use rules::DOUBLE_QUOTED;
 pub use rules::NO_ROOM;
 pub use rules::NOT_A_FORM;

@@ -2,10 +2,13 @@
 // include/lintelrye.h documents each function for a C caller. A text or an output is a pointer and a length. The names end in how many numbers an
 // answer has, so that a program which expects another record does not link.
 ghost use mathlib.Core.Bool.{true, false};
+ghost use mathlib.Core.Path.{_≡_};
 ghost use Rattle.rules.specs.Contexts.{contextOf};
 ghost use Rattle.rules.specs.Refusals.{Allowed};
+ghost use Rattle.rules.specs.Closings.{closingOf};
 ghost use Rattle.rules.specs.declared.Operation.the-variants.{Encode, Decode, Read, Browse};
 use lintelrye::Answer;
+use lintelrye::Closing;
 
 // Escapes `text` for `context`: `lintelrye::encode`.
 #[no_mangle]
@@ -81,4 +84,12 @@ pub extern "C" fn lintelrye_browse_borrowing_5(
     ensures { λ r. ⌜ Allowed Browse (contextOf context) true (now (text .entry)) (now (output .entry)) r (now (output .exit)) ⌝ }
 {
     lintelrye::browse_borrowing(context, text, output)
+}
+
+// Returns where the text of a script element ends: `lintelrye::closing_tag`.
+#[no_mangle]
+pub extern "C" fn lintelrye_closing_tag(text: &[u8]) -> Closing
+    ensures { λ r. ⌜ r ≡ closingOf (now (text .entry)) ⌝ }
+{
+    lintelrye::closing_tag(text)
 }
