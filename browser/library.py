@@ -5,7 +5,7 @@ import sys
 
 CONTEXTS = ['text_minimal', 'text', 'double_quoted', 'single_quoted', 'quoted', 'safe', 'unquoted', 'script_single', 'script_double', 'script_quoted',
             'style_single', 'style_double', 'style_quoted', 'script_raw']
-OPERATIONS = ['encode', 'decode', 'read', 'browse']
+OPERATIONS = ['encode', 'decode', 'read', 'browse', 'closing_tag']
 
 
 class Library:
@@ -27,3 +27,11 @@ class Library:
             print('%s ended with status %d after %d of %d answers' % (self.command[-1], ran.returncode, len(results), len(texts)), file=sys.stderr)
             sys.exit(2)
         return results
+
+    def closings(self, texts):
+        """The place where each byte string ends as the text of a script element, None where it does not."""
+        results = self.call('closing_tag', 'script_raw', texts)
+        if None in results:
+            print('%s refuses a text' % self.command[-1], file=sys.stderr)
+            sys.exit(2)
+        return [struct.unpack('<I', result)[0] if result else None for result in results]

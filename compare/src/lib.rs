@@ -45,6 +45,44 @@ exported! {
     lintelrye_read_5 lintelrye_read_borrowing_5 lintelrye_browse_5 lintelrye_browse_borrowing_5
 }
 
+/// The answer about a script element's text, as include/lintelrye.h lays it out.
+#[repr(C)]
+#[derive(Clone, Copy, Debug, PartialEq, Eq)]
+pub struct Closing {
+    pub status: u64,
+    pub found: u64,
+    pub place: u64,
+}
+
+#[cfg(feature = "archive")]
+#[link(name = "lintelrye_c", kind = "static")]
+extern "C" {
+    #[cfg(target_arch = "x86_64")]
+    fn lintelrye_closing_tag(t: *const u8, n: usize) -> Closing;
+    #[cfg(not(target_arch = "x86_64"))]
+    fn lintelrye_closing_tag(a: *mut Closing, t: *const u8, n: usize) -> *mut Closing;
+}
+
+/// Where the text of a script element ends.
+#[cfg(all(feature = "archive", target_arch = "x86_64"))]
+#[inline]
+pub fn closing_tag(text: &[u8]) -> Closing {
+    // SAFETY: the text is valid for its length.
+    unsafe { lintelrye_closing_tag(text.as_ptr(), text.len()) }
+}
+
+/// Where the text of a script element ends.
+#[cfg(all(feature = "archive", not(target_arch = "x86_64")))]
+#[inline]
+pub fn closing_tag(text: &[u8]) -> Closing {
+    let mut closing = std::mem::MaybeUninit::uninit();
+    // SAFETY: as on x86-64; and the call writes the whole answer.
+    unsafe {
+        lintelrye_closing_tag(closing.as_mut_ptr(), text.as_ptr(), text.len());
+        closing.assume_init()
+    }
+}
+
 /// The four operations.
 #[derive(Clone, Copy, Debug, PartialEq, Eq)]
 pub enum Operation {

@@ -95,7 +95,8 @@ of the text. Before a line is measured, the results of both sides are compared b
 The limits are about ours over crate + utf8: below 1 the library is faster. The borrowing call, which writes nothing where nothing is replaced, is held
 beside the same function of the crate as the copying one. `read` and `browse` have no counterpart in the crate: `read` is held beside the crate's decoder
 of the same context on the same written form, though it also refuses what is no such form; `browse` is held beside `decode_html_entities`. The HTML seven
-share one decoder, so that decode and browse are measured in one of them.
+share one decoder, so that decode and browse are measured in one of them. `closing_tag` has no counterpart either: it is held beside `encode_script` on the
+same text, of which none ends before its own end, so that all of it is read.
 
 ";
 
@@ -108,6 +109,7 @@ const CLASSES: &str = "\
 | Cyrillic, CJK, emoji | 64 KiB of characters of two, three, four bytes, nothing special |
 | English | `unquoted` alone: 64 KiB of English words with the spaces between them |
 | only `<!--`, only `</script>`, only `<` | script_raw alone: 64 KiB of that piece |
+| in `closing_tag` | special are `<!--`, `-->`, `<script>`, `</scripts>`, `<` and `-`; escaped plain and escaped twice are plain text after `<!--` and `<!--<script>`, only `-` and only `<s` that piece after `<!--` |
 | numbers only, named only | decode and browse: 64 KiB of numeric references, or of names from the whole table; in strings, of the escapes with digits, or of the others |
 ";
 

@@ -18,6 +18,8 @@ const EMOJI: &str = "😀 🚰 🔧 🏭 👩\u{200D}🔧 🌡\u{FE0F} 🚪 🔔
 pub struct Case {
     pub operation: Operation,
     pub borrowing: bool,
+    /// Whether it is closing_tag, beside the crate's encoder of script_raw, and not the operation.
+    pub closing: bool,
     pub context: usize,
     pub class: &'static str,
     pub texts: Vec<String>,
@@ -39,6 +41,9 @@ impl Case {
 
     /// The contexts that are of one kind, with the operation.
     pub fn family(&self) -> &'static str {
+        if self.closing {
+            return "closing_tag";
+        }
         match (self.operation, self.context, self.borrowing) {
             (Operation::Encode, 0..=6, false) => "encode HTML",
             (Operation::Encode, 0..=6, true) => "encode HTML, borrowing",
@@ -61,6 +66,9 @@ impl Case {
 
     /// The most that ours may take of the time of the crate after `from_utf8`; `read` has no limit.
     pub fn limit(&self) -> Option<f64> {
+        if self.closing {
+            return Some(if ["plain", "Cyrillic", "CJK", "emoji", "escaped plain"].contains(&self.class) { 1.5 } else { 3.0 });
+        }
         match (self.operation, self.context, self.class) {
             (Operation::Encode, 0..=6, "plain") => Some(if self.borrowing { 0.15 } else { 0.3 }),
             (Operation::Encode, 0..=6, "short names") => Some(0.9),
@@ -88,6 +96,34 @@ pub fn cases() -> Vec<Case> {
     add(Operation::Decode, false, &[1, 7, 8, 9, 10, 11, 12]);
     add(Operation::Read, false, &[0, 1, 2, 3, 4, 5, 6, 7, 8, 9, 10, 11, 12]);
     add(Operation::Browse, false, &[1]);
+    all.extend(closing_cases());
+    all
+}
+
+/// The classes of closing_tag: texts that are read to their end, as none of them has an end tag that ends the element.
+fn closing_cases() -> Vec<Case> {
+    let numbers = &mut Numbers(13);
+    let english = words(numbers, ENGLISH, &[" ", " ", " ", " ", ", ", ". "]);
+    let pieces = |list: &[&str]| list.iter().map(|piece| piece.to_string()).collect::<Vec<_>>();
+    let special = pieces(&["<!--", "-->", "<script>", "</scripts>", "<", "-"]);
+    let mut all = Vec::new();
+    let mut add = |class, texts| all.push(Case { operation: Operation::Encode, borrowing: false, closing: true, context: 13, class, texts });
+    for (class, percent) in [("plain", 0), ("1 %", 1), ("10 %", 10), ("50 %", 50), ("all", 100)] {
+        add(class, vec![fill(numbers, &english, &special, percent, LONGEST)]);
+    }
+    add("short names", names(numbers, &english, &special));
+    for (class, list, gap) in [("Cyrillic", CYRILLIC, " "), ("CJK", CJK, ""), ("emoji", EMOJI, "")] {
+        let text = words(numbers, list, &[gap]);
+        add(class, vec![fill(numbers, &text, &[], 0, LONGEST)]);
+    }
+    for (class, start) in [("escaped plain", "<!--"), ("escaped twice", "<!--<script>")] {
+        add(class, vec![start.to_string() + &fill(numbers, &english, &[], 0, LONGEST - start.len())]);
+    }
+    let only =
+        [("only <", "", "<"), ("only <!--", "", "<!--"), ("only </scripts>", "", "</scripts>"), ("only -", "<!--", "-"), ("only <s", "<!--", "<s")];
+    for (class, start, piece) in only {
+        add(class, vec![start.to_string() + &fill(numbers, &english, &pieces(&[piece]), 100, LONGEST - start.len())]);
+    }
     all
 }
 
@@ -98,7 +134,7 @@ fn cases_of(operation: Operation, borrowing: bool, context: usize) -> Vec<Case> 
     let english = words(numbers, ENGLISH, &gaps);
     let pieces = pieces(operation, context);
     let mut all = Vec::new();
-    let mut add = |class, texts| all.push(Case { operation, borrowing, context, class, texts });
+    let mut add = |class, texts| all.push(Case { operation, borrowing, closing: false, context, class, texts });
     for (class, percent) in [("plain", 0), ("1 %", 1), ("10 %", 10), ("50 %", 50), ("all", 100)] {
         add(class, vec![fill(numbers, &english, &pieces, percent, LONGEST)]);
     }
