@@ -2,18 +2,19 @@
 -- as the mode did at that `<` or dash.
 -- Assumes nothing.
 use mathlib.Core.Bool.{Bool, true, false, not, _&&_, _||_, cond}
-use mathlib.Core.Option.{Option, none, some}
+use mathlib.Core.Option.{Option, none, some, Option·none-ne-some, Option·some-injective}
 use mathlib.Core.Path.{_≡_, refl, sym, ap, _∙_, subst}
 use mathlib.Core.List.{List, [], _∷_, _++_}
-use Prim.Native.Nat.{ℕ, _+_, _≤_}
+use Prim.Native.Nat.{ℕ, suc, _+_, _≤_, _<_}
 use native.Mathlib.Omega.{arith}
 use borrow.Author.Tests.{eqb-true, ne-eqb}
 use lib.Dec.{T, eqb, leb, leb→le, eqb→eq}
+use lib.ListN.{length, drop, getD}
 use Rattle.rules.specs.Bytes.{ascii, is, In, all, stands, between, sameBytes}
 use Rattle.rules.specs.ScriptData.{ScriptState, Data, LessThan, EndTagOpen, EndTagName, EscapeStart, EscapeStartDash, Escaped, EscapedDash, EscapedDashDash, EscapedLessThan, EscapedEndTagOpen, EscapedEndTagName, DoubleEscapeStart, DoubleEscaped, DoubleEscapedDash, DoubleEscapedDashDash, DoubleEscapedLessThan, DoubleEscapeEnd, lower, alpha, nameEnds, endsName, named, inData, inEscaped, inDouble, next, naming, leaves, isScript, closingFrom, closingTag, spells, ends, dashed, turn, endFrom}
 use Rattle.rules.specs.declared.ScriptMode.{ScriptMode}
 use Rattle.rules.specs.declared.ScriptMode.the-variants.{Plain, Once, Twice}
-use Rattle.rules.proofs.Tests.{and-left, all-in, any-in}
+use Rattle.rules.proofs.Tests.{and-left, and-right, all-in, any-in}
 use Rattle.rules.proofs.Below.{eqb-comm}
 
 true-false : {A : Type 0} → true ≡ false → A
@@ -272,9 +273,6 @@ module _ (name : List ℕ) (less at b : ℕ) (s : List ℕ) where
   letter-keeps : {A : Type 0} (x y : A) (script : Bool) → alpha b ≡ true → cond (endsName b && script) x y ≡ y
   letter-keeps {A} x y script a = ap (λ (z : Bool). cond (z && script) x y) (letter-no-end b a)
 
-  other-ends : alpha b ≡ false → goesOn name (b ∷ s) ≡ (endsName b && isScript name)
-  other-ends a = other name b s a
-
   -- Where a start or end tag changes the mode.
   module _ (p q : ScriptMode) where
     tag-more : alpha b ≡ true → endFrom (cond (goesOn (named name b) s) p q) (at + 1) s ≡ endFrom (cond (goesOn name (b ∷ s)) p q) at (b ∷ s)
@@ -283,10 +281,10 @@ module _ (name : List ℕ) (less at b : ℕ) (s : List ℕ) where
     tag-over : endsName b ≡ true → endFrom (cond (isScript name) p q) (at + 1) s ≡ endFrom (cond (goesOn name (b ∷ s)) p q) at (b ∷ s)
     tag-over e =
         end-stays (cond (isScript name) p q) e
-        ∙ ap (λ (x : Bool). endFrom (cond x p q) at (b ∷ s)) (sym (other-ends (end-not alpha tt b e) ∙ ap (λ (z : Bool). z && isScript name) e))
+        ∙ ap (λ (x : Bool). endFrom (cond x p q) at (b ∷ s)) (sym (other name b s (end-not alpha tt b e) ∙ ap (λ (z : Bool). z && isScript name) e))
 
     tag-not : endsName b ≡ false → alpha b ≡ false → endFrom q at (b ∷ s) ≡ endFrom (cond (goesOn name (b ∷ s)) p q) at (b ∷ s)
-    tag-not e a = ap (λ (x : Bool). endFrom (cond x p q) at (b ∷ s)) (sym (other-ends a ∙ ap (λ (z : Bool). z && isScript name) e))
+    tag-not e a = ap (λ (x : Bool). endFrom (cond x p q) at (b ∷ s)) (sym (other name b s a ∙ ap (λ (z : Bool). z && isScript name) e))
 
   -- ---- each state
 
@@ -320,7 +318,7 @@ module _ (name : List ℕ) (less at b : ℕ) (s : List ℕ) where
     where
       go : (x : Bool) → alpha b ≡ x → Leaves EndTagName (cond x EndTagName (inData b))
       go true a = (letter-keeps (some less) (View EndTagName (named name b) (cond (is "<" b) at less) (at + 1) s) (isScript name) a ∙ tag-letter Plain a, tt)
-      go false a = (λ i. cond (sym (other-ends a) i) (some less) (data-again .0 i), data-again .1)
+      go false a = (λ i. cond (sym (other name b s a) i) (some less) (data-again .0 i), data-again .1)
 
   start-next : Goes EscapeStart (next EscapeStart (isScript name) b)
   start-next = go (is "-" b) refl
@@ -388,7 +386,7 @@ module _ (name : List ℕ) (less at b : ℕ) (s : List ℕ) where
     where
       go : (x : Bool) → alpha b ≡ x → Leaves EscapedEndTagName (cond x EscapedEndTagName (inEscaped b))
       go true a = (letter-keeps (some less) (View EscapedEndTagName (named name b) (cond (is "<" b) at less) (at + 1) s) (isScript name) a ∙ tag-letter Once a, tt)
-      go false a = (λ i. cond (sym (other-ends a) i) (some less) (once-again .0 i), once-again .1)
+      go false a = (λ i. cond (sym (other name b s a) i) (some less) (once-again .0 i), once-again .1)
 
   double-start-next : Goes DoubleEscapeStart (next DoubleEscapeStart (isScript name) b)
   double-start-next = go (endsName b) refl (alpha b) refl
@@ -508,3 +506,30 @@ reads (b ∷ s) st name less at h =
 pub modes-agree : (s : List ℕ) → closingTag s ≡ endFrom Plain 0 s
 unfolding closingTag
 modes-agree s = reads s Data [] 0 0 tt
+
+-- ---- what is at the place
+
+ends-tag : (m : ScriptMode) (b : ℕ) (s : List ℕ) → ends m b s ≡ true → (b ≡ 60) × T (spells (ascii "/script") s)
+ends-tag Plain b s e = let t = subst T (sym e) tt in (eqb→eq b 60 (and-left (is "<" b) (spells (ascii "/script") s) t), and-right (is "<" b) (spells (ascii "/script") s) t)
+ends-tag Once b s e = let t = subst T (sym e) tt in (eqb→eq b 60 (and-left (is "<" b) (spells (ascii "/script") s) t), and-right (is "<" b) (spells (ascii "/script") s) t)
+ends-tag Twice b s e = true-false (sym e)
+
+-- Behind k bytes of s is a `<`, and then `/script` and a byte that ends a name.
+abbrev pub TagAt : ℕ → List ℕ → Type 0
+TagAt k s = (k < length s) × (getD s k 0 ≡ 60) × T (spells (ascii "/script") (drop (k + 1) s))
+
+tag-found : (s : List ℕ) (m : ScriptMode) (at p : ℕ) → endFrom m at s ≡ some p → (k : ℕ) × (p ≡ at + k) × TagAt k s
+tag-found [] m at p e = absurd (Option·none-ne-some p e)
+tag-found (b ∷ s) m at p e = go (ends m b s) refl e (tag-found s (turn m b s) (at + 1) p)
+  where
+    go : (x : Bool) → ends m b s ≡ x → cond x (some at) (endFrom (turn m b s) (at + 1) s) ≡ some p
+        → (endFrom (turn m b s) (at + 1) s ≡ some p → (k : ℕ) × (p ≡ at + 1 + k) × TagAt k s) → (k : ℕ) × (p ≡ at + k) × TagAt k (b ∷ s)
+    go true f q ih = let (l, t) = ends-tag m b s f in (0, sym (Option·some-injective at p q) ∙ omega arith, (omega arith, l, t))
+    go false f q ih = let (k, r, t) = ih q in (suc k, r ∙ omega arith, (omega (arith, t .0), t .1, rest k (t .2)))
+      where
+        rest : (k : ℕ) → T (spells (ascii "/script") (drop (k + 1) s)) → T (spells (ascii "/script") (drop (suc k + 1) (b ∷ s)))
+        rest k t = let q : suc k + 1 ≡ suc (k + 1) = omega arith in subst (λ (n : ℕ). T (spells (ascii "/script") (drop n (b ∷ s)))) (sym q) t
+
+-- At the place that is given is such a tag.
+pub closing-there : (s : List ℕ) (p : ℕ) → closingTag s ≡ some p → TagAt p s
+closing-there s p e = let (k, q, t) = tag-found s Plain 0 p (sym (modes-agree s) ∙ e) in subst (λ (n : ℕ). TagAt n s) (sym (q ∙ omega arith)) t

@@ -12,6 +12,7 @@ use Rattle.rules.specs.declared.ScriptMode.the-variants.{Plain, Once, Tw
 
 -- ---- the states
 
+-- They have the Standard's names, without "script data".
 pub data ScriptState : Type 0 where
   Data : ScriptState
   LessThan : ScriptState
@@ -52,13 +53,15 @@ endsName b = oneOf nameEnds b
 abbrev pub named : List ℕ → ℕ → List ℕ
 named name b = cond (alpha b) (name ++ lower b ∷ []) []
 
--- The state after a byte of the script data state, of the escaped and of the double escaped one: others have a byte read again there.
+-- The state after a byte of the script data state; where another state says "reconsume", the byte is read again there.
 abbrev pub inData : ℕ → ScriptState
 inData b = cond (is "<" b) LessThan Data
 
+-- The same of the escaped state.
 abbrev pub inEscaped : ℕ → ScriptState
 inEscaped b = cond (is "-" b) EscapedDash (cond (is "<" b) EscapedLessThan Escaped)
 
+-- The same of the double escaped state.
 abbrev pub inDouble : ℕ → ScriptState
 inDouble b = cond (is "-" b) DoubleEscapedDash (cond (is "<" b) DoubleEscapedLessThan DoubleEscaped)
 

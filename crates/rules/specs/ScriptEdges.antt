@@ -41,16 +41,17 @@ reachedFrom st name (b ∷ s) = cond (leaves st (isScript name) b) 0 (reachedFro
 abbrev pub kinds : List ℕ
 kinds = ascii "</!-> a1"
 
--- A start of a text, and the state after it and each of them; `none`: the states are left.
+-- A start of a text, and the states after it and each of them, in their order; `none`: the states are left.
 abbrev pub Left : Type 0
 Left = List ℕ × List (Option ScriptState)
 
+-- Eight states, none of them left.
 abbrev eight : ScriptState → ScriptState → ScriptState → ScriptState → ScriptState → ScriptState → ScriptState → ScriptState → List (Option ScriptState)
 eight a b c d e f g h = some a ∷ some b ∷ some c ∷ some d ∷ some e ∷ some f ∷ some g ∷ some h ∷ []
 
+-- Each state by one start, those that gather a name by another name and by `script`.
 abbrev pub states : List Left
 states =
-    -- after:                              <               /          !            -                >        space    a           1
     (ascii "x", eight LessThan Data Data Data Data Data Data Data)
     ∷ (ascii "<", eight LessThan EndTagOpen EscapeStart Data Data Data Data Data)
     ∷ (ascii "</", eight LessThan Data Data Data Data Data EndTagName Data)
@@ -81,17 +82,20 @@ abbrev reaches : List ℕ → ℕ → Option ScriptState → Bool
 reaches start b (some st) = eqb (reachedFrom Data [] (start ++ b ∷ [])) (number st)
 reaches start b none = eqb (reachedFrom Data [] (start ++ b ∷ [])) 0
 
+-- So is each, for each byte.
 abbrev eachOf : List ℕ → List ℕ → List (Option ScriptState) → Bool
 eachOf start [] [] = true
 eachOf start [] (o ∷ os) = false
 eachOf start (b ∷ bs) [] = false
 eachOf start (b ∷ bs) (o ∷ os) = reaches start b o && eachOf start bs os
 
+-- Each of the row's states is.
 abbrev pub leftAs : Left → Bool
 leftAs row = eachOf (row .0) kinds (row .1)
 
 -- ---- bytes that end a name, and places
 
+-- Two places are the same, or there is none in both.
 abbrev samePlace : Option ℕ → Option ℕ → Bool
 samePlace none none = true
 samePlace none (some q) = false
@@ -102,6 +106,7 @@ samePlace (some p) (some q) = eqb p q
 abbrev pub enders : List ℕ
 enders = 0x09 ∷ 0x0A ∷ 0x0C ∷ 0x0D ∷ 0x20 ∷ 0x2F ∷ 0x3E ∷ []
 
+-- Whether the byte ends it is as the list says.
 abbrev pub endsAs : ℕ → Bool
 endsAs b = samePlace (closingTag (ascii "</script" ++ b ∷ [])) (cond (oneOf enders b) (some 0) none)
 
@@ -144,5 +149,6 @@ places =
     ∷ (ascii "<!-<!--><script></script>", some 16)
     ∷ []
 
+-- It does.
 abbrev pub placedAs : List ℕ × Option ℕ → Bool
 placedAs e = samePlace (closingTag (e .0)) (e .1)

@@ -1,10 +1,11 @@
 -- `scripts::starts_with_name` meets its contract: the name is left at what of the text is left exactly if the whole is at the whole. The measure is what is left of the name.
 -- Assumes nothing.
-use mathlib.Core.Path.{_≡_, refl, sym, _∙_}
-use Prim.Native.Nat.{_-_, _≤_}
+use mathlib.Core.Path.{_≡_, refl, sym, ap, _∙_}
+use Prim.Native.Nat.{ℕ, _-_, _≤_}
 use borrow.Author.Needs.{needs}
 use borrow.Author.Tests.{eq-eqb, ne-eqb}
-use lib.ListN.{length, drop}
+use lib.Dec.{eqb}
+use lib.ListN.{length, drop, getD}
 use Rattle.rules.specs.ScriptData.{spells}
 use Rattle.scripts.proofs.Named.{spells-on, spells-off, spells-short, spells-last}
 use Rattle.scripts.proofs.starts_with_name.Statement.{statement}
@@ -40,7 +41,7 @@ returns-2 c =
     let l = c .before .before .before .before .before .before .loop in
     sym
     (l .inv .1
-    ∙ spells-off (a .name .now) (a .rest .now) (l .i) (search needs) (search needs) (rw (← c .before .before .to-lower .ensures) (ne-eqb _ _ (c .if2 .taken))))
+    ∙ spells-off (a .name .now) (a .rest .now) (l .i) (search needs) (search needs) (ap (λ (x : ℕ). eqb x (getD (a .name .now) (l .i) 0)) (sym (c .before .before .to-lower .ensures)) ∙ ne-eqb _ _ (c .if2 .taken)))
 
 add-i : tie.Need-add-i Inv-loop μ-loop
 add-i c = search needs
@@ -54,7 +55,7 @@ loop-again c =
     let l = c .before .before .before .before .before .before .loop in (
       search needs,
       l .inv .1
-          ∙ spells-on (a .name .now) (a .rest .now) (l .i) (search needs) (search needs) (rw (← c .before .before .to-lower .ensures) (eq-eqb _ _ (c .if2 .left))),
+          ∙ spells-on (a .name .now) (a .rest .now) (l .i) (search needs) (search needs) (ap (λ (x : ℕ). eqb x (getD (a .name .now) (l .i) 0)) (sym (c .before .before .to-lower .ensures)) ∙ eq-eqb _ _ (c .if2 .left)),
     )
 
 returns-3 : tie.Need-returns-3 Inv-loop μ-loop
