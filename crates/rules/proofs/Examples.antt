@@ -15,7 +15,7 @@ use Rattle.rules.specs.Operations.{decodeStep}
 use Rattle.rules.specs.Refusals.{caseBy}
 use Rattle.rules.specs.Program.{entityOf}
 use Rattle.rules.specs.Examples.{holdsIn, holds, starred, rest}
-use Rattle.rules.specs.Edges.{characters, validUpTo, longByOnes, encoders, writeFrom, closesAt, edges, copying, borrowing, digest, namesDigest, asRow, renumberingDigest, papers, readsAs, requests, answers}
+use Rattle.rules.specs.Edges.{characters, validUpTo, longByOnes, encoders, writeFrom, closesAt, edges, copying, borrowing, digest, namesDigest, asRow, renumberingDigest, papers, readsAs, checks, checksAs, requests, answers}
 
 -- The starred examples, 1 to 12.
 pub starred-hold : T (all holds starred)
@@ -27,7 +27,7 @@ pub rest-hold : T (all holds rest)
 unfolding charStep isCut encodeStep rawStep readStep names renumbering referenceStep browseStep decodeStep caseBy contextOf entityOf
 rest-hold = tt
 
--- The edges: characters, what each context writes, calls, calls of one kind only, the table of names, the program.
+-- The edges: characters, what each context writes, calls, calls of one kind only, check, the table of names, the program.
 pub characters-valid : T (all validUpTo characters)
 unfolding charStep
 characters-valid = tt
@@ -49,6 +49,10 @@ edges-hold = tt
 pub kinds-hold : T (all (holdsIn false) copying && all (holdsIn true) borrowing)
 unfolding charStep isCut encodeStep rawStep readStep names renumbering referenceStep browseStep decodeStep caseBy contextOf entityOf
 kinds-hold = tt
+
+pub checks-hold : T (all checksAs checks)
+unfolding charStep isCut encodeStep rawStep readStep names referenceStep browseStep decodeStep caseBy contextOf entityOf
+checks-hold = tt
 
 pub names-digest : T (eqb (digest names) namesDigest)
 unfolding names

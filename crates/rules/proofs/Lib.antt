@@ -20,6 +20,7 @@ pub mod Laws
 pub mod Refused
 pub mod Calls
 pub mod Back
+pub mod Check
 pub mod Entity
 pub mod Examples
 pub mod Loops

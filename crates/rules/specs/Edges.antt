@@ -13,14 +13,15 @@ use Rattle.rules.specs.Utf8.{validTo, utf8, substitute}
 use Rattle.rules.specs.Contexts.{contextOf}
 use Rattle.rules.specs.Tables.{Row, key, value}
 use Rattle.rules.specs.Encoding.{closes}
-use Rattle.rules.specs.Refusals.{refusal, success}
+use Rattle.rules.specs.Refusals.{refusal, success, checkOf}
 use Rattle.rules.specs.Answers.{referenceMove, escapeMove, replacedMove}
 use Rattle.rules.specs.Program.{printed, entityOf}
 use Rattle.rules.specs.Examples.{Example, passesIn, example, stays, refusedIn, refused, holds}
 use Rattle.rules.specs.declared.Html.the-variants.{TextMinimal, Text, Quoted, Safe, Unquoted}
 use Rattle.rules.specs.declared.Quotes.the-variants.{Single, Double, Both}
 use Rattle.rules.specs.declared.Context.the-variants.{InHtml, InScript, InStyle}
-use Rattle.rules.specs.declared.AnyContext.the-variants.{Units, ScriptRaw}
+use Rattle.rules.specs.declared.AnyContext.{AnyContext}
+use Rattle.rules.specs.declared.AnyContext.the-variants.{Units, ScriptRaw, Unknown}
 use Rattle.rules.specs.declared.Operation.{Operation}
 use Rattle.rules.specs.declared.Operation.the-variants.{Encode, Decode, Read, Browse}
 use Rattle.rules.specs.declared.DecodedEntityValue.the-variants.{Named as NamedText, Character}
@@ -645,6 +646,29 @@ borrowing = passesIn 2 Encode (Units (InHtml Text)) (ascii "abc") (ascii "abc") 
 
 abbrev pub edges : List Example
 edges = closings ++ tags ++ escapes ++ references ++ browsed ++ highNumbers ++ readings ++ refusals ++ cuts
+
+-- ---- check
+
+-- A context and a text, and status, length and place that check answers: every row but NO_ROOM, and texts that are shorter than their forms.
+abbrev pub checks : List (AnyContext × List ℕ × ℕ × ℕ × ℕ)
+checks =
+    (Units (InHtml Text), [], 0, 0, 0)
+    ∷ (Units (InHtml Text), ascii "a&lt;b", 0, 3, 0)
+    ∷ (Units (InHtml Quoted), ascii "&#x27;&amp;", 0, 2, 0)
+    ∷ (Units (InScript Both), ascii "\\x3C\\u2028", 0, 4, 0)
+    ∷ (Units (InStyle Both), ascii "\\3C " ++ 0xEF ∷ 0xBF ∷ 0xBD ∷ [], 0, 4, 0)
+    ∷ (Units (InHtml Text), ascii "a&lt;b<", 4, 0, 6)
+    ∷ (Units (InHtml Text), 0x26 ∷ 0x80 ∷ [], 2, 0, 1)
+    ∷ (Units (InHtml Text), ascii "a&" ++ 0xE2 ∷ 0x82 ∷ [], 7, 0, 2)
+    ∷ (Units (InHtml Text), 0x80 ∷ map (λ (b : ℕ). 0x61) (count 0 65535), 2, 0, 0)
+    ∷ (Units (InHtml Text), 0x80 ∷ map (λ (b : ℕ). 0x61) (count 0 65536), 1, 0, 0)
+    ∷ (ScriptRaw, map (λ (b : ℕ). 0x80) (count 0 65537), 5, 0, 0)
+    ∷ (Unknown, [], 5, 0, 0)
+    ∷ []
+
+-- It does.
+abbrev pub checksAs : AnyContext × List ℕ × ℕ × ℕ × ℕ → Bool
+checksAs e = let k = checkOf (e .0) (e .1) in eqb (k .status) (e .2) && eqb (k .length) (e .3) && eqb (k .place) (e .4)
 
 -- ---- the program
 

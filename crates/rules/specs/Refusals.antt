@@ -1,6 +1,6 @@
--- RULES 13. The answer record and the refusal table, for copying and borrowing calls of every operation; and view.
+-- RULES 13. The answer record and the refusal table, for copying and borrowing calls of every operation; view; and check.
 -- Assumes nothing.
-use mathlib.Core.Bool.{Bool, true, _&&_, cond}
+use mathlib.Core.Bool.{Bool, true, false, _&&_, cond}
 use mathlib.Core.Option.{Option, none, some}
 use mathlib.Core.Path.{_≡_}
 use mathlib.Core.List.{List, [], _∷_}
@@ -13,6 +13,7 @@ use Rattle.rules.specs.Utf8.{IsText, IsCut, validTo, isCut}
 use Rattle.rules.specs.Units.{IsForm}
 use Rattle.rules.specs.Operations.{ruleOf}
 use Rattle.rules.specs.declared.Answer.{Answer}
+use Rattle.rules.specs.declared.Checked.{Checked}
 use Rattle.rules.specs.declared.AnyContext.{AnyContext}
 use Rattle.rules.specs.declared.AnyContext.the-variants.{Units, ScriptRaw, Unknown}
 use Rattle.rules.specs.declared.Operation.{Operation}
@@ -168,3 +169,17 @@ Allowed op n borrows t out a o = (a ≡ answerOf op n borrows t out) × (o ≡ o
 -- view: the whole text where same is 1, otherwise the first bytes of the output, or an empty part where the output is shorter.
 abbrev pub viewOf : List ℕ → List ℕ → ℕ → ℕ → List ℕ
 viewOf t out same length = cond (eqb same 1) t (cond (leb length (size out)) (take length out) [])
+
+-- ---- check
+
+-- What check answers, by its three numbers.
+abbrev pub checkedAs : ℕ → ℕ → ℕ → Checked
+checkedAs s l p = record { status = s; length = l; place = p }
+
+-- What is left of a taking call's answer without an output: status, length and place; instead of NO_ROOM the status is 0, with that same length.
+abbrev pub checked : Answer → Checked
+checked a = checkedAs (cond (eqb (a .status) 3) 0 (a .status)) (a .length) (a .place)
+
+-- What check answers of a text in a context: what is left of the answer of a taking call into no bytes. Any other output gives the same (`check-agrees`).
+abbrev pub checkOf : AnyContext → List ℕ → Checked
+checkOf n t = checked (answerOf Read n false t [])

@@ -107,6 +107,14 @@ pub struct Answer {
     pub place: usize,
 }
 
+// What `check` answers, laid out as C lays it out.
+#[repr(C)]
+pub struct Checked {
+    pub status: usize,
+    pub length: usize,
+    pub place: usize,
+}
+
 // What a pass over a text finds: the length of the result, how far the text is taken, and how many places are replaced.
 pub struct Measured {
     pub length: usize,
