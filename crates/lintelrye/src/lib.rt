@@ -8,6 +8,8 @@
 //   place     after NOT_UTF8, CUT_SHORT and NOT_A_FORM the length of the longest correct prefix of the text, else 0.
 // After status 0 the first `length` bytes of the output are the result and the other bytes keep their values; after a refusal all keep them.
 // A borrowing call does not write, and needs no room, where nothing is replaced: `view` then returns the text itself.
+// The operation read, which undoes what encode writes, has two calls beside each other: `check` takes no output and returns status, length and place;
+// `take` writes.
 //
 // The refusals, in the order in which they are checked; at most one of NOT_UTF8 and CUT_SHORT applies:
 //   BAD_CONTEXT  the operation has no such context: encode has all fourteen, decode and read have 0 to 12, browse has 0 to 6;
@@ -15,7 +17,7 @@
 //   NOT_UTF8     the text is not valid UTF-8, and not cut short; `place` is the length of its longest valid prefix;
 //   CUT_SHORT    the text ends within a character that more bytes could complete, and is valid up to there; `place` is where that character begins;
 //   NOT_A_FORM   read only: encode writes no such text; `place` is the length of its longest prefix that is a sequence of the context's units;
-//   NO_ROOM      the output is shorter than the result; `length` is the length needed.
+//   NO_ROOM      the output is shorter than the result; `length` is the length needed. `check` never gives it.
 //
 // Choosing a context. What is escaped for one context is not safe in another:
 //   - `safe` replaces what `quoted` replaces, and `/`. It is no sanitizer: its result is safe in text and between the quotes of an attribute, and not
@@ -26,12 +28,13 @@
 //     encoder: it keeps the text from closing the element, and does not make a string or a value of it.
 //
 // The contracts cite the definitions of crates/rules/specs: `Allowed` (Refusals.antt) fixes the five numbers and every byte of the output,
-// by the rule of the operation in the context (Operations.antt).
+// by the rule of the operation in the context (Operations.antt); `checkOf` (Refusals.antt) fixes what `check` answers.
 pub mod labels;
 
 ghost use mathlib.Core.Bool.{true, false};
+ghost use mathlib.Core.Path.{_≡_};
 ghost use Rattle.rules.specs.Contexts.{contextOf};
-ghost use Rattle.rules.specs.Refusals.{Allowed};
+ghost use Rattle.rules.specs.Refusals.{Allowed, checked, checkOf};
 ghost use Rattle.rules.specs.declared.Operation.the-variants.{Encode, Decode, Read, Browse};
 ghost use Rattle.lintelrye.specs.Viewed.{Viewed};
 
@@ -48,6 +51,7 @@ pub use scripts::closing_tag;
 pub use rules::Answer;
 pub use rules::BAD_CONTEXT;
 pub use rules::CUT_SHORT;
+pub use rules::Checked;
 pub use rules::Closing;
 pub use rules::DOUBLE_QUOTED;
 pub use rules::NO_ROOM;
@@ -101,16 +105,41 @@ pub fn decode_borrowing(context: u32, text: &[u8], output: &mut [u8]) -> Answer
     call(Operation::Decode, context, true, text, output)
 }
 
+// What is left of a taking call's answer for a caller without an output: instead of NO_ROOM it passes.
+fn without_output(answer: Answer) -> Checked
+    ensures { λ r. ⌜ r ≡ checked answer ⌝ }
+{
+    let status = if answer.status == NO_ROOM {
+        PASSED
+    } else {
+        answer.status
+    };
+    Checked {
+        status,
+        length: answer.length,
+        place: answer.place,
+    }
+}
+
+// Tells whether a text is one that encode writes for the context, and how long the text is that was typed: what `take` would answer, without an output.
+// Where `take` gives NO_ROOM it passes, with that same length.
+pub fn check(context: u32, text: &[u8]) -> Checked
+    ensures { λ r. ⌜ r ≡ checkOf (contextOf context) (now (text .entry)) ⌝ }
+{
+    let mut none: [u8; 0] = [0; 0];
+    without_output(call(Operation::Read, context, false, text, &mut none))
+}
+
 // Undoes exactly what encode writes and refuses everything else: of what encode wrote it returns the text that was typed. One exception: encode writes
-// a NUL in a style string as U+FFFD, and read returns that.
-pub fn read(context: u32, text: &[u8], output: &mut [u8]) -> Answer
+// a NUL in a style string as U+FFFD, and take returns that.
+pub fn take(context: u32, text: &[u8], output: &mut [u8]) -> Answer
     ensures { λ r. ⌜ Allowed Read (contextOf context) false (now (text .entry)) (now (output .entry)) r (now (output .exit)) ⌝ }
 {
     call(Operation::Read, context, false, text, output)
 }
 
-// read as a borrowing call.
-pub fn read_borrowing(context: u32, text: &[u8], output: &mut [u8]) -> Answer
+// take as a borrowing call.
+pub fn take_borrowing(context: u32, text: &[u8], output: &mut [u8]) -> Answer
     ensures { λ r. ⌜ Allowed Read (contextOf context) true (now (text .entry)) (now (output .entry)) r (now (output .exit)) ⌝ }
 {
     call(Operation::Read, context, true, text, output)

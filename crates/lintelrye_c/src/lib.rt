@@ -4,10 +4,11 @@
 ghost use mathlib.Core.Bool.{true, false};
 ghost use mathlib.Core.Path.{_≡_};
 ghost use Rattle.rules.specs.Contexts.{contextOf};
-ghost use Rattle.rules.specs.Refusals.{Allowed};
+ghost use Rattle.rules.specs.Refusals.{Allowed, checkOf};
 ghost use Rattle.rules.specs.Closings.{closingOf};
 ghost use Rattle.rules.specs.declared.Operation.the-variants.{Encode, Decode, Read, Browse};
 use lintelrye::Answer;
+use lintelrye::Checked;
 use lintelrye::Closing;
 
 // Escapes `text` for `context`: `lintelrye::encode`.
@@ -50,20 +51,28 @@ pub extern "C" fn lintelrye_decode_borrowing_5(
     lintelrye::decode_borrowing(context, text, output)
 }
 
-// Undoes exactly what encode writes: `lintelrye::read`.
+// Tells whether encode writes such a text, without an output: `lintelrye::check`.
 #[no_mangle]
-pub extern "C" fn lintelrye_read_5(context: u32, text: &[u8], output: &mut [u8]) -> Answer
-    ensures { λ r. ⌜ Allowed Read (contextOf context) false (now (text .entry)) (now (output .entry)) r (now (output .exit)) ⌝ }
+pub extern "C" fn lintelrye_check_3(context: u32, text: &[u8]) -> Checked
+    ensures { λ r. ⌜ r ≡ checkOf (contextOf context) (now (text .entry)) ⌝ }
 {
-    lintelrye::read(context, text, output)
+    lintelrye::check(context, text)
 }
 
-// The same as a borrowing call: `lintelrye::read_borrowing`.
+// Undoes exactly what encode writes: `lintelrye::take`.
 #[no_mangle]
-pub extern "C" fn lintelrye_read_borrowing_5(context: u32, text: &[u8], output: &mut [u8]) -> Answer
+pub extern "C" fn lintelrye_take_5(context: u32, text: &[u8], output: &mut [u8]) -> Answer
+    ensures { λ r. ⌜ Allowed Read (contextOf context) false (now (text .entry)) (now (output .entry)) r (now (output .exit)) ⌝ }
+{
+    lintelrye::take(context, text, output)
+}
+
+// The same as a borrowing call: `lintelrye::take_borrowing`.
+#[no_mangle]
+pub extern "C" fn lintelrye_take_borrowing_5(context: u32, text: &[u8], output: &mut [u8]) -> Answer
     ensures { λ r. ⌜ Allowed Read (contextOf context) true (now (text .entry)) (now (output .entry)) r (now (output .exit)) ⌝ }
 {
-    lintelrye::read_borrowing(context, text, output)
+    lintelrye::take_borrowing(context, text, output)
 }
 
 // Undoes character references, with numbers as a browser reads them: `lintelrye::browse`.

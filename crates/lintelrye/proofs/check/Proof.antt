@@ -1,0 +1,22 @@
+-- `check` meets its contract: it is what is left of the answer of a taking call into no bytes.
+-- Assumes nothing.
+use mathlib.Core.Path.{ap, _∙_}
+use borrow.Author.Needs.{needs}
+use Rattle.rules.specs.Refusals.{checked}
+use Rattle.lintelrye.proofs.check.Statement.{statement}
+use Rattle.lintelrye.proofs.check.Tie as tie
+
+slice-aggregate-call : tie.Need-slice-aggregate-call
+slice-aggregate-call c = search needs
+
+call-requires : tie.Need-call-requires
+call-requires c κs = search needs
+
+without-output-requires : tie.Need-without-output-requires
+without-output-requires c κs = search needs
+
+returns : tie.Need-returns
+returns c = c .without-output .ensures ∙ ap checked (c .before .before .call .ensures .0)
+
+pub check-spec : {M : Type 1} → statement M
+check-spec = tie.close (tie.spec slice-aggregate-call call-requires without-output-requires returns)
