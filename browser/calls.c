@@ -1,5 +1,5 @@
 /* Answers calls of the library, one after another, so that a program in another language can make them.
- *   a request on standard input:   operation (0 encode, 1 decode, 2 read, 3 browse, 4 closing_tag), context: a byte each;
+ *   a request on standard input:   operation (0 encode, 1 decode, 2 take, 3 browse, 4 closing_tag), context: a byte each;
  *                                  the text's length, four bytes, the lowest first; the text
  *   its answer on standard output: the status, a byte; the result's length, four bytes, the lowest first; the result
  * The result of closing_tag is empty, or the place that it found, four bytes, the lowest first. After a refusal the result is empty. It ends with status 0 at the end of input, with 2 where a request is cut off or wrong. */
@@ -8,7 +8,7 @@
 
 typedef lintelrye_answer call(uint32_t context, const uint8_t *text, size_t text_length, uint8_t *output, size_t output_length);
 
-static call *const calls[4] = {lintelrye_encode, lintelrye_decode, lintelrye_read, lintelrye_browse};
+static call *const calls[4] = {lintelrye_encode, lintelrye_decode, lintelrye_take, lintelrye_browse};
 
 /* No text is longer than the limit and one byte, no result longer than six times the limit. */
 static uint8_t text[LINTELRYE_TEXT_LIMIT + 1];

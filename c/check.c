@@ -8,7 +8,7 @@
 typedef lintelrye_answer (*call)(uint32_t, const uint8_t *, size_t, uint8_t *, size_t);
 
 static const call calls[8] = {lintelrye_encode, lintelrye_encode_borrowing, lintelrye_decode, lintelrye_decode_borrowing,
-                              lintelrye_read,   lintelrye_read_borrowing,   lintelrye_browse, lintelrye_browse_borrowing};
+                              lintelrye_take,   lintelrye_take_borrowing,   lintelrye_browse, lintelrye_browse_borrowing};
 
 /* How many contexts each call has. */
 static const uint32_t contexts[8] = {14, 14, 13, 13, 13, 13, 7, 7};
@@ -120,9 +120,37 @@ static void check_closing(void)
     check(closes("<!--<script>", LINTELRYE_PASSED, 0, 0), "no end tag in a text that hides the next", 0);
     check(closes("<!--<script></script>", LINTELRYE_PASSED, 0, 0), "the end tag after it is hidden", 0);
     check(closes("<!--<script>--></script>", LINTELRYE_PASSED, 1, 15), "an end tag after the end of the escape", 0);
-    check(is(of(0, LINTELRYE_SCRIPT_RAW, "<!--<script>", OUTPUT), LINTELRYE_PASSED, 13, 0, 0), "the same text in script_raw", 0);
+    check(is(of(0, LINTELRYE_SCRIPT_RAW, "<!--<script>", OUTPUT), LINTELRYE_PASSED, 13, 0, 1, 0), "the same text in script_raw", 0);
     memcpy(output + 13, "</script>", sizeof "</script>");
     check(closes((const char *)output, LINTELRYE_PASSED, 1, 13), "the end tag after that is not hidden", 0);
+}
+
+/* Whether lintelrye_check says these three numbers of a text, and take the same of it in an output of any length, but for NO_ROOM. */
+static void check_checked(uint32_t context, const char *text, size_t length, uint64_t status, uint64_t needed, uint64_t place)
+{
+    lintelrye_checked checked = lintelrye_check(context, (const uint8_t *)text, length);
+    size_t room;
+    check(checked.status == status && checked.length == needed && checked.place == place, "what check says", context);
+    for (room = 0; room <= OUTPUT; room++) {
+        lintelrye_answer answer = lintelrye_take(context, (const uint8_t *)text, length, output, room);
+        uint64_t expected = answer.status == LINTELRYE_NO_ROOM ? LINTELRYE_PASSED : answer.status;
+        check(checked.status == expected && checked.length == answer.length && checked.place == answer.place, "check beside take", context);
+        check((answer.status == LINTELRYE_NO_ROOM) == (status == LINTELRYE_PASSED && room < needed), "room by what check says", context);
+    }
+}
+
+/* check: a form, the empty text by a null pointer, and every refusal that it has. */
+static void check_without_output(void)
+{
+    check_checked(LINTELRYE_QUOTED, "Mum &amp; Dad&#x27;s", 20, LINTELRYE_PASSED, 11, 0);
+    check_checked(LINTELRYE_TEXT, "abc", 3, LINTELRYE_PASSED, 3, 0);
+    check_checked(LINTELRYE_TEXT, NULL, 0, LINTELRYE_PASSED, 0, 0);
+    check_checked(LINTELRYE_TEXT_MINIMAL, "a&lt;&gt;", 9, LINTELRYE_NOT_A_FORM, 0, 5);
+    check_checked(LINTELRYE_TEXT, "a\xC3(", 3, LINTELRYE_NOT_UTF8, 0, 1);
+    check_checked(LINTELRYE_TEXT, "a\xE2\x82", 3, LINTELRYE_CUT_SHORT, 0, 1);
+    check_checked(LINTELRYE_SCRIPT_RAW, "a", 1, LINTELRYE_BAD_CONTEXT, 0, 0);
+    check_checked(LINTELRYE_TEXT, (const char *)letters, sizeof letters, LINTELRYE_TOO_LONG, 0, 0);
+    check(lintelrye_check(LINTELRYE_TEXT, letters, LINTELRYE_TEXT_LIMIT).length == LINTELRYE_TEXT_LIMIT, "the longest text", 0);
 }
 
 /* lintelrye_view: the text, the front of the output, or none. */
@@ -150,6 +178,7 @@ int main(void)
     uint32_t which;
     memset(letters, 'a', sizeof letters);
     check(sizeof(lintelrye_answer) == 40, "the answer's size", 0);
+    check(sizeof(lintelrye_checked) == 24, "the size of what check returns", 0);
     for (which = 0; which < 8; which++) {
         check_null(which);
         check_refusals(which);
@@ -163,6 +192,7 @@ int main(void)
         check_written(6 + which, LINTELRYE_TEXT, "&#0;", 1, "\xEF\xBF\xBD");
         check(is(of(4 + which, LINTELRYE_TEXT_MINIMAL, "a&lt;&gt;", OUTPUT), LINTELRYE_NOT_A_FORM, 0, 0, 0, 5) && holds(""), "no form", 4 + which);
     }
+    check_without_output();
     check_closing();
     check_view();
     printf("c/check: %s\n", failed ? "FAILED" : "what the header says holds");

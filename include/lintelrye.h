@@ -1,7 +1,8 @@
 /* Lintelrye for C and C++: HTML escaping with proofs. Link liblintelrye_c.a (x86-64, System V calls); nothing else is needed.
  *
  * Four operations, each as a copying and as a borrowing call. Every one of these takes a context by its number, a text, and an output that the caller
- * lends, and returns five numbers. No call allocates, keeps a pointer or writes to a global, and every call ends.
+ * lends, and returns five numbers. lintelrye_check needs no output: it tells whether lintelrye_take would take a text, and returns three numbers.
+ * No call allocates, keeps a pointer or writes to a global, and every call ends.
  *
  * What a caller owes, and all that is owed:
  *   - `text` can be read for `text_length` bytes, and `output` read and written for `output_length` bytes, during the call;
@@ -37,7 +38,8 @@ extern "C" {
 /* The longest text that a call takes, in bytes. */
 #define LINTELRYE_TEXT_LIMIT 65536
 
-/* An output of so many bytes is enough for every text of n bytes: to encode it; to decode or browse it. To read it, n bytes are enough. */
+/* An output of so many bytes is enough for every text of n bytes: to encode it; to decode or browse it. To take it, n bytes are enough,
+ * and lintelrye_check tells how many it needs. */
 #define LINTELRYE_ENCODED_AT_MOST(n) (6 * (n))
 #define LINTELRYE_DECODED_AT_MOST(n) ((n) + (n) / 5)
 
@@ -65,9 +67,9 @@ enum lintelrye_status {
     LINTELRYE_PASSED = 0,
     LINTELRYE_TOO_LONG = 1,    /* the text is longer than LINTELRYE_TEXT_LIMIT bytes */
     LINTELRYE_NOT_UTF8 = 2,    /* the text is not valid UTF-8, and not cut short; `place` is the length of its longest valid prefix */
-    LINTELRYE_NO_ROOM = 3,     /* the output is shorter than the result; `length` is the length needed */
-    LINTELRYE_NOT_A_FORM = 4,  /* read only: encode writes no such text; `place` is the length of its longest prefix that encode writes */
-    LINTELRYE_BAD_CONTEXT = 5, /* the operation has no such context: encode has 0 to 13, decode and read 0 to 12, browse 0 to 6 */
+    LINTELRYE_NO_ROOM = 3,     /* the output is shorter than the result; `length` is the length needed; never from check */
+    LINTELRYE_NOT_A_FORM = 4,  /* check and take only: encode writes no such text; `place` is the length of its longest prefix that encode writes */
+    LINTELRYE_BAD_CONTEXT = 5, /* the call has no such context: encode has 0 to 13, decode, check and take 0 to 12, browse 0 to 6 */
     LINTELRYE_CUT_SHORT = 7    /* the text ends within a character that more bytes could complete; `place` is where that character begins */
 };
 
@@ -76,9 +78,16 @@ typedef struct lintelrye_answer {
     uint64_t status;   /* LINTELRYE_PASSED, or the refusal */
     uint64_t length;   /* the result's length; after NO_ROOM the length needed; after any other refusal 0 */
     uint64_t same;     /* 1 exactly if nothing was replaced, so that the result is the text; after a refusal 0 */
-    uint64_t replaced; /* how many places were replaced: characters by encode and read, references or escapes by decode and browse; after a refusal 0 */
+    uint64_t replaced; /* how many places were replaced: characters by encode and take, references or escapes by decode and browse; after a refusal 0 */
     uint64_t place;    /* after NOT_UTF8, CUT_SHORT and NOT_A_FORM the length of the longest correct prefix; otherwise 0 */
 } lintelrye_answer;
+
+/* The answer of check. */
+typedef struct lintelrye_checked {
+    uint64_t status; /* LINTELRYE_PASSED, or the refusal; never LINTELRYE_NO_ROOM */
+    uint64_t length; /* the length of what take gives; after a refusal 0 */
+    uint64_t place;  /* after NOT_UTF8, CUT_SHORT and NOT_A_FORM the length of the longest correct prefix; otherwise 0 */
+} lintelrye_checked;
 
 /* The archive's names of the calls end in how many numbers an answer has. A program that was compiled with a header of another record does not link
  * with this archive, nor one compiled with this header with another archive. */
@@ -86,8 +95,9 @@ typedef struct lintelrye_answer {
 #define lintelrye_encode_borrowing lintelrye_encode_borrowing_5
 #define lintelrye_decode lintelrye_decode_5
 #define lintelrye_decode_borrowing lintelrye_decode_borrowing_5
-#define lintelrye_read lintelrye_read_5
-#define lintelrye_read_borrowing lintelrye_read_borrowing_5
+#define lintelrye_check lintelrye_check_3
+#define lintelrye_take lintelrye_take_5
+#define lintelrye_take_borrowing lintelrye_take_borrowing_5
 #define lintelrye_browse lintelrye_browse_5
 #define lintelrye_browse_borrowing lintelrye_browse_borrowing_5
 
@@ -104,11 +114,15 @@ lintelrye_answer lintelrye_decode(uint32_t context, const uint8_t *text, size_t 
 /* decode as a borrowing call. */
 lintelrye_answer lintelrye_decode_borrowing(uint32_t context, const uint8_t *text, size_t text_length, uint8_t *output, size_t output_length);
 
-/* read: undoes exactly what encode writes in the context. Every other text, if it is not too long and is valid UTF-8, is refused with NOT_A_FORM. */
-lintelrye_answer lintelrye_read(uint32_t context, const uint8_t *text, size_t text_length, uint8_t *output, size_t output_length);
+/* check: tells whether encode writes such a text in the context, and how long the text is that take gives. Status, length and place are those of take,
+ * into whatever output; only where take gives NO_ROOM, check passes with that same length. */
+lintelrye_checked lintelrye_check(uint32_t context, const uint8_t *text, size_t text_length);
 
-/* read as a borrowing call. */
-lintelrye_answer lintelrye_read_borrowing(uint32_t context, const uint8_t *text, size_t text_length, uint8_t *output, size_t output_length);
+/* take: undoes exactly what encode writes in the context. Every other text, if it is not too long and is valid UTF-8, is refused with NOT_A_FORM. */
+lintelrye_answer lintelrye_take(uint32_t context, const uint8_t *text, size_t text_length, uint8_t *output, size_t output_length);
+
+/* take as a borrowing call. */
+lintelrye_answer lintelrye_take_borrowing(uint32_t context, const uint8_t *text, size_t text_length, uint8_t *output, size_t output_length);
 
 /* browse: as decode in contexts 0 to 6, but every numeric reference is replaced, as in a browser: 0, surrogates and numbers above 10FFFF hex by U+FFFD,
  * 27 numbers from 80 to 9F hex by the character that windows-1252 has there (&#150; by an en dash), and every other number by its character. */

@@ -1,4 +1,4 @@
-//! The four operations in a context, copying and borrowing, their results and their refusals; and where a script element's text ends.
+//! The four operations in a context, copying and borrowing, the check, their results and their refusals; and where a script element's text ends.
 use crate::raw::{self, Answer};
 use crate::Context;
 use core::{fmt, ops, str};
@@ -18,7 +18,8 @@ pub const fn encoded_at_most(n: usize) -> usize {
     n.saturating_mul(6)
 }
 
-/// The length of an output that is enough to decode or browse every text of `n` bytes. To read one, `n` bytes are enough.
+/// The length of an output that is enough to decode or browse every text of `n` bytes. To [`take`] one, `n` bytes are enough, and [`check`]
+/// tells how many it needs.
 ///
 /// ```
 /// let mut line = [0; lintelrye::decoded_at_most(5)];
@@ -33,7 +34,7 @@ pub const fn decoded_at_most(n: usize) -> usize {
 #[derive(Clone, Copy, Debug, PartialEq, Eq)]
 #[non_exhaustive]
 pub enum Refusal {
-    /// The operation has no such context: [`decode`] and [`read`] have all but [`Context::ScriptRaw`], [`browse`] has the first seven.
+    /// The operation has no such context: [`decode`], [`check`] and [`take`] have all but [`Context::ScriptRaw`], [`browse`] has the first seven.
     BadContext,
     /// The text is longer than [`TEXT_LIMIT`].
     TooLong,
@@ -47,12 +48,12 @@ pub enum Refusal {
         /// Where that character begins: the length of the longest valid prefix.
         place: usize,
     },
-    /// [`read`] only: [`encode`] writes no such text.
+    /// [`check`] and [`take`] only: [`encode`] writes no such text.
     NotAForm {
         /// The length of its longest prefix that [`encode`] writes.
         place: usize,
     },
-    /// The buffer is shorter than the result.
+    /// The buffer is shorter than the result. [`check`] has no buffer, and never gives this.
     NoRoom {
         /// The length needed.
         needed: usize,
@@ -105,7 +106,7 @@ impl<'a> Written<'a> {
         self.replaced == 0
     }
 
-    /// How many places were replaced: characters by [`encode`] and [`read`], references or escapes by [`decode`] and [`browse`].
+    /// How many places were replaced: characters by [`encode`] and [`take`], references or escapes by [`decode`] and [`browse`].
     ///
     /// ```
     /// let mut line = [0; 64];
@@ -157,14 +158,14 @@ impl PartialEq<&str> for Written<'_> {
 }
 
 /// Returns the refusal of an answer whose status is not 0.
-fn refusal(answer: Answer) -> Refusal {
-    match answer.status {
+fn refusal(status: u64, length: u64, place: u64) -> Refusal {
+    match status {
         raw::BAD_CONTEXT => Refusal::BadContext,
         raw::TOO_LONG => Refusal::TooLong,
-        raw::NOT_UTF8 => Refusal::NotUtf8 { place: answer.place as usize },
-        raw::CUT_SHORT => Refusal::CutShort { place: answer.place as usize },
-        raw::NOT_A_FORM => Refusal::NotAForm { place: answer.place as usize },
-        raw::NO_ROOM => Refusal::NoRoom { needed: answer.length as usize },
+        raw::NOT_UTF8 => Refusal::NotUtf8 { place: place as usize },
+        raw::CUT_SHORT => Refusal::CutShort { place: place as usize },
+        raw::NOT_A_FORM => Refusal::NotAForm { place: place as usize },
+        raw::NO_ROOM => Refusal::NoRoom { needed: length as usize },
         _ => Refusal::WrongArchive,
     }
 }
@@ -173,7 +174,7 @@ fn refusal(answer: Answer) -> Refusal {
 /// of this crate relies on the archive that is linked.
 fn written(result: Option<&[u8]>, answer: Answer) -> Result<Written<'_>, Refusal> {
     if answer.status != raw::PASSED {
-        return Err(refusal(answer));
+        return Err(refusal(answer.status, answer.length, answer.place));
     }
     let replaced = answer.replaced as usize;
     match result.map(str::from_utf8) {
@@ -228,16 +229,33 @@ operation! {
 }
 
 operation! {
-    /// Undoes exactly what [`encode`] writes in the context, and refuses every other text.
+    /// Undoes exactly what [`encode`] writes in the context, and refuses every other text. [`check`] tells beforehand, without a buffer.
     ///
     /// ```
-    /// use lintelrye::{read, Context, Refusal};
+    /// use lintelrye::{take, Context, Refusal};
     /// let mut line = [0; 16];
-    /// assert_eq!(read(Context::TextMinimal, "a&lt;", &mut line)?, "a<");
-    /// assert_eq!(read(Context::TextMinimal, "a&lt;&gt;", &mut line), Err(Refusal::NotAForm { place: 5 }));
+    /// assert_eq!(take(Context::TextMinimal, "a&lt;", &mut line)?, "a<");
+    /// assert_eq!(take(Context::TextMinimal, "a&lt;&gt;", &mut line), Err(Refusal::NotAForm { place: 5 }));
     /// # Ok::<(), lintelrye::Refusal>(())
     /// ```
-    read read_borrowing
+    take take_borrowing
+}
+
+/// Tells whether a text is one that [`encode`] writes in the context, without a buffer, and how long the text is that [`take`] gives. It refuses what
+/// [`take`] refuses, in the same words; only where that gives [`Refusal::NoRoom`], it passes with the length needed.
+///
+/// ```
+/// use lintelrye::{check, Context, Refusal};
+/// assert_eq!(check(Context::TextMinimal, "a&lt;"), Ok(2));
+/// assert_eq!(check(Context::TextMinimal, "a&lt;&gt;"), Err(Refusal::NotAForm { place: 5 }));
+/// ```
+pub fn check<T: ?Sized + AsRef<[u8]>>(context: Context, text: &T) -> Result<usize, Refusal> {
+    let checked = raw::check(context as u32, text.as_ref());
+    match checked.status {
+        raw::PASSED => Ok(checked.length as usize),
+        raw::NO_ROOM => Err(Refusal::WrongArchive),
+        status => Err(refusal(status, checked.length, checked.place)),
+    }
 }
 
 operation! {

@@ -14,7 +14,8 @@
 //! |---|---|---|
 //! | `encode_text(text)`, a `Cow` | `encode_text(text, output)`, a [`Written`] | borrowing: where nothing is replaced the result is the text itself, and the buffer is left alone |
 //! | `encode_text_to_vec(text, vec)` | `encode_text_to_slice(text, output)` | copying: the result is always written to the front of the buffer |
-//! | | [`encode`], [`decode`], [`read`], [`browse`] with a [`Context`] | copying; `_borrowing` for the other kind |
+//! | | [`encode`], [`decode`], [`take`], [`browse`] with a [`Context`] | copying; `_borrowing` for the other kind |
+//! | | [`check`] with a [`Context`] | whether [`take`] would take a text: no buffer at all |
 //!
 //! # Which context goes where
 //!
@@ -47,7 +48,7 @@
 //! # Texts and buffers
 //!
 //! A buffer of [`encoded_at_most`] bytes is enough to encode any text of that length, one of [`decoded_at_most`] bytes to decode or browse it, and one as long
-//! as the text to read it. [`Refusal::NoRoom`] says what one text needs.
+//! as the text to take it. [`Refusal::NoRoom`] says what one text needs.
 //!
 //! A text is a `&str`, or bytes: the library checks UTF-8 itself, and tells a text that was cut within its last character from a broken one.
 //!

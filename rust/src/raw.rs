@@ -1,5 +1,5 @@
-//! The calls as the archive exports them: they take any context number and return the five numbers of the answer. The other calls of this crate are
-//! made of these.
+//! The calls as the archive exports them: they take any context number and return the five numbers of the answer, or the three of a check. The other
+//! calls of this crate are made of these.
 
 /// The answer of a call, as include/lintelrye.h lays it out.
 #[repr(C)]
@@ -11,8 +11,20 @@ pub struct Answer {
     pub length: u64,
     /// 1 exactly if nothing was replaced, so that the result is the text; after a refusal 0.
     pub same: u64,
-    /// How many places were replaced: characters by encode and read, references or escapes by decode and browse; after a refusal 0.
+    /// How many places were replaced: characters by encode and take, references or escapes by decode and browse; after a refusal 0.
     pub replaced: u64,
+    /// After [`NOT_UTF8`], [`CUT_SHORT`] and [`NOT_A_FORM`] the length of the longest correct prefix; otherwise 0.
+    pub place: u64,
+}
+
+/// The answer of [`check`], as include/lintelrye.h lays it out.
+#[repr(C)]
+#[derive(Clone, Copy, Debug, PartialEq, Eq)]
+pub struct Checked {
+    /// [`PASSED`], or the refusal; never [`NO_ROOM`].
+    pub status: u64,
+    /// The length of what [`take`] gives; after a refusal 0.
+    pub length: u64,
     /// After [`NOT_UTF8`], [`CUT_SHORT`] and [`NOT_A_FORM`] the length of the longest correct prefix; otherwise 0.
     pub place: u64,
 }
@@ -37,7 +49,7 @@ pub const TOO_LONG: u64 = 1;
 pub const NOT_UTF8: u64 = 2;
 /// The output is shorter than the result.
 pub const NO_ROOM: u64 = 3;
-/// `read` only: encode writes no such text.
+/// `check` and `take` only: encode writes no such text.
 pub const NOT_A_FORM: u64 = 4;
 /// The operation has no such context.
 pub const BAD_CONTEXT: u64 = 5;
@@ -67,10 +79,21 @@ exported! {
     encode_borrowing is lintelrye_encode_borrowing_5: "`lintelrye_encode_borrowing`, see [`crate::encode_borrowing`].";
     decode is lintelrye_decode_5: "`lintelrye_decode`, see [`crate::decode`].";
     decode_borrowing is lintelrye_decode_borrowing_5: "`lintelrye_decode_borrowing`, see [`crate::decode_borrowing`].";
-    read is lintelrye_read_5: "`lintelrye_read`, see [`crate::read`].";
-    read_borrowing is lintelrye_read_borrowing_5: "`lintelrye_read_borrowing`, see [`crate::read_borrowing`].";
+    take is lintelrye_take_5: "`lintelrye_take`, see [`crate::take`].";
+    take_borrowing is lintelrye_take_borrowing_5: "`lintelrye_take_borrowing`, see [`crate::take_borrowing`].";
     browse is lintelrye_browse_5: "`lintelrye_browse`, see [`crate::browse`].";
     browse_borrowing is lintelrye_browse_borrowing_5: "`lintelrye_browse_borrowing`, see [`crate::browse_borrowing`].";
+}
+
+#[link(name = "lintelrye_c", kind = "static")]
+extern "C" {
+    fn lintelrye_check_3(context: u32, text: *const u8, text_length: usize) -> Checked;
+}
+
+/// `lintelrye_check`, see [`crate::check`].
+pub fn check(context: u32, text: &[u8]) -> Checked {
+    // SAFETY: the text can be read for its length. That is all that the call requires.
+    unsafe { lintelrye_check_3(context, text.as_ptr(), text.len()) }
 }
 
 #[link(name = "lintelrye_c", kind = "static")]

@@ -1,6 +1,6 @@
 //! What this crate makes of the archive's answers: results that borrow the text or the buffer, refusals with an untouched buffer, texts of several
 //! types, and the names of html-escape.
-use lintelrye::raw::{self, Answer};
+use lintelrye::raw::{self, Answer, Checked};
 use lintelrye::{Context, Refusal, Written};
 
 type Operation = for<'a> fn(Context, &'a [u8], &'a mut [u8]) -> Result<Written<'a>, Refusal>;
@@ -8,7 +8,7 @@ type Operation = for<'a> fn(Context, &'a [u8], &'a mut [u8]) -> Result<Written<'
 const OPERATIONS: [(Operation, Operation, usize); 4] = [
     (|c, t, o| lintelrye::encode(c, t, o), |c, t, o| lintelrye::encode_borrowing(c, t, o), 14),
     (|c, t, o| lintelrye::decode(c, t, o), |c, t, o| lintelrye::decode_borrowing(c, t, o), 13),
-    (|c, t, o| lintelrye::read(c, t, o), |c, t, o| lintelrye::read_borrowing(c, t, o), 13),
+    (|c, t, o| lintelrye::take(c, t, o), |c, t, o| lintelrye::take_borrowing(c, t, o), 13),
     (|c, t, o| lintelrye::browse(c, t, o), |c, t, o| lintelrye::browse_borrowing(c, t, o), 7),
 ];
 
@@ -73,8 +73,32 @@ fn refusals_leave_the_buffer() {
     let mut output = [0xEE; 3];
     assert_eq!(lintelrye::encode_quoted_attribute("'", &mut output), Err(Refusal::NoRoom { needed: 6 }));
     assert_eq!(lintelrye::decode_html_entities("&nGt;", &mut output), Err(Refusal::NoRoom { needed: 6 }));
-    assert_eq!(lintelrye::read(Context::Text, "ab<", &mut output), Err(Refusal::NotAForm { place: 2 }));
+    assert_eq!(lintelrye::take(Context::Text, "ab<", &mut output), Err(Refusal::NotAForm { place: 2 }));
     assert_eq!(output, [0xEE; 3]);
+}
+
+/// Beside every taking call, in buffers of every length: the same refusal, or the length that the call gives or needs.
+#[test]
+fn a_check_says_what_take_will_say() {
+    let long = vec![b'a'; lintelrye::TEXT_LIMIT + 1];
+    let texts: [&[u8]; 9] = [b"", b"abc", b"a&lt;b", b"a<", b"\\x3C", b"a\xC3(", b"a\xE2\x82", &long, &long[1..]];
+    for context in Context::ALL {
+        for text in texts {
+            let checked = lintelrye::check(context, text);
+            for room in (0..8).chain([lintelrye::TEXT_LIMIT]) {
+                let (mut copied, mut lent) = (vec![0xEE; room], vec![0xEE; room]);
+                for taken in [lintelrye::take(context, text, &mut copied), lintelrye::take_borrowing(context, text, &mut lent)] {
+                    match taken {
+                        Ok(result) => assert_eq!(checked, Ok(result.len())),
+                        Err(Refusal::NoRoom { needed }) => assert_eq!(checked, Ok(needed)),
+                        Err(refusal) => assert_eq!(checked, Err(refusal)),
+                    }
+                }
+            }
+        }
+    }
+    assert_eq!(lintelrye::check(Context::Quoted, "Mum &amp; Dad&#x27;s"), Ok(11));
+    assert_eq!(raw::check(99, b"a"), raw::Checked { status: raw::BAD_CONTEXT, length: 0, place: 0 });
 }
 
 #[test]
@@ -192,14 +216,15 @@ fn the_texts_tell_contexts_apart() {
 }
 
 mod exported {
-    use super::Answer;
+    use super::{Answer, Checked};
     extern "C" {
         pub fn lintelrye_encode_5(c: u32, t: *const u8, n: usize, o: *mut u8, m: usize) -> Answer;
         pub fn lintelrye_encode_borrowing_5(c: u32, t: *const u8, n: usize, o: *mut u8, m: usize) -> Answer;
         pub fn lintelrye_decode_5(c: u32, t: *const u8, n: usize, o: *mut u8, m: usize) -> Answer;
         pub fn lintelrye_decode_borrowing_5(c: u32, t: *const u8, n: usize, o: *mut u8, m: usize) -> Answer;
-        pub fn lintelrye_read_5(c: u32, t: *const u8, n: usize, o: *mut u8, m: usize) -> Answer;
-        pub fn lintelrye_read_borrowing_5(c: u32, t: *const u8, n: usize, o: *mut u8, m: usize) -> Answer;
+        pub fn lintelrye_take_5(c: u32, t: *const u8, n: usize, o: *mut u8, m: usize) -> Answer;
+        pub fn lintelrye_take_borrowing_5(c: u32, t: *const u8, n: usize, o: *mut u8, m: usize) -> Answer;
+        pub fn lintelrye_check_3(c: u32, t: *const u8, n: usize) -> Checked;
         pub fn lintelrye_browse_5(c: u32, t: *const u8, n: usize, o: *mut u8, m: usize) -> Answer;
         pub fn lintelrye_browse_borrowing_5(c: u32, t: *const u8, n: usize, o: *mut u8, m: usize) -> Answer;
     }
@@ -214,8 +239,8 @@ fn null_pointers_of_length_0() {
         lintelrye_encode_borrowing_5,
         lintelrye_decode_5,
         lintelrye_decode_borrowing_5,
-        lintelrye_read_5,
-        lintelrye_read_borrowing_5,
+        lintelrye_take_5,
+        lintelrye_take_borrowing_5,
         lintelrye_browse_5,
         lintelrye_browse_borrowing_5,
     ];
@@ -238,5 +263,9 @@ fn null_pointers_of_length_0() {
             assert_eq!((answers[2], answers[2].status), (answers[3], raw::NO_ROOM));
         }
         assert_eq!(output, [0xEE; 8]);
+    }
+    for context in 0..13 {
+        // SAFETY: a null text is valid for its length, 0.
+        assert_eq!(unsafe { lintelrye_check_3(context, std::ptr::null(), 0) }, Checked { status: 0, length: 0, place: 0 });
     }
 }

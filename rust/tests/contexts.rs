@@ -35,7 +35,7 @@ fn a_result_is_the_text_of_the_next_call() -> Result<(), Refusal> {
     let attribute = lintelrye::encode_borrowing(Context::DoubleQuoted, &string, &mut outer)?;
     assert_eq!(attribute, "it\\'s \\x3C&quot;&amp;");
     let string = lintelrye::decode(Context::DoubleQuoted, &attribute, &mut back)?;
-    assert_eq!(lintelrye::read(Context::ScriptSingle, &string, &mut text)?, "it's <\"&");
+    assert_eq!(lintelrye::take(Context::ScriptSingle, &string, &mut text)?, "it's <\"&");
     Ok(())
 }
 

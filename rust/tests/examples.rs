@@ -5,7 +5,7 @@ type Call = fn(u32, &[u8], &mut [u8]) -> Answer;
 
 const ENCODE: [Call; 2] = [raw::encode, raw::encode_borrowing];
 const DECODE: [Call; 2] = [raw::decode, raw::decode_borrowing];
-const READ: [Call; 2] = [raw::read, raw::read_borrowing];
+const TAKE: [Call; 2] = [raw::take, raw::take_borrowing];
 const BROWSE: [Call; 2] = [raw::browse, raw::browse_borrowing];
 
 const TEXT_MINIMAL: u32 = 0;
@@ -75,7 +75,7 @@ fn decoding_8_to_11() {
 
 #[test]
 fn reading_12() {
-    refuses(READ, TEXT_MINIMAL, b"a&lt;&gt;", 64, Answer { status: 4, length: 0, same: 0, replaced: 0, place: 5 });
+    refuses(TAKE, TEXT_MINIMAL, b"a&lt;&gt;", 64, Answer { status: 4, length: 0, same: 0, replaced: 0, place: 5 });
 }
 
 #[test]
@@ -89,7 +89,7 @@ fn decoding_13_and_14() {
 #[test]
 fn limits_15() {
     let letters = vec![b'a'; 65_537];
-    for calls in [ENCODE, DECODE, READ, BROWSE] {
+    for calls in [ENCODE, DECODE, TAKE, BROWSE] {
         refuses(calls, TEXT, b"\x61\xC3\x28", 64, Answer { status: 2, length: 0, same: 0, replaced: 0, place: 1 });
         refuses(calls, TEXT, &letters, 64, Answer { status: 1, length: 0, same: 0, replaced: 0, place: 0 });
         let mut output = vec![0xEE; 65_540];
@@ -116,14 +116,14 @@ fn browsing_17() {
 
 #[test]
 fn the_empty_text_18() {
-    for calls in [ENCODE, DECODE, READ, BROWSE] {
+    for calls in [ENCODE, DECODE, TAKE, BROWSE] {
         stay(calls, TEXT, &[b""]);
     }
 }
 
 #[test]
 fn contexts_of_the_operations() {
-    for (calls, contexts) in [(ENCODE, 14), (DECODE, 13), (READ, 13), (BROWSE, 7)] {
+    for (calls, contexts) in [(ENCODE, 14), (DECODE, 13), (TAKE, 13), (BROWSE, 7)] {
         for context in 0..contexts {
             stay(calls, context, &[b"Hall"]);
         }
