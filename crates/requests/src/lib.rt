@@ -3,7 +3,7 @@
 mod lines;
 mod print;
 
-ghost use mathlib.Core.Bool.{true};
+ghost use mathlib.Core.Bool.{true, false};
 ghost use mathlib.Core.List.{List};
 ghost use mathlib.Core.Option.{none};
 ghost use mathlib.Core.Path.{_≡_};
@@ -11,8 +11,9 @@ ghost use Prim.Native.Nat.{ℕ, _≤_};
 ghost use lib.ListN.{length, take};
 ghost use Rattle.rules.specs.Bytes.{over};
 ghost use Rattle.rules.specs.Contexts.{contextOf};
-ghost use Rattle.rules.specs.Refusals.{refusal as refusalOf};
+ghost use Rattle.rules.specs.Refusals.{refusal as refusalOf, Allowed};
 ghost use Rattle.rules.specs.Program.{entityOf, requestOf, contextLine, textOf, printedCall};
+ghost use Rattle.rules.specs.declared.Operation.the-variants.{Read};
 ghost use Rattle.requests.specs.Asked.{resultRoom, replyRoom, asked, answerTo, outputOf, refused, printedBy, Prints};
 use crate::lines::Line;
 use lintelrye::Answer;
@@ -41,16 +42,16 @@ pub fn is_enough(n: usize) -> bool
     ENOUGH <= n
 }
 
-// Returns a refusal with no length and no place.
-fn refusal(status: usize) -> Answer
-    ensures { λ r. ⌜ r ≡ refusalOf status 0 0 ⌝ }
+// Returns a refusal by its three numbers.
+fn refusal(status: usize, length: usize, place: usize) -> Answer
+    ensures { λ r. ⌜ r ≡ refusalOf status length place ⌝ }
 {
     Answer {
         status,
-        length: 0,
+        length,
         same: 0,
         replaced: 0,
-        place: 0,
+        place,
     }
 }
 
@@ -61,17 +62,38 @@ fn too_long(empty: Answer) -> Answer
     if empty.status == lintelrye::BAD_CONTEXT {
         return empty;
     }
-    refusal(lintelrye::TOO_LONG)
+    refusal(lintelrye::TOO_LONG, 0, 0)
 }
 
-// Makes the call that a request asks for: the copying one, with the program's limit.
+// Reads a text by the two calls: check judges it, and only a form is taken.
+fn read(context: u32, text: &[u8], output: &mut [u8]) -> Answer
+    ensures { λ r. ⌜ Allowed Read (contextOf context) false (now (text .entry)) (now (output .entry)) r (now (output .exit)) ⌝ }
+{
+    let checked = lintelrye::check(context, text);
+    if checked.status != lintelrye::PASSED {
+        return refusal(checked.status, checked.length, checked.place);
+    }
+    lintelrye::take(context, text, output)
+}
+
+// Makes the copying call of an operation.
+fn copying(operation: Operation, context: u32, text: &[u8], output: &mut [u8]) -> Answer
+    ensures { λ r. ⌜ Allowed operation (contextOf context) false (now (text .entry)) (now (output .entry)) r (now (output .exit)) ⌝ }
+{
+    let Operation::Read = operation else {
+        return lintelrye::call(operation, context, false, text, output);
+    };
+    read(context, text, output)
+}
+
+// Makes the call that a request asks for, with the program's limit.
 fn limited(operation: Operation, context: u32, text: &[u8], output: &mut [u8]) -> Answer
     ensures { λ r. ⌜ (r ≡ answerTo (asked operation context (now (text .entry)) (length (now (output .entry))))) × (now (output .exit) ≡ outputOf (asked operation context (now (text .entry)) (length (now (output .entry)))) (now (output .entry))) ⌝ }
 {
     if TEXT_LIMIT < text.len() {
-        return too_long(lintelrye::call(operation, context, false, &text[..0], output));
+        return too_long(copying(operation, context, &text[..0], output));
     }
-    lintelrye::call(operation, context, false, text, output)
+    copying(operation, context, text, output)
 }
 
 // Returns a buffer that holds every result.
@@ -97,7 +119,7 @@ fn refuse(output: &mut [u8]) -> usize
     requires { ⌜ replyRoom ≤ length (now output) ⌝ }
     ensures { λ r. ⌜ Prints (printedBy none) r (now (output .entry)) (now (output .exit)) ⌝ }
 {
-    print::put_answer(refusal(rules::BAD_REQUEST), output)
+    print::put_answer(refusal(rules::BAD_REQUEST, 0, 0), output)
 }
 
 // Answers a request from `text=` on, behind the line of the context.
