@@ -16,6 +16,15 @@ pub struct Answer {
     pub place: u64,
 }
 
+/// What check answers, as include/lintelrye.h lays it out.
+#[repr(C)]
+#[derive(Clone, Copy, Debug, PartialEq, Eq)]
+pub struct Checked {
+    pub status: u64,
+    pub length: u64,
+    pub place: u64,
+}
+
 /// A call as the archive exports it. On x86-64 it is the C call of include/lintelrye.h, which gets the address of the answer as a hidden first argument.
 #[cfg(all(feature = "archive", target_arch = "x86_64"))]
 type Exported = unsafe extern "C" fn(u32, *const u8, usize, *mut u8, usize) -> Answer;
@@ -42,7 +51,16 @@ macro_rules! exported {
 #[cfg(feature = "archive")]
 exported! {
     lintelrye_encode_5 lintelrye_encode_borrowing_5 lintelrye_decode_5 lintelrye_decode_borrowing_5
-    lintelrye_read_5 lintelrye_read_borrowing_5 lintelrye_browse_5 lintelrye_browse_borrowing_5
+    lintelrye_take_5 lintelrye_take_borrowing_5 lintelrye_browse_5 lintelrye_browse_borrowing_5
+}
+
+#[cfg(feature = "archive")]
+#[link(name = "lintelrye_c", kind = "static")]
+extern "C" {
+    #[cfg(target_arch = "x86_64")]
+    fn lintelrye_check_3(c: u32, t: *const u8, n: usize) -> Checked;
+    #[cfg(not(target_arch = "x86_64"))]
+    fn lintelrye_check_3(a: *mut Checked, c: u32, t: *const u8, n: usize) -> *mut Checked;
 }
 
 /// The answer about a script element's text, as include/lintelrye.h lays it out.
@@ -83,7 +101,7 @@ pub fn closing_tag(text: &[u8]) -> Closing {
     }
 }
 
-/// The four operations.
+/// The four operations. The calls of `Read` are named take.
 #[derive(Clone, Copy, Debug, PartialEq, Eq)]
 pub enum Operation {
     Encode,
@@ -125,8 +143,8 @@ impl Call {
             (Operation::Encode, true) => lintelrye_encode_borrowing_5,
             (Operation::Decode, false) => lintelrye_decode_5,
             (Operation::Decode, true) => lintelrye_decode_borrowing_5,
-            (Operation::Read, false) => lintelrye_read_5,
-            (Operation::Read, true) => lintelrye_read_borrowing_5,
+            (Operation::Read, false) => lintelrye_take_5,
+            (Operation::Read, true) => lintelrye_take_borrowing_5,
             (Operation::Browse, false) => lintelrye_browse_5,
             (Operation::Browse, true) => lintelrye_browse_borrowing_5,
         })
@@ -148,6 +166,25 @@ impl Call {
             (self.0)(answer.as_mut_ptr(), context, text.as_ptr(), text.len(), output.as_mut_ptr(), output.len());
             answer.assume_init()
         }
+    }
+}
+
+/// The check of the library, which has no output.
+#[cfg(all(feature = "archive", target_arch = "x86_64"))]
+#[inline]
+pub fn check(context: u32, text: &[u8]) -> Checked {
+    // SAFETY: the text is valid for its length.
+    unsafe { lintelrye_check_3(context, text.as_ptr(), text.len()) }
+}
+
+#[cfg(all(feature = "archive", not(target_arch = "x86_64")))]
+#[inline]
+pub fn check(context: u32, text: &[u8]) -> Checked {
+    let mut checked = std::mem::MaybeUninit::uninit();
+    // SAFETY: as on x86-64; and the call writes the whole answer.
+    unsafe {
+        lintelrye_check_3(checked.as_mut_ptr(), context, text.as_ptr(), text.len());
+        checked.assume_init()
     }
 }
 

@@ -1,7 +1,7 @@
 //! What each call is to answer, worked out from the crate html-escape, from `std::str::from_utf8` and from docs/RULES.md. The crate gives no count of
 //! replaced places: that is counted here, by the rules' own division of the text. Nothing here calls the library.
 
-use crate::{Answer, Operation, CRATE_DECODERS, CRATE_ENCODERS, CRATE_LENDING_DECODERS, CRATE_LENDING_ENCODERS};
+use crate::{Answer, Checked, Operation, CRATE_DECODERS, CRATE_ENCODERS, CRATE_LENDING_DECODERS, CRATE_LENDING_ENCODERS};
 use std::borrow::Cow;
 
 /// The longest text that a call takes.
@@ -31,6 +31,11 @@ impl Outcome {
 
     fn refused(status: u64, place: usize) -> Outcome {
         Outcome { status, place, replaced: 0, result: Vec::new() }
+    }
+
+    /// What check answers of a text that read makes this of: the numbers of a call with room.
+    pub fn checked(&self) -> Checked {
+        Checked { status: self.status, length: self.result.len() as u64, place: self.place as u64 }
     }
 
     /// The answer of a call with an output of `room` bytes, and how many bytes of the result it writes.

@@ -1,7 +1,7 @@
 //! Measuring: four passes over the same texts, in rounds that interleave them, and the median of each.
 
-use crate::texts::Case;
-use compare::{closing_tag, Call, Closing};
+use crate::texts::{Case, Kind};
+use compare::{check, closing_tag, Call, Closing};
 use std::arch::asm;
 use std::str::from_utf8;
 use std::time::Duration;
@@ -68,11 +68,11 @@ fn keep<T: ?Sized>(value: &T) -> &T {
 /// Whether both sides give the same bytes for every text of the case; the words say where they do not. closing_tag, which the crate does not have, has to
 /// read every text to its end.
 pub fn compare(case: &Case, rooms: &mut Rooms) -> Result<(), String> {
-    if case.closing {
+    if case.kind == Kind::Closing {
         let ended = case.texts.iter().position(|text| closing_tag(text.as_bytes()) != Closing { status: 0, found: 0, place: 0 });
         return ended.map_or(Ok(()), |i| Err(format!("{}, text {} ends before its own end", case.name(), i)));
     }
-    let call = Call::find(case.operation, case.borrowing);
+    let call = Call::find(case.operation, case.kind == Kind::Borrowing);
     for (i, text) in case.texts.iter().enumerate() {
         // No result has this byte: what an earlier text left cannot pass for this one's result.
         rooms.ours[..6 * text.len()].fill(0xFF);
@@ -80,7 +80,13 @@ pub fn compare(case: &Case, rooms: &mut Rooms) -> Result<(), String> {
         if answer.status != 0 || answer.length as usize > ROOM {
             return Err(format!("{}, text {}: {:?}", case.name(), i, answer));
         }
-        let borrowed = case.borrowing && answer.same == 1;
+        if case.kind == Kind::Check {
+            let checked = check(case.context as u32, text.as_bytes());
+            if (checked.status, checked.length) != (0, answer.length) {
+                return Err(format!("{}, text {}: {:?}, and take gives {} bytes", case.name(), i, checked, answer.length));
+            }
+        }
+        let borrowed = case.kind == Kind::Borrowing && answer.same == 1;
         let ours = if borrowed { text.as_bytes() } else { &rooms.ours[..answer.length as usize] };
         rooms.alone.clear();
         let theirs = case.theirs()(text, &mut rooms.alone);
@@ -122,19 +128,27 @@ pub type Pass<'a> = Box<dyn FnMut() + 'a>;
 /// The four passes over the texts of a case: ours, the crate alone, the crate after from_utf8, a copy.
 pub fn passes<'a>(case: &'a Case, rooms: &'a mut Rooms) -> [Pass<'a>; 4] {
     let Rooms { ours, alone, checked, copied } = rooms;
-    let (call, theirs) = (Call::find(case.operation, case.borrowing), case.theirs());
+    let (call, theirs) = (Call::find(case.operation, case.kind == Kind::Borrowing), case.theirs());
     let each = move || case.texts.iter().map(|text| keep(text.as_str()));
-    [
-        Box::new(move || {
-            if case.closing {
-                return each().for_each(|text| {
-                    keep(&closing_tag(text.as_bytes()));
-                });
-            }
+    let calls: Pass = match case.kind {
+        Kind::Check => Box::new(move || {
+            each().for_each(|text| {
+                keep(&check(case.context as u32, text.as_bytes()));
+            })
+        }),
+        Kind::Closing => Box::new(move || {
+            each().for_each(|text| {
+                keep(&closing_tag(text.as_bytes()));
+            })
+        }),
+        _ => Box::new(move || {
             each().for_each(|text| {
                 keep(&call.make(case.context as u32, text.as_bytes(), ours));
             })
         }),
+    };
+    [
+        calls,
         Box::new(move || {
             each().for_each(|text| {
                 alone.clear();

@@ -2,7 +2,7 @@
 
 use crate::clock::{Effort, Row};
 use crate::machine::machine;
-use crate::report::{above, classes, each_once, escaped, families, highest, worst};
+use crate::report::{above, checks, classes, each_once, escaped, families, highest, worst, worst_check};
 use compare::CONTEXTS;
 
 /// The document of the times.
@@ -15,7 +15,8 @@ pub fn times(rows: &[Row], facts: &[(&str, String)], effort: &Effort) -> String 
     text += &format!("| steadiness | {} |\n", steadiness(rows));
     text += &method(effort);
     text += &limits(rows);
-    text += &format!("\n## Worst ratio by class\n\nOurs over crate + utf8. Bold is above the limit; `read` has none.\n\n{}", matrix(rows));
+    text += &format!("\n## Worst ratio by class\n\nOurs over crate + utf8. Bold is above the limit; `take` and `check` have none.\n\n{}", matrix(rows));
+    text += &beside_take(rows);
     text += "\n![The worst ratio of each family of contexts, by class](benchmarks.svg)\n";
     text + &lines(rows)
 }
@@ -23,7 +24,7 @@ pub fn times(rows: &[Row], facts: &[(&str, String)], effort: &Effort) -> String 
 /// The document of the counts.
 pub fn counts(rows: &[Row], facts: &[(&str, String)]) -> String {
     let compiler = if machine() == "x86_64" { "" } else { DEBIAN };
-    format!("{}{}{}{}{}{}", COUNTS, table(facts), COUNTED, compiler, WORST_COUNTS, matrix(rows))
+    format!("{}{}{}{}{}{}{}", COUNTS, table(facts), COUNTED, compiler, WORST_COUNTS, matrix(rows), beside_take(rows))
 }
 
 /// The facts as a table.
@@ -87,16 +88,16 @@ of the text. Before a line is measured, the results of both sides are compared b
 
 | side | what is timed |
 |---|---|
-| ours | the copying call (or the borrowing one, where the line says so), into a buffer that has room |
+| ours | the copying call (or the borrowing one or the check, where the line says so), into a buffer that has room |
 | crate | the function of html-escape that ends in `_to_vec`, into a vector that is cleared and keeps its capacity |
 | crate + utf8 | the same after `std::str::from_utf8`: the library takes bytes and checks them in every call, the crate takes text that was checked before |
 | memcpy | a copy of the text |
 
 The limits are about ours over crate + utf8: below 1 the library is faster. The borrowing call, which writes nothing where nothing is replaced, is held
-beside the same function of the crate as the copying one. `read` and `browse` have no counterpart in the crate: `read` is held beside the crate's decoder
-of the same context on the same written form, though it also refuses what is no such form; `browse` is held beside `decode_html_entities`. The HTML seven
-share one decoder, so that decode and browse are measured in one of them. `closing_tag` has no counterpart either: it is held beside `encode_script` on the
-same text, of which none ends before its own end, so that all of it is read.
+beside the same function of the crate as the copying one. `take`, `check` and `browse` have no counterpart in the crate: `take` and `check` are held
+beside the crate's decoder of the same context on the same written form, though they also refuse what is no such form; `browse` is held beside
+`decode_html_entities`. The HTML seven share one decoder, so that decode and browse are measured in one of them. `closing_tag` has no counterpart either:
+it is held beside `encode_script` on the same text, of which none ends before its own end, so that all of it is read.
 
 ";
 
@@ -104,7 +105,7 @@ const CLASSES: &str = "\
 | class | texts |
 |---|---|
 | plain | 64 KiB of English words in which nothing is replaced (for `unquoted`, which replaces spaces, letters and digits alone) |
-| 1 %, 10 %, 50 %, all | 64 KiB, of whose characters so many are special, at random places: what encode replaces in the context; for read, decode and browse the references or escapes that they undo (HTML decode: half common names, a quarter numbers, a quarter any names) |
+| 1 %, 10 %, 50 %, all | 64 KiB, of whose characters so many are special, at random places: what encode replaces in the context; for take, check, decode and browse the references or escapes that they undo (HTML decode: half common names, a quarter numbers, a quarter any names) |
 | short names | 2,000 names of 5 to 40 bytes, one call for each; about one in ten has something special |
 | Cyrillic, CJK, emoji | 64 KiB of characters of two, three, four bytes, nothing special |
 | English | `unquoted` alone: 64 KiB of English words with the spaces between them |
@@ -142,6 +143,22 @@ fn matrix(rows: &[Row]) -> String {
             None => String::new(),
         };
         text += &format!("| {} | {} |\n", escaped(class), families.iter().map(cell).collect::<Vec<_>>().join(" | "));
+    }
+    text
+}
+
+/// The check beside `take`, on the same texts in the same run: the worst ratio of each class.
+fn beside_take(rows: &[Row]) -> String {
+    let checks = checks(rows);
+    let mut text = String::from("\n## check over take\n\nOurs over ours, on the same texts, in the worst of the thirteen contexts.\n\n");
+    text += "| class | at most | worst | in | |\n|---|---|---|---|---|\n";
+    for beside in classes(rows).into_iter().filter_map(|class| worst_check(&checks, class)) {
+        let case = &beside.check.case;
+        let (limit, verdict) = match case.check_limit() {
+            Some(limit) => (format!("{:.2}", limit), if beside.above() { "**above**" } else { "holds" }),
+            None => (String::new(), ""),
+        };
+        text += &format!("| {} | {} | {:.2} | {} | {} |\n", escaped(case.class), limit, beside.ratio(), CONTEXTS[case.context], verdict);
     }
     text
 }

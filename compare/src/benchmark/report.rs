@@ -1,6 +1,7 @@
 //! What the benchmark prints: a line for each row, and the worst ratios. Also what the document and the picture ask of the rows.
 
 use crate::clock::Row;
+use crate::texts::Kind;
 use compare::{call, Operation, CONTEXTS};
 
 /// The head of the table that is printed. `unit` is what is measured.
@@ -30,10 +31,50 @@ pub fn summary(rows: &[Row]) -> String {
         let cell = |row: &Row| format!("{} {:.2}{}", row.case.class, row.ratio(), if row.above() { "*" } else { "" });
         text += &format!("{:24} {}\n", family, worst.map(cell).collect::<Vec<_>>().join(", "));
     }
+    let beside = beside_take(rows);
     match rows.iter().any(|row| row.limit.is_some()) {
-        true => text + &above(rows),
-        false => text.replace(" (* above the limit)", ""),
+        true => text + &beside + &above(rows),
+        false => text.replace(" (* above the limit)", "") + &beside,
     }
+}
+
+/// A row of check beside that of `take` on the same texts.
+pub struct Beside<'a> {
+    pub check: &'a Row,
+    pub take: &'a Row,
+}
+
+impl Beside<'_> {
+    /// Ours over ours, to the two digits that are printed.
+    pub fn ratio(&self) -> f64 {
+        (100.0 * self.check.ours / self.take.ours).round() / 100.0
+    }
+
+    pub fn above(&self) -> bool {
+        self.check.case.check_limit().map_or(false, |limit| self.ratio() > limit)
+    }
+}
+
+/// Every check with its `take`.
+pub fn checks(rows: &[Row]) -> Vec<Beside<'_>> {
+    let take = |check: &Row| rows.iter().find(|row| row.case.is_take_beside(&check.case));
+    rows.iter().filter(|row| row.case.kind == Kind::Check).filter_map(|check| take(check).map(|take| Beside { check, take })).collect()
+}
+
+/// The highest ratio of a class among them.
+pub fn worst_check<'a, 'b>(checks: &'b [Beside<'a>], class: &str) -> Option<&'b Beside<'a>> {
+    checks.iter().filter(|beside| beside.check.case.class == class).max_by(|one, other| one.ratio().total_cmp(&other.ratio()))
+}
+
+/// The worst of them in each class, as a line of text.
+fn beside_take(rows: &[Row]) -> String {
+    let checks = checks(rows);
+    let cell = |beside: &Beside| format!("{} {:.2}{}", beside.check.case.class, beside.ratio(), if beside.above() { "*" } else { "" });
+    let cells: Vec<String> = classes(rows).into_iter().filter_map(|class| worst_check(&checks, class)).map(cell).collect();
+    if cells.is_empty() {
+        return String::new();
+    }
+    format!("check over take, worst (* above 1.00 in plain, 0.65 in 10 %, 50 % and all): {}\n", cells.join(", "))
 }
 
 /// How many rows are above their limit.

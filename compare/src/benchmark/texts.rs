@@ -14,24 +14,36 @@ const CYRILLIC: &str = "насос в северном зале был откр�
 const CJK: &str = "北側 の 水泵 早上 七點 開 中午 前 又 關閉 工程師 會 檢查 閥門 ポンプ 明日";
 const EMOJI: &str = "😀 🚰 🔧 🏭 👩\u{200D}🔧 🌡\u{FE0F} 🚪 🔔 🔒 🧯 🪛 🛠\u{FE0F} 🕖 🙈 🎉 👍🏽";
 
+/// Which call of an operation is made; the check is read's, and closing_tag, which judges a script element's text, goes with encode in script_raw.
+#[derive(Clone, Copy, PartialEq, Eq)]
+pub enum Kind {
+    Copying,
+    Borrowing,
+    Check,
+    Closing,
+}
+
 /// One line of the table: an operation in a context, on texts of a class.
 pub struct Case {
     pub operation: Operation,
-    pub borrowing: bool,
-    /// Whether it is closing_tag, beside the crate's encoder of script_raw, and not the operation.
-    pub closing: bool,
+    pub kind: Kind,
     pub context: usize,
     pub class: &'static str,
     pub texts: Vec<String>,
 }
 
 impl Case {
-    /// The crate's counterpart: its encoder or decoder of the context. For `read` and `browse`, which the crate does not have, its decoder.
+    /// The crate's counterpart: its encoder or decoder of the context. For `take`, `check` and `browse`, which the crate does not have, its decoder.
     pub fn theirs(&self) -> ToVec {
         match self.operation {
             Operation::Encode => CRATE_ENCODERS[self.context],
             _ => CRATE_DECODERS[self.context],
         }
+    }
+
+    /// Whether this is the copying call on the texts of a check.
+    pub fn is_take_beside(&self, check: &Case) -> bool {
+        self.operation == Operation::Read && self.kind == Kind::Copying && (self.context, self.class) == (check.context, check.class)
     }
 
     /// The number of bytes that one pass over the texts takes.
@@ -41,21 +53,22 @@ impl Case {
 
     /// The contexts that are of one kind, with the operation.
     pub fn family(&self) -> &'static str {
-        if self.closing {
-            return "closing_tag";
-        }
-        match (self.operation, self.context, self.borrowing) {
-            (Operation::Encode, 0..=6, false) => "encode HTML",
-            (Operation::Encode, 0..=6, true) => "encode HTML, borrowing",
+        match (self.operation, self.context, self.kind) {
+            (_, _, Kind::Closing) => "closing_tag",
+            (Operation::Encode, 0..=6, Kind::Borrowing) => "encode HTML, borrowing",
+            (Operation::Encode, 0..=6, _) => "encode HTML",
             (Operation::Encode, 7..=9, _) => "encode script strings",
             (Operation::Encode, 10..=12, _) => "encode style strings",
             (Operation::Encode, _, _) => "encode script_raw",
             (Operation::Decode, 0..=6, _) => "decode HTML",
             (Operation::Decode, 7..=9, _) => "decode script strings",
             (Operation::Decode, _, _) => "decode style strings",
-            (Operation::Read, 0..=6, _) => "read HTML",
-            (Operation::Read, 7..=9, _) => "read script strings",
-            (Operation::Read, _, _) => "read style strings",
+            (Operation::Read, 0..=6, Kind::Check) => "check HTML",
+            (Operation::Read, 7..=9, Kind::Check) => "check script strings",
+            (Operation::Read, _, Kind::Check) => "check style strings",
+            (Operation::Read, 0..=6, _) => "take HTML",
+            (Operation::Read, 7..=9, _) => "take script strings",
+            (Operation::Read, _, _) => "take style strings",
             (Operation::Browse, _, _) => "browse",
         }
     }
@@ -64,13 +77,22 @@ impl Case {
         format!("{} | {} | {}", self.family(), CONTEXTS[self.context], self.class)
     }
 
-    /// The most that ours may take of the time of the crate after `from_utf8`; `read` has no limit.
+    /// The most that a check may take of what `take` does on the same texts.
+    pub fn check_limit(&self) -> Option<f64> {
+        match (self.kind, self.class) {
+            (Kind::Check, "plain") => Some(1.0),
+            (Kind::Check, "10 %" | "50 %" | "all") => Some(0.65),
+            _ => None,
+        }
+    }
+
+    /// The most that ours may take of the time of the crate after `from_utf8`; `take` and `check` have no limit.
     pub fn limit(&self) -> Option<f64> {
-        if self.closing {
+        if self.kind == Kind::Closing {
             return Some(if ["plain", "Cyrillic", "CJK", "emoji", "escaped plain"].contains(&self.class) { 1.5 } else { 3.0 });
         }
         match (self.operation, self.context, self.class) {
-            (Operation::Encode, 0..=6, "plain") => Some(if self.borrowing { 0.15 } else { 0.3 }),
+            (Operation::Encode, 0..=6, "plain") => Some(if self.kind == Kind::Borrowing { 0.15 } else { 0.3 }),
             (Operation::Encode, 0..=6, "short names") => Some(0.9),
             (Operation::Encode, 0..=6, "Cyrillic" | "CJK" | "emoji") => Some(0.6),
             (Operation::Encode, 0..=6, _) => Some(1.3),
@@ -85,17 +107,18 @@ impl Case {
 /// Every case. The HTML seven share one decoder, so decode and browse are measured in one of them.
 pub fn cases() -> Vec<Case> {
     let mut all = Vec::new();
-    let mut add = |operation, borrowing, contexts: &[usize]| {
+    let mut add = |operation, kind, contexts: &[usize]| {
         for &context in contexts {
-            all.extend(cases_of(operation, borrowing, context));
+            all.extend(cases_of(operation, kind, context));
         }
     };
-    add(Operation::Encode, false, &[0, 1, 2, 3, 4, 5, 6]);
-    add(Operation::Encode, true, &[0, 1, 2, 3, 4, 5, 6]);
-    add(Operation::Encode, false, &[7, 8, 9, 10, 11, 12, 13]);
-    add(Operation::Decode, false, &[1, 7, 8, 9, 10, 11, 12]);
-    add(Operation::Read, false, &[0, 1, 2, 3, 4, 5, 6, 7, 8, 9, 10, 11, 12]);
-    add(Operation::Browse, false, &[1]);
+    add(Operation::Encode, Kind::Copying, &[0, 1, 2, 3, 4, 5, 6]);
+    add(Operation::Encode, Kind::Borrowing, &[0, 1, 2, 3, 4, 5, 6]);
+    add(Operation::Encode, Kind::Copying, &[7, 8, 9, 10, 11, 12, 13]);
+    add(Operation::Decode, Kind::Copying, &[1, 7, 8, 9, 10, 11, 12]);
+    add(Operation::Read, Kind::Copying, &[0, 1, 2, 3, 4, 5, 6, 7, 8, 9, 10, 11, 12]);
+    add(Operation::Read, Kind::Check, &[0, 1, 2, 3, 4, 5, 6, 7, 8, 9, 10, 11, 12]);
+    add(Operation::Browse, Kind::Copying, &[1]);
     all.extend(closing_cases());
     all
 }
@@ -107,7 +130,7 @@ fn closing_cases() -> Vec<Case> {
     let pieces = |list: &[&str]| list.iter().map(|piece| piece.to_string()).collect::<Vec<_>>();
     let special = pieces(&["<!--", "-->", "<script>", "</scripts>", "<", "-"]);
     let mut all = Vec::new();
-    let mut add = |class, texts| all.push(Case { operation: Operation::Encode, borrowing: false, closing: true, context: 13, class, texts });
+    let mut add = |class, texts| all.push(Case { operation: Operation::Encode, kind: Kind::Closing, context: 13, class, texts });
     for (class, percent) in [("plain", 0), ("1 %", 1), ("10 %", 10), ("50 %", 50), ("all", 100)] {
         add(class, vec![fill(numbers, &english, &special, percent, LONGEST)]);
     }
@@ -128,13 +151,13 @@ fn closing_cases() -> Vec<Case> {
 }
 
 /// The classes of one operation in one context. In `unquoted`, where a space is special, plain words have no spaces between them.
-fn cases_of(operation: Operation, borrowing: bool, context: usize) -> Vec<Case> {
+fn cases_of(operation: Operation, kind: Kind, context: usize) -> Vec<Case> {
     let numbers = &mut Numbers(context as u64);
     let gaps = if context == 6 { [""; 6] } else { [" ", " ", " ", " ", ", ", ". "] };
     let english = words(numbers, ENGLISH, &gaps);
     let pieces = pieces(operation, context);
     let mut all = Vec::new();
-    let mut add = |class, texts| all.push(Case { operation, borrowing, closing: false, context, class, texts });
+    let mut add = |class, texts| all.push(Case { operation, kind, context, class, texts });
     for (class, percent) in [("plain", 0), ("1 %", 1), ("10 %", 10), ("50 %", 50), ("all", 100)] {
         add(class, vec![fill(numbers, &english, &pieces, percent, LONGEST)]);
     }

@@ -2,10 +2,10 @@
 //!   compare/run differential [--crate PATH] [--cases N] [--seed S]
 //! A case is a text in an operation and a context; it makes the copying and the borrowing call, each with one length of the output out of seven
 //! around the result's. The four numbers, every byte written and every byte that is to stay are compared with what compare/src/model.rs works out
-//! from the crate. A text that differs is made as short as it can be and printed. The exit status is 1 where anything differs.
+//! from the crate. Beside each call of read the check is made and compared, whatever the output. A text that differs is made as short as it can be and printed. The exit status is 1 where anything differs.
 
 use compare::model::{has_context, Model, Outcome, CUT_SHORT, LONGEST, NOT_UTF8, PASSED};
-use compare::{call, Answer, Numbers, Operation, CONTEXTS, CRATE_LENDING_DECODERS, CRATE_LENDING_ENCODERS, OPERATIONS};
+use compare::{call, check, Answer, Checked, Numbers, Operation, CONTEXTS, CRATE_LENDING_DECODERS, CRATE_LENDING_ENCODERS, OPERATIONS};
 use std::time::{Duration, Instant};
 
 /// How many differences are made short and printed; the others are counted.
@@ -50,7 +50,10 @@ fn one_call(operation: Operation, context: u32, text: &[u8], outcome: &Outcome, 
     let mut output: Vec<u8> = (0..room + 8).map(pattern).collect();
     let answer = call(operation, borrowing, context, text, &mut output[..room]);
     let (expected, written) = outcome.answer(borrowing, room);
-    let what = if answer != expected {
+    let checked = (operation == Operation::Read).then(|| check(context, text)).filter(|&checked| checked != outcome.checked());
+    let what = if let Some(checked) = checked {
+        format!("the check says {}, not {}", told(checked), told(outcome.checked()))
+    } else if answer != expected {
         format!("answers {}, not {}", shown(answer), shown(expected))
     } else if output[..written] != outcome.result[..written] {
         format!("writes \"{}\", not \"{}\"", readable(&output[..written]), readable(&outcome.result))
@@ -64,6 +67,10 @@ fn one_call(operation: Operation, context: u32, text: &[u8], outcome: &Outcome, 
 
 fn shown(answer: Answer) -> String {
     format!("status {} length {} same {} replaced {} place {}", answer.status, answer.length, answer.same, answer.replaced, answer.place)
+}
+
+fn told(checked: Checked) -> String {
+    format!("status {} length {} place {}", checked.status, checked.length, checked.place)
 }
 
 fn readable(bytes: &[u8]) -> String {
@@ -299,6 +306,8 @@ impl Run {
         println!("{} cases, {} calls, {} differ; {} cases passed, the others are refusals", self.ran(), 2 * self.ran(), self.differing(), self.passed);
         println!("of the refusals {} are NOT_UTF8 and {} CUT_SHORT, as error_len of from_utf8 parts them;", self.broken, self.cut_short);
         println!("encode and decode were compared with the crate, refusals with from_utf8 and the table of RULES 13.3, each with the bytes that must keep their values;");
+        let taken: u64 = self.cases[Operation::Read as usize].iter().sum();
+        println!("beside each of the {} calls of read the check was made, and compared in status, length and place;", 2 * taken);
         println!("read with the units that the crate's encoders write, and {} times the crate wrote what was read back to the same text;", self.read_back);
         println!("browse with RULES 10.5 for numbers and the crate's decode of names, and {} times with the crate's decode alone", self.as_decoded);
     }

@@ -1,5 +1,6 @@
 // Replays the list of the oracle's answers, which compare/src/bin/generate.rs makes of the unchanged Rust: reads it from standard input, makes
-// each call that it names, and compares the five numbers, every byte written, every byte that must stay as it was, and what view gives.
+// each call that it names, and compares the five numbers, every byte written, every byte that must stay as it was, what view gives, and, beside each
+// call of read, what check says.
 // It prints how many cases ran and how many differ, for each operation and context and in all, and names the first that differ.
 //
 // A line of the list is one of these:

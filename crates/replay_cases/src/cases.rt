@@ -31,6 +31,7 @@ pub enum Difference {
     Written,
     Kept,
     View,
+    Check,
 }
 
 // Whether nothing differs.
@@ -109,6 +110,21 @@ fn is_viewed<'a>(text: &'a [u8], result: &[u8], output: &'a [u8], answer: Answer
     viewed.len() == 0
 }
 
+// Whether check, beside a call of read, says the same of the text: status, length and place, with 0 instead of NO_ROOM.
+fn is_checked(case: Case, expected: Expected, text: &[u8]) -> bool {
+    let Operation::Read = case.operation else {
+        return true;
+    };
+    let checked = lintelrye::check(case.context, text);
+    if checked.length != expected.length || checked.place != expected.place {
+        return false;
+    }
+    if expected.status == lintelrye::NO_ROOM {
+        return checked.status == lintelrye::PASSED;
+    }
+    checked.status == expected.status
+}
+
 // The first of the five numbers that differs.
 fn of_numbers(answer: Answer, expected: Expected) -> Difference {
     if answer.status != expected.status {
@@ -150,6 +166,9 @@ fn compared(
     }
     if !is_viewed(text, result, output, answer) {
         return Difference::View;
+    }
+    if !is_checked(case, expected, text) {
+        return Difference::Check;
     }
     Difference::Nothing
 }

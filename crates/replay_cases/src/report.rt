@@ -106,6 +106,7 @@ fn print_difference(difference: Difference) {
         Difference::Written => print(b"a byte of the result"),
         Difference::Kept => print(b"a byte that is to stay"),
         Difference::View => print(b"view"),
+        Difference::Check => print(b"check"),
     }
 }
 
