@@ -4,7 +4,7 @@
 //   status    0, or the first refusal of the table below that applies;
 //   length    the length of the result (after NO_ROOM the length needed, after any other refusal 0);
 //   same      1 exactly if nothing was replaced, so that the result is the text;
-//   replaced  how many places were replaced: characters by encode and read, references or escapes by decode and browse (after a refusal 0);
+//   replaced  how many places were replaced: characters by encode and take, references or escapes by decode and browse (after a refusal 0);
 //   place     after NOT_UTF8, CUT_SHORT and NOT_A_FORM the length of the longest correct prefix of the text, else 0.
 // After status 0 the first `length` bytes of the output are the result and the other bytes keep their values; after a refusal all keep them.
 // A borrowing call does not write, and needs no room, where nothing is replaced: `view` then returns the text itself.
