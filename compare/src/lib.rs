@@ -58,9 +58,9 @@ exported! {
 #[link(name = "lintelrye_c", kind = "static")]
 extern "C" {
     #[cfg(target_arch = "x86_64")]
-    fn lintelrye_check_3(c: u32, t: *const u8, n: usize) -> Checked;
+    fn lintelrye_check(c: u32, t: *const u8, n: usize) -> Checked;
     #[cfg(not(target_arch = "x86_64"))]
-    fn lintelrye_check_3(a: *mut Checked, c: u32, t: *const u8, n: usize) -> *mut Checked;
+    fn lintelrye_check(a: *mut Checked, c: u32, t: *const u8, n: usize) -> *mut Checked;
 }
 
 /// The answer about a script element's text, as include/lintelrye.h lays it out.
@@ -174,7 +174,7 @@ impl Call {
 #[inline]
 pub fn check(context: u32, text: &[u8]) -> Checked {
     // SAFETY: the text is valid for its length.
-    unsafe { lintelrye_check_3(context, text.as_ptr(), text.len()) }
+    unsafe { lintelrye_check(context, text.as_ptr(), text.len()) }
 }
 
 #[cfg(all(feature = "archive", not(target_arch = "x86_64")))]
@@ -183,7 +183,7 @@ pub fn check(context: u32, text: &[u8]) -> Checked {
     let mut checked = std::mem::MaybeUninit::uninit();
     // SAFETY: as on x86-64; and the call writes the whole answer.
     unsafe {
-        lintelrye_check_3(checked.as_mut_ptr(), context, text.as_ptr(), text.len());
+        lintelrye_check(checked.as_mut_ptr(), context, text.as_ptr(), text.len());
         checked.assume_init()
     }
 }

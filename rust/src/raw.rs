@@ -87,13 +87,13 @@ exported! {
 
 #[link(name = "lintelrye_c", kind = "static")]
 extern "C" {
-    fn lintelrye_check_3(context: u32, text: *const u8, text_length: usize) -> Checked;
+    fn lintelrye_check(context: u32, text: *const u8, text_length: usize) -> Checked;
 }
 
 /// `lintelrye_check`, see [`crate::check`].
 pub fn check(context: u32, text: &[u8]) -> Checked {
     // SAFETY: the text can be read for its length. That is all that the call requires.
-    unsafe { lintelrye_check_3(context, text.as_ptr(), text.len()) }
+    unsafe { lintelrye_check(context, text.as_ptr(), text.len()) }
 }
 
 #[link(name = "lintelrye_c", kind = "static")]

@@ -224,7 +224,7 @@ mod exported {
         pub fn lintelrye_decode_borrowing_5(c: u32, t: *const u8, n: usize, o: *mut u8, m: usize) -> Answer;
         pub fn lintelrye_take_5(c: u32, t: *const u8, n: usize, o: *mut u8, m: usize) -> Answer;
         pub fn lintelrye_take_borrowing_5(c: u32, t: *const u8, n: usize, o: *mut u8, m: usize) -> Answer;
-        pub fn lintelrye_check_3(c: u32, t: *const u8, n: usize) -> Checked;
+        pub fn lintelrye_check(c: u32, t: *const u8, n: usize) -> Checked;
         pub fn lintelrye_browse_5(c: u32, t: *const u8, n: usize, o: *mut u8, m: usize) -> Answer;
         pub fn lintelrye_browse_borrowing_5(c: u32, t: *const u8, n: usize, o: *mut u8, m: usize) -> Answer;
     }
@@ -266,6 +266,6 @@ fn null_pointers_of_length_0() {
     }
     for context in 0..13 {
         // SAFETY: a null text is valid for its length, 0.
-        assert_eq!(unsafe { lintelrye_check_3(context, std::ptr::null(), 0) }, Checked { status: 0, length: 0, place: 0 });
+        assert_eq!(unsafe { lintelrye_check(context, std::ptr::null(), 0) }, Checked { status: 0, length: 0, place: 0 });
     }
 }

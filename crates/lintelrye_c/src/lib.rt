@@ -53,7 +53,7 @@ pub extern "C" fn lintelrye_decode_borrowing_5(
 
 // Tells whether encode writes such a text, without an output: `lintelrye::check`.
 #[no_mangle]
-pub extern "C" fn lintelrye_check_3(context: u32, text: &[u8]) -> Checked
+pub extern "C" fn lintelrye_check(context: u32, text: &[u8]) -> Checked
     ensures { λ r. ⌜ r ≡ checkOf (contextOf context) (now (text .entry)) ⌝ }
 {
     lintelrye::check(context, text)
