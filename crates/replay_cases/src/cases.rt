@@ -112,7 +112,8 @@ fn is_viewed<'a>(text: &'a [u8], result: &[u8], output: &'a [u8], answer: Answer
 
 // Whether check, beside a call of read, says the same of the text: status, length and place, with 0 instead of NO_ROOM.
 fn is_checked(case: Case, expected: Expected, text: &[u8]) -> bool {
-    let Operation::Read = case.operation else {
+    let operation = case.operation;
+    let Operation::Read = operation else {
         return true;
     };
     let checked = lintelrye::check(case.context, text);
