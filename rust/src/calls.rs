@@ -294,6 +294,6 @@ pub fn closing_tag<T: ?Sized + AsRef<[u8]>>(text: &T) -> Result<Option<usize>, R
         (raw::PASSED, 0) => Ok(None),
         (raw::PASSED, 1) => Ok(Some(closing.place as usize)),
         (raw::PASSED, _) => Err(Refusal::WrongArchive),
-        (status, _) => Err(refusal(Answer { status, length: 0, same: 0, place: closing.place })),
+        (status, _) => Err(refusal(status, 0, closing.place)),
     }
 }
