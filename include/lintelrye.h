@@ -89,8 +89,8 @@ typedef struct lintelrye_checked {
     uint64_t place;  /* after NOT_UTF8, CUT_SHORT and NOT_A_FORM the length of the longest correct prefix; otherwise 0 */
 } lintelrye_checked;
 
-/* The archive's names of the calls that return an answer end in how many numbers it has. A program that was compiled with a header of another record does not link
- * with this archive, nor one compiled with this header with another archive. */
+/* The archive's names of the calls that return an answer end in how many numbers it has. A program that was compiled with a header of another record
+ * does not link with this archive, nor one compiled with this header with another archive. */
 #define lintelrye_encode lintelrye_encode_5
 #define lintelrye_encode_borrowing lintelrye_encode_borrowing_5
 #define lintelrye_decode lintelrye_decode_5
