@@ -8,7 +8,7 @@ use native.Mathlib.Omega.{arith}
 use lib.Dec.{eqb}
 use lib.ListN.{length, take, drop, getD, length-drop, drop-of-length-le}
 use lib.Seq.{length-take-le, getD-drop}
-use Rattle.rules.specs.Moves.{Move, takes, gives, through, replaced}
+use Rattle.rules.specs.Moves.{Move, takes, gives}
 use Rattle.rules.specs.Encoding.{keepByte, encodeStep}
 use Rattle.rules.specs.Operations.{encodeOf}
 use Rattle.rules.specs.Answers.{replacementMove, replacedMove}
@@ -17,7 +17,6 @@ use Rattle.rules.specs.declared.Replacement.{Replacement}
 use Rattle.rules.specs.declared.Replacement.the-variants.{Slashed, Hex, Separator, Substitute}
 use Rattle.rules.specs.declared.Replaced.{Replaced}
 use Rattle.rules.proofs.Blind.{blind-result}
-use Rattle.rules.proofs.Laws.{encode-same}
 use Rattle.base.proofs.Filled.{Next, lent-rest}
 use Rattle.encode_strings.specs.Strings.{takenBy, Held, HeldAt}
 use Rattle.encode_strings.proofs.Finds.{kept-gives, separator-sizes}
@@ -83,7 +82,3 @@ module _ (language : Language) (quotes : Quotes) (t : List ℕ) (i : ℕ) (h : i
 -- Nothing is left at the end.
 pub encode-end : (c : Context) (t : List ℕ) (i : ℕ) → length t ≤ i → encodeOf c (drop i t) ≡ []
 encode-end c t i h = rw (drop-of-length-le t h)
-
--- A text in which nothing is replaced is copied.
-pub none-replaced : (c : Context) (s : List ℕ) (n : ℕ) → n ≡ replaced (through (encodeStep c) s) → n ≡ 0 → encodeOf c s ≡ s
-none-replaced c s n e z = encode-same c s .0 (sym e ∙ z)

@@ -1,6 +1,6 @@
 -- By how much a text grows in a string: what its bytes grow by themselves, less one for each NUL in a style sheet, and three more for each line
 -- separator in a script. And how many of its places are replaced: its escaped bytes, and the line separators in a script. Assumes nothing.
-use mathlib.Core.Bool.{Bool, true, false, _&&_, cond}
+use mathlib.Core.Bool.{Bool, true, false, _&&_, _||_, cond}
 use mathlib.Core.Path.{_≡_, refl, sym, ap, _∙_}
 use mathlib.Core.List.{List, [], _∷_}
 use Prim.Native.Nat.{ℕ, suc, _+_, _-_, _*_, _≤_, _<_}
@@ -20,7 +20,7 @@ use Rattle.rules.specs.declared.Replacement.the-variants.{Separator}
 use Rattle.rules.proofs.Blind.{Blind, blind-next, replaced-append}
 use Rattle.rules.proofs.Loops.{drop-next}
 use Rattle.rules.proofs.Growth.{encode-sum}
-use Rattle.encode_strings.specs.Strings.{singleKey, doubleKey, escapedOf, hexedOf, sameOf, total, endsOf, ended, separatorsIn}
+use Rattle.encode_strings.specs.Strings.{singleKey, doubleKey, isSlashed, isHexed, escapedOf, hexedOf, sameOf, total, endsOf, ended, separatorsIn, placesBy}
 use Rattle.encode_strings.proofs.Heads.{not-ascii, kept, no-start, lone}
 use Rattle.encode_strings.proofs.Finds.{less, alone, Grows, ascii-grows, slashed-high, hexed-high, ends-are, lead-kept, lead-taken, lead-style, separator-sizes}
 use Rattle.rules.specs.Contexts.{stringOf}
@@ -223,8 +223,68 @@ module _ (language : Language) (quotes : Quotes) (s : List ℕ) (a b : ℕ) (e :
       → (length s + (a + 2 * b + 3 * n) ≡ length (encodeOf (stringOf language quotes) s)) × (a + n ≡ replaced (through (encodeStep (stringOf language quotes)) s))
   gained-script h n g = let w = grows-script quotes s in rw h (omega (arith, w .0), omega (arith, w .1))
 
--- Without line separators the escaped bytes are all, in either language.
-pub free-places : (language : Language) (quotes : Quotes) (s : List ℕ) (a : ℕ) → a ≡ escapes quotes s → separatorsIn s ≡ 0
-    → a ≡ replaced (through (encodeStep (stringOf language quotes)) s)
-free-places Script quotes s a e z = omega (arith, grows-script quotes s .1, e, z)
-free-places Style quotes s a e z = e ∙ sym (sheet quotes s .1)
+-- What is replaced beside the escaped bytes: in a script the line separators.
+abbrev pub beside : Language → List ℕ → ℕ
+beside Script s = separatorsIn s
+beside Style s = 0
+
+all-places : (language : Language) (quotes : Quotes) (s : List ℕ) → replaced (through (encodeStep (stringOf language quotes)) s) ≡ escapes quotes s + beside language s
+all-places Script quotes s = grows-script quotes s .1
+all-places Style quotes s = omega (arith, sheet quotes s .1)
+
+-- Without E2 it is nothing.
+pub beside-free : (language : Language) (s : List ℕ) → total (sameOf 0xE2) s ≡ 0 → 0 ≡ beside language s
+beside-free Script s z = sym (lead-free s z)
+beside-free Style s z = refl
+
+-- At most two places are replaced for each byte.
+pub hits-few : (language : Language) (quotes : Quotes) (s : List ℕ) (n : ℕ) → n ≡ replaced (through (encodeStep (stringOf language quotes)) s) → n ≤ 2 * length s
+unfolding escapedOf
+hits-few language quotes s n e = omega (arith, e, all-places language quotes s, escapes-few s, beside-few language s)
+  where
+    most : (t : Bool) (k n : ℕ) → k ≤ n → cond t 1 0 + k ≤ n + 1
+    most true k n h = omega (arith, h)
+    most false k n h = omega (arith, h)
+
+    escapes-few : (s : List ℕ) → escapes quotes s ≤ length s
+    escapes-few [] = omega arith
+    escapes-few (a ∷ s) = omega (arith, most (isSlashed (singleKey quotes) (doubleKey quotes) a || isHexed a) (escapes quotes s) (length s) (escapes-few s))
+
+    separators-few : (s : List ℕ) → separatorsIn s ≤ length s
+    separators-few [] = omega arith
+    separators-few (a ∷ s) = omega (arith, most (eqb a 0xE2 && ended s) (separatorsIn s) (length s) (separators-few s))
+
+    beside-few : (language : Language) (s : List ℕ) → beside language s ≤ length s
+    beside-few Script s = separators-few s
+    beside-few Style s = omega arith
+
+-- Nothing is replaced exactly if no byte is escaped and nothing beside.
+module _ (language : Language) (quotes : Quotes) (s : List ℕ) (a : ℕ) (e : a ≡ escapes quotes s) where
+  abbrev hits : ℕ
+  hits = replaced (through (encodeStep (stringOf language quotes)) s)
+
+  pub hits-some : (a ≡ 0 → ⊥) → false ≡ eqb hits 0
+  hits-some h = sym (ne-eqb hits 0 (λ z. h (omega (arith, e, all-places language quotes s, z))))
+
+  pub hits-beside : a ≡ 0 → (n : ℕ) → n ≡ beside language s → eqb n 0 ≡ eqb hits 0
+  hits-beside z n h = let same : n ≡ hits = omega (arith, e, z, h, all-places language quotes s) in ap (λ (k : ℕ). eqb k 0) same
+
+-- The growth tells how many places are replaced.
+pub never-shorter : (language : Language) (quotes : Quotes) (s : List ℕ) → length s ≤ length (encodeOf (stringOf language quotes) s)
+never-shorter language quotes s = omega (arith, encode-sum (stringOf language quotes) s)
+
+pub growth-tells : (language : Language) (quotes : Quotes) (s : List ℕ) (a b g : ℕ) → a ≡ escapes quotes s → b ≡ hexes s
+    → length s + g ≡ length (encodeOf (stringOf language quotes) s)
+    → (language ≡ Script → a + 2 * b ≤ g) × (placesBy language a b g ≡ replaced (through (encodeStep (stringOf language quotes)) s))
+growth-tells Script quotes s a b g e f h =
+    let w = grows-script quotes s in
+    let d : g - (a + 2 * b) ≡ 3 * separatorsIn s = omega (arith, w .0, h, e, f) in
+    (λ q. omega (arith, w .0, h, e, f), omega (arith, d, w .1, e))
+growth-tells Style quotes s a b g e f h = (λ q. absurd (no q), e ∙ sym (sheet quotes s .1))
+  where
+    number : Language → ℕ
+    number Script = 0
+    number Style = 1
+
+    no : Style ≡ Script → ⊥
+    no q = let z : _≡_ {A = ℕ} 1 0 = ap number q in omega arith

@@ -4,7 +4,7 @@ use mathlib.Core.Bool.{Bool, true, false, _&&_, _||_, cond}
 use mathlib.Core.Logic.{_⊎_}
 use mathlib.Core.Path.{_≡_}
 use mathlib.Core.List.{List, [], _∷_}
-use Prim.Native.Nat.{ℕ, _+_, _≤_, _<_}
+use Prim.Native.Nat.{ℕ, _+_, _-_, _*_, _/_, _≤_, _<_}
 use lib.Dec.{eqb, ltb}
 use lib.ListN.{length, getD}
 use Rattle.rules.specs.Bytes.{any}
@@ -116,6 +116,16 @@ ended (b ∷ c ∷ s) = endsOf b c
 abbrev pub separatorsIn : List ℕ → ℕ
 separatorsIn [] = 0
 separatorsIn (a ∷ s) = cond (eqb a 0xE2 && ended s) 1 0 + separatorsIn s
+
+-- What is counted in a part: the escaped bytes, those that are by their hex digits, and E2.
+abbrev pub Counted : Quotes → List ℕ → ℕ → ℕ → ℕ → Type 0
+Counted quotes s escaped hexed leads =
+    (escaped ≡ total (escapedOf (singleKey quotes) (doubleKey quotes)) s) × (hexed ≡ total hexedOf s) × (leads ≡ total (sameOf 0xE2) s)
+
+-- How many places are replaced in a part with so many escaped bytes that grows by so much: a line separator grows by three bytes.
+abbrev pub placesBy : Language → ℕ → ℕ → ℕ → ℕ
+placesBy Script escaped hexed growth = escaped + (growth - (escaped + 2 * hexed)) / 3
+placesBy Style escaped hexed growth = escaped
 
 -- No line separator lies across the place r of the text: it is the end, a separator may begin there, or none begins in the two bytes before.
 abbrev pub Apart : List ℕ → ℕ → Type 0

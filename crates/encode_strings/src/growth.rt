@@ -6,12 +6,14 @@ use rules::Quotes;
 ghost use mathlib.Core.Bool.{cond};
 ghost use mathlib.Core.Path.{_≡_};
 ghost use Prim.Native.Nat.{_+_, _*_, _≤_};
+ghost use lib.Dec.{eqb};
 ghost use lib.ListN.{length};
 ghost use Rattle.rules.specs.Contexts.{stringOf};
 ghost use Rattle.rules.specs.Encoding.{encodeStep};
 ghost use Rattle.rules.specs.Moves.{through, replaced};
 ghost use Rattle.rules.specs.Operations.{encodeOf};
-ghost use Rattle.encode_strings.specs.Strings.{escapedOf, hexedOf, sameOf, total, separatorsIn};
+ghost use Rattle.encode_strings.specs.Strings.{escapedOf, hexedOf, sameOf, total, separatorsIn, Counted, placesBy};
+ghost use Rattle.rules.specs.declared.Language.the-variants.{Script};
 
 // How many bytes of a part are escaped, how many of these by their hex digits, and how often it has the byte that is counted beside.
 pub struct Tally {
@@ -77,20 +79,45 @@ fn separators(part: &[u8]) -> usize
     n
 }
 
-// Returns how many places of a part are replaced: each escaped byte and, in a script, each line separator.
-pub fn places(language: Language, quotes: Quotes, part: &[u8]) -> usize
+// Counts what is escaped in a part, and E2, with which line separators begin.
+pub fn count(quotes: Quotes, part: &[u8]) -> Tally
     requires { ⌜ length (now part) ≤ 64 ⌝ }
-    ensures { λ r. ⌜ (r ≡ replaced (through (encodeStep (stringOf language quotes)) (now (part .entry)))) × (r ≤ 2 * length (now (part .entry))) ⌝ }
+    ensures { λ r. ⌜ Counted quotes (now (part .entry)) (r .escaped) (r .hexed) (r .odd) ⌝ }
 {
     let single = rule::single_key(quotes);
     let double = rule::double_key(quotes);
-    let found = weigh(single, double, rule::SEPARATOR_LEAD, part);
-    let escaped = found.escaped as usize;
+    weigh(single, double, rule::SEPARATOR_LEAD, part)
+}
+
+// Whether a part that was counted is copied, since nothing of it is replaced.
+pub fn is_copied(language: Language, quotes: Quotes, found: Tally, part: &[u8]) -> bool
+    requires { ⌜ (length (now part) ≤ 64) × Counted quotes (now part) (found .escaped) (found .hexed) (found .odd) ⌝ }
+    ensures { λ r. ⌜ r ≡ eqb (replaced (through (encodeStep (stringOf language quotes)) (now (part .entry)))) 0 ⌝ }
+{
+    if found.escaped != 0 {
+        return false;
+    }
     if found.odd == 0 {
-        return escaped;
+        return true;
     }
     match language {
-        Language::Script => escaped + separators(part),
+        Language::Script => separators(part) == 0,
+        Language::Style => true,
+    }
+}
+
+// Returns how many places of a part were replaced that was counted and became longer by `growth` bytes. In a script each line separator is longer by
+// three bytes, so that what the escaped bytes do not explain tells how many there are.
+pub fn places(language: Language, found: Tally, growth: usize) -> usize
+    requires { ⌜ (language ≡ Script → found .escaped + 2 * found .hexed ≤ growth) × (growth ≤ 65536) ⌝ }
+    ensures { λ r. ⌜ r ≡ placesBy language (found .escaped) (found .hexed) growth ⌝ }
+{
+    let escaped = found.escaped as usize;
+    match language {
+        Language::Script => {
+            let hexed = found.hexed as usize;
+            escaped + (growth - (escaped + 2 * hexed)) / 3
+        }
         Language::Style => escaped,
     }
 }

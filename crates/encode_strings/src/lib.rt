@@ -57,21 +57,25 @@ pub fn measure(language: Language, quotes: Quotes, text: &[u8]) -> Measured
     }
 }
 
-// Writes the escaped part, of which so many places are replaced; one of which none is is copied.
-fn write_part(
-    language: Language,
-    quotes: Quotes,
-    places: usize,
-    part: &[u8],
-    output: &mut [u8],
-) -> usize
-    requires { ⌜ (places ≡ replaced (through (encodeStep (stringOf language quotes)) (now part))) × (length (encodeOf (stringOf language quotes) (now part)) ≤ length (now output)) ⌝ }
-    ensures { λ r. ⌜ (r ≡ length (encodeOf (stringOf language quotes) (now (part .entry)))) × (now (output .exit) ≡ over (encodeOf (stringOf language quotes) (now (part .entry))) (now (output .entry))) ⌝ }
+// Does the same as `write` for a short part. One of which nothing is replaced is copied.
+fn write_part(language: Language, quotes: Quotes, part: &[u8], output: &mut [u8]) -> Measured
+    requires { ⌜ (length (now part) ≤ 64) × (length (encodeOf (stringOf language quotes) (now part)) ≤ length (now output)) ⌝ }
+    ensures { λ r. ⌜ Measures r (through (encodeStep (stringOf language quotes)) (now (part .entry))) × (now (output .exit) ≡ over (encodeOf (stringOf language quotes) (now (part .entry))) (now (output .entry))) ⌝ }
 {
-    if places == 0 {
-        return base::put(part, output);
+    let found = growth::count(quotes, part);
+    if growth::is_copied(language, quotes, found, part) {
+        return Measured {
+            length: base::put(part, output),
+            place: part.len(),
+            replaced: 0,
+        };
     }
-    escapes::write_bytes(language, quotes, part, output)
+    let written = escapes::write_bytes(language, quotes, part, output);
+    Measured {
+        length: written,
+        place: part.len(),
+        replaced: growth::places(language, found, written - part.len()),
+    }
 }
 
 // Writes the escaped text to the start of `output`, part by part, leaves the bytes after it as they were, and returns what `measure` does.
@@ -84,9 +88,9 @@ pub fn write(language: Language, quotes: Quotes, text: &[u8], output: &mut [u8])
     let mut i: usize = 0;
     while i < text.len() {
         let end = cut(text, i, 32);
-        let more = growth::places(language, quotes, &text[i..end]);
-        at += write_part(language, quotes, more, &text[i..end], &mut output[at..]);
-        places += more;
+        let part = write_part(language, quotes, &text[i..end], &mut output[at..]);
+        at += part.length;
+        places += part.replaced;
         i = end;
     }
     Measured {

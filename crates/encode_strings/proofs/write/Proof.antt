@@ -4,12 +4,13 @@
 use Prim.Native.Nat.{_-_, _≤_}
 use native.Mathlib.Omega.{arith}
 use borrow.Author.Needs.{needs}
-use lib.ListN.{length, drop}
+use lib.ListN.{length, take, drop}
 use Rattle.rules.specs.Operations.{encodeOf}
 use Rattle.base.proofs.Part.{part-length}
 use Rattle.base.proofs.Filled.{Filled, filled-start, filled-next, filled-room, filled-put, filled-end}
 use Rattle.rules.specs.Contexts.{stringOf}
 use Rattle.encode_strings.proofs.Steps.{encode-end}
+use Rattle.encode_strings.proofs.Sums.{hits-few}
 use Rattle.encode_strings.proofs.Cuts.{next-part}
 use Rattle.encode_strings.proofs.Parts.{Gone, gone-start, gone-part, gone-small, gone-end}
 use Rattle.encode_strings.proofs.write.Statement.{statement}
@@ -29,30 +30,14 @@ loop-holds c = let s = c .before .before in (gone-start (s .args .language) (s .
 cut-requires : tie.Need-cut-requires Inv-loop μ-loop
 cut-requires c κs = search needs
 
-sub-places : tie.Need-sub-places Inv-loop μ-loop
-sub-places c = omega (arith, c .cut .ensures .0)
-
-part-places-start : tie.Need-part-places-start Inv-loop μ-loop
-part-places-start c = omega (arith, c .cut .ensures .0)
-
-part-places-end : tie.Need-part-places-end Inv-loop μ-loop
-part-places-end c = c .cut .ensures .1
-
-places-requires : tie.Need-places-requires Inv-loop μ-loop
-places-requires c κs =
-    let t = c .before .before .before .before .before .before .args .text .now in
-    let l = c .before .before .before .loop in
-    let e = c .before .cut .ensures in
-    omega (arith, e .0, e .2, part-length t (l .i) (c .before .cut .result) (omega (arith, e .0)) (e .1))
-
 sub-write-part : tie.Need-sub-write-part Inv-loop μ-loop
-sub-write-part c = omega (arith, c .before .before .cut .ensures .0)
+sub-write-part c = omega (arith, c .cut .ensures .0)
 
 part-write-part-start : tie.Need-part-write-part-start Inv-loop μ-loop
-part-write-part-start c = omega (arith, c .before .before .cut .ensures .0)
+part-write-part-start c = omega (arith, c .cut .ensures .0)
 
 part-write-part-end : tie.Need-part-write-part-end Inv-loop μ-loop
-part-write-part-end c = c .before .before .cut .ensures .1
+part-write-part-end c = c .cut .ensures .1
 
 sub-write-part-2 : tie.Need-sub-write-part-2 Inv-loop μ-loop
 sub-write-part-2 c = search needs
@@ -65,23 +50,23 @@ part-write-part-end-2 c = search needs
 
 write-part-requires : tie.Need-write-part-requires Inv-loop μ-loop
 write-part-requires c κs =
-    let s = c .before .before .before .before .before .before .before .before .before in
+    let s = c .before .before .before .before .before .before .before in
     let t = s .args .text .now in
-    let l = c .before .before .before .before .before .before .loop in
-    let e = c .before .before .before .before .cut in
+    let l = c .before .before .before .before .loop in
+    let e = c .before .before .cut in
     let from : l .i ≤ e .result = omega (arith, e .ensures .0) in
     let x = next-part (s .args .language) (s .args .quotes) t (l .i) (e .result) from (e .ensures .1) (e .ensures .3) in
-    (c .before .before .places .ensures .0, filled-room (l .inv .1) x)
+    (omega (arith, e .ensures .0, e .ensures .2, part-length t (l .i) (e .result) from (e .ensures .1)), filled-room (l .inv .1) x)
 
 add-at : tie.Need-add-at Inv-loop μ-loop
 add-at c =
-    let s = c .before .before .before .before .before .before .before .before .before .before .before .before in
+    let s = c .before .before .before .before .before .before .before .before .before .before .before in
     let t = s .args .text .now in
-    let l = c .before .before .before .before .before .before .before .before .before .loop in
-    let e = c .before .before .before .before .before .before .before .cut in
+    let l = c .before .before .before .before .before .before .before .before .loop in
+    let e = c .before .before .before .before .before .before .cut in
     let from : l .i ≤ e .result = omega (arith, e .ensures .0) in
     let x = next-part (s .args .language) (s .args .quotes) t (l .i) (e .result) from (e .ensures .1) (e .ensures .3) in
-    omega (arith, c .before .before .write-part .ensures .0, filled-next (l .inv .1) x)
+    omega (arith, c .before .before .before .write-part .ensures .0 .long, filled-next (l .inv .1) x)
 
 add-places : tie.Need-add-places Inv-loop μ-loop
 add-places c =
@@ -90,9 +75,9 @@ add-places c =
     let l = c .before .before .before .before .before .before .before .before .before .loop in
     let e = c .before .before .before .before .before .before .before .cut in
     let from : l .i ≤ e .result = omega (arith, e .ensures .0) in
-    let y = c .before .before .before .before .before .places in
-    let p = c .before .before .write-part in
-    let m = gone-small (s .args .language) (s .args .quotes) t (l .inv .0) (e .result) from (e .ensures .1) (e .ensures .3) (p .result) (y .result) (s .pre .0) (p .ensures .0) (y .ensures .1) in
+    let p = c .before .before .before .before .write-part in
+    let few = hits-few (s .args .language) (s .args .quotes) (take (e .result - l .i) (drop (l .i) t)) (p .result .replaced) (p .ensures .0 .many) in
+    let m = gone-small (s .args .language) (s .args .quotes) t (l .inv .0) (e .result) from (e .ensures .1) (e .ensures .3) (p .result .length) (p .result .replaced) (s .pre .0) (p .ensures .0 .long) few in
     omega (arith, m .1)
 
 loop-less : tie.Need-loop-less Inv-loop μ-loop
@@ -106,10 +91,10 @@ loop-again c =
     let e = c .before .before .before .before .before .before .before .cut in
     let from : l .i ≤ e .result = omega (arith, e .ensures .0) in
     let x = next-part (s .args .language) (s .args .quotes) t (l .i) (e .result) from (e .ensures .1) (e .ensures .3) in
-    let y = c .before .before .before .before .before .places in
-    let p = c .before .before .write-part in (
-      gone-part (s .args .language) (s .args .quotes) t (l .inv .0) (e .result) from (e .ensures .1) (e .ensures .3) (p .result) (y .result) (p .ensures .0) (y .ensures .0) (y .ensures .1),
-      filled-put (l .inv .1) x (p .last .1 .1 .1 .1 .0) (p .result) (p .ensures .0) (p .ensures .1),
+    let p = c .before .before .before .before .write-part in
+    let few = hits-few (s .args .language) (s .args .quotes) (take (e .result - l .i) (drop (l .i) t)) (p .result .replaced) (p .ensures .0 .many) in (
+      gone-part (s .args .language) (s .args .quotes) t (l .inv .0) (e .result) from (e .ensures .1) (e .ensures .3) (p .result .length) (p .result .replaced) (p .ensures .0 .long) (p .ensures .0 .many) few,
+      filled-put (l .inv .1) x (p .last .1 .1 .1 .0) (p .result .length) (p .ensures .0 .long) (p .ensures .1),
     )
 
 same-length : tie.Need-same-length Inv-loop μ-loop
@@ -130,10 +115,6 @@ write-spec =
     μ-loop
     loop-holds
     cut-requires
-    sub-places
-    part-places-start
-    part-places-end
-    places-requires
     sub-write-part
     part-write-part-start
     part-write-part-end
