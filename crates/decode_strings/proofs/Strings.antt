@@ -5,9 +5,11 @@ use mathlib.Core.Logic.{_⊎_, inl, inr, ⊎-elim}
 use mathlib.Core.Path.{_≡_, refl, sym, ap, _∙_, subst}
 use mathlib.Core.List.{List, [], _∷_, _++_, map}
 use Prim.Native.Nat.{ℕ, zero, suc, _+_, _-_, _*_, _/_, _%_, _≤_, _<_}
+use native.Mathlib.Nat.{add-zero}
 use native.Mathlib.Omega.{arith}
 use lib.Dec.{T, eqb, eqb→eq, eqb-refl, ltb, ltb→lt, T-not}
 use lib.ListN.{length, take, drop, getD, length-drop}
+use lib.Seq.{getD-drop}
 use borrow.Author.Tests.{eqb-true, ltb-true}
 use Rattle.rules.specs.Bytes.{ascii, In, all, count, stands, oneOf}
 use Rattle.rules.specs.Answers.{escapeMove}
@@ -252,9 +254,8 @@ abbrev pub SlashedAt : Language → Quotes → List ℕ → ℕ → ℕ → Type
 SlashedAt language q t e b = (decodeStep (stringOf language q) (before t e) (drop e t) ≡ swap (take 2 (drop e t)) (b ∷ [])) × (e + 2 ≤ length t)
 
 -- They do where the string writes b so.
-pub slashed-here : (language : Language) (q : Quotes) (t : List ℕ) (e b : ℕ) → b ≡ afterSlash (take (length t - e) (drop e t)) → oneOf (slashedBytes q) b ≡ true → SlashedAt language q t e b
+pub slashed-here : (language : Language) (q : Quotes) (t : List ℕ) (e b : ℕ) → b ≡ afterSlash (drop e t) → oneOf (slashedBytes q) b ≡ true → SlashedAt language q t e b
 slashed-here language q t e b h f =
-    let h : b ≡ afterSlash (drop e t) = rw (← lent-rest e t) h in
     let d = decode-slashed language q (before t e) (drop e t) (ap (oneOf (slashedBytes q)) (sym h) ∙ f) in
     (rw h (d .0), omega (arith, rw length-drop at (d .1)))
 
@@ -263,19 +264,27 @@ pub record Told (language : Language) (q : Quotes) (t : List ℕ) (e : ℕ) (r :
   pub moves : decodeStep (stringOf language q) (before t e) (drop e t) ≡ escapeMove (drop e t) r
   pub within : Within r (drop e t)
 
-pub told-here : (language : Language) (q : Quotes) (t : List ℕ) (e b p : ℕ) (r r′ : Escape) → b ≡ afterSlash (take (length t - e) (drop e t)) → oneOf (slashedBytes q) b ≡ false
+pub told-here : (language : Language) (q : Quotes) (t : List ℕ) (e b p : ℕ) (r r′ : Escape) → b ≡ afterSlash (drop e t) → oneOf (slashedBytes q) b ≡ false
     → p ≡ before t e
     → (escapeMove (take (length t - e) (drop e t)) r′ ≡ escapeBy (nameOf language) (unslashedRows language) p (take (length t - e) (drop e t)))
     × Within r′ (take (length t - e) (drop e t))
     → r′ ≡ r → Told language q t e r
 told-here language q t e b p r r′ h f k g same =
     let rest = take (length t - e) (drop e t) in
+    let h : b ≡ afterSlash rest = rw (lent-rest e t) h in
     let d = decode-unslashed language q p rest (ap (oneOf (slashedBytes q)) (sym h) ∙ f) in
     record { moves = rw (← k, ← lent-rest e t, ← same) (sym (g .0 ∙ d)); within = rw (← same, ← lent-rest e t) (g .1) }
 
 -- An escape within the rest of a text ends within the text.
 pub within-rest : (t : List ℕ) (e n c : ℕ) → Within (Taken n c) (drop e t) → (1 ≤ n) × (e + n ≤ length t) × (length (utf8 c) ≤ n) × (c ≤ 0x10FFFF)
 within-rest t e n c w = (w .0, omega (arith, w .0, rw length-drop at (w .1)), w .2, w .3)
+
+-- The byte after a backslash, by its place.
+pub slash-at : (t : List ℕ) (i : ℕ) → i < length t → getD t i 0 ≡ 0x5C → afterSlash (drop i t) ≡ getD t (i + 1) 0
+slash-at t i h e = ap afterSlash (drop-next t i h) ∙ rw e (getD-drop (i + 1) t 0 0 ∙ ap (λ (k : ℕ). getD t k 0) (add-zero (i + 1)))
+
+pub slash-last : (t : List ℕ) (i : ℕ) → length t ≤ i + 1 → afterSlash (drop i t) ≡ 0
+slash-last t i h = slash-short (drop i t) (rw length-drop (omega (arith, h)))
 
 -- The byte before a place that is not the start.
 pub before-at : (t : List ℕ) (i : ℕ) → (i ≡ 0 → ⊥) → getD t (i - 1) 0 ≡ before t i

@@ -1,8 +1,8 @@
 // decode of script and style strings: the escapes of html-escape's decode/element/quoted.rs.
 ghost use mathlib.Core.List.{_++_};
 ghost use mathlib.Core.Path.{_≡_};
-ghost use Prim.Native.Nat.{_≤_};
-ghost use lib.ListN.{length};
+ghost use Prim.Native.Nat.{_≤_, _<_};
+ghost use lib.ListN.{length, drop, getD};
 ghost use Rattle.rules.specs.Bytes.{ascii, over};
 ghost use Rattle.rules.specs.Contexts.{stringOf};
 ghost use Rattle.rules.specs.Encoding.{closes};
@@ -11,7 +11,7 @@ ghost use Rattle.rules.specs.Answers.{escapeMove, Measures};
 ghost use Rattle.rules.specs.Escapes.{afterLess, escapeBy};
 ghost use Rattle.rules.specs.Operations.{decodeStep, decodeOf};
 ghost use Rattle.decode_strings.specs.Finds.{Within};
-ghost use Rattle.decode_strings.specs.Strings.{nameOf, unslashedRows, escapeOf};
+ghost use Rattle.decode_strings.specs.Strings.{nameOf, afterSlash, unslashedRows, escapeOf};
 use rules::Escape;
 use rules::Language;
 use rules::Measured;
@@ -81,6 +81,17 @@ fn byte_before(text: &[u8], i: usize) -> u8
     text[i - 1]
 }
 
+// Returns the byte after the backslash at offset `i` of the text, 0 at the text's end.
+fn byte_after(text: &[u8], i: usize) -> u8
+    requires { ⌜ (i < length (now text)) × (getD (now text) i 0 ≡ 0x5C) ⌝ }
+    ensures { λ r. ⌜ r ≡ afterSlash (drop i (now (text .entry))) ⌝ }
+{
+    if i + 1 < text.len() {
+        return text[i + 1];
+    }
+    0
+}
+
 // Measures the result of decode without writing it. A backslash before a byte of `is_slashed`, the most frequent escape, is read first: that takes
 // two bytes and no call. The packed escape is used here and `read_escape` in `write`: with one user the compiler puts `read_escape` in line.
 pub fn measure(language: Language, quotes: Quotes, text: &[u8]) -> Measured
@@ -97,7 +108,7 @@ pub fn measure(language: Language, quotes: Quotes, text: &[u8]) -> Measured
             i = e;
             continue;
         }
-        if rows::is_slashed(quotes, rows::after_slash(&text[i..])) {
+        if rows::is_slashed(quotes, byte_after(text, i)) {
             length += 1;
             escapes += 1;
             i += 2;
@@ -135,7 +146,7 @@ pub fn write(language: Language, quotes: Quotes, text: &[u8], output: &mut [u8])
             i = e;
             continue;
         }
-        let b = rows::after_slash(&text[i..]);
+        let b = byte_after(text, i);
         if rows::is_slashed(quotes, b) {
             at += base::put(&[b], &mut output[at..]);
             escapes += 1;

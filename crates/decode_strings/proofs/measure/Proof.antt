@@ -35,49 +35,49 @@ quiet c =
     string-quiet (a .language) (a .quotes) (a .text .now) (l .i) (c .find-byte .result) (c .find-byte .ensures)
 
 two : (c : tie.Then2 Inv-loop μ-loop)
-    → let a = c .before .before .before .before .before .before .before .before .before .args in
-    let l = c .before .before .before .before .before .before .before .loop in
-    SlashedAt (a .language) (a .quotes) (a .text .now) (l .i) (c .before .before .after-slash .result)
+    → let a = c .before .before .before .before .before .before .before .before .args in
+    let l = c .before .before .before .before .before .before .loop in
+    SlashedAt (a .language) (a .quotes) (a .text .now) (l .i) (c .before .before .byte-after .result)
 two c =
-    let a = c .before .before .before .before .before .before .before .before .before .args in
-    let l = c .before .before .before .before .before .before .before .loop in
-    let after-slash = c .before .before .after-slash in
-    slashed-here (a .language) (a .quotes) (a .text .now) (l .i) (after-slash .result) (after-slash .ensures) (sym (c .before .is-slashed .ensures) ∙ c .if2 .taken)
+    let a = c .before .before .before .before .before .before .before .before .args in
+    let l = c .before .before .before .before .before .before .loop in
+    let byte-after = c .before .before .byte-after in
+    slashed-here (a .language) (a .quotes) (a .text .now) (l .i) (byte-after .result) (byte-after .ensures) (sym (c .before .is-slashed .ensures) ∙ c .if2 .taken)
 
 -- What was read at this place is the move here.
 told : (c : tie.After-escape-of Inv-loop μ-loop)
-    → let a = c .before .before .before .before .before .before .before .before .before .before .before .before .before .args in
-    let l = c .before .before .before .before .before .before .before .before .before .before .before .loop in
+    → let a = c .before .before .before .before .before .before .before .before .before .before .before .before .args in
+    let l = c .before .before .before .before .before .before .before .before .before .before .loop in
     (r : Escape) → c .escape-of .result ≡ r → Told (a .language) (a .quotes) (a .text .now) (l .i) r
 told c r =
-    let a = c .before .before .before .before .before .before .before .before .before .before .before .before .before .args in
-    let l = c .before .before .before .before .before .before .before .before .before .before .before .loop in
-    let after-slash = c .before .before .before .before .before .before .after-slash in
+    let a = c .before .before .before .before .before .before .before .before .before .before .before .before .args in
+    let l = c .before .before .before .before .before .before .before .before .before .before .loop in
+    let byte-after = c .before .before .before .before .before .before .byte-after in
     let byte-before = c .before .before .before .byte-before in
     let is-slashed = c .before .before .before .before .before .is-slashed in
     let if2 = c .before .before .before .before .if2 in
-    told-here (a .language) (a .quotes) (a .text .now) (l .i) (after-slash .result) (byte-before .result) r (c .escape-of .result)
-    (after-slash .ensures) (sym (is-slashed .ensures) ∙ if2 .left) (byte-before .ensures) (rw (c .escape-of .ensures) (c .before .unslashed .ensures))
+    told-here (a .language) (a .quotes) (a .text .now) (l .i) (byte-after .result) (byte-before .result) r (c .escape-of .result)
+    (byte-after .ensures) (sym (is-slashed .ensures) ∙ if2 .left) (byte-before .ensures) (rw (c .escape-of .ensures) (c .before .unslashed .ensures))
 
 none : (c : tie.After-enum-told Inv-loop μ-loop)
-    → let a = c .before .before .before .before .before .before .before .before .before .before .before .before .before .before .before .args in
-    let l = c .before .before .before .before .before .before .before .before .before .before .before .before .before .loop in
+    → let a = c .before .before .before .before .before .before .before .before .before .before .before .before .before .before .args in
+    let l = c .before .before .before .before .before .before .before .before .before .before .before .before .loop in
     Told (a .language) (a .quotes) (a .text .now) (l .i) Nothing
 none c = told (c .before .before) _ (c .enum-told .given .1)
 
 taken : (c : tie.After-n Inv-loop μ-loop)
-    → let a = c .before .before .before .before .before .before .before .before .before .before .before .before .before .before .before .args in
-    let l = c .before .before .before .before .before .before .before .before .before .before .before .before .before .loop in
+    → let a = c .before .before .before .before .before .before .before .before .before .before .before .before .before .before .args in
+    let l = c .before .before .before .before .before .before .before .before .before .before .before .before .loop in
     Told (a .language) (a .quotes) (a .text .now) (l .i) (Taken (c .n .given .0 .0) (c .n .given .0 .1 .0))
 taken c = told (c .before .before) _ (c .n .given .1)
 
 fits : (c : tie.After-n Inv-loop μ-loop)
-    → let l = c .before .before .before .before .before .before .before .before .before .before .before .before .before .loop in
-    let a = c .before .before .before .before .before .before .before .before .before .before .before .before .before .before .before .args in
+    → let l = c .before .before .before .before .before .before .before .before .before .before .before .before .loop in
+    let a = c .before .before .before .before .before .before .before .before .before .before .before .before .before .before .args in
     (1 ≤ c .n .given .0 .0) × (l .i + c .n .given .0 .0 ≤ length (a .text .now)) × (length (utf8 (c .n .given .0 .1 .0)) ≤ c .n .given .0 .0) × (c .n .given .0 .1 .0 ≤ 0x10FFFF)
 fits c =
-    let a = c .before .before .before .before .before .before .before .before .before .before .before .before .before .before .before .args in
-    let l = c .before .before .before .before .before .before .before .before .before .before .before .before .before .loop in
+    let a = c .before .before .before .before .before .before .before .before .before .before .before .before .before .before .args in
+    let l = c .before .before .before .before .before .before .before .before .before .before .before .before .loop in
     within-rest (a .text .now) (l .i) (c .n .given .0 .0) (c .n .given .0 .1 .0) (taken c .within)
 
 loop-holds : tie.Need-loop-holds Inv-loop μ-loop
@@ -108,17 +108,8 @@ loop-again c =
     let l = c .before .before .before .before .loop in
     counted-quiet (l .inv) (c .find-byte .result) (c .find-byte .ensures .after) (c .find-byte .ensures .within) (quiet c)
 
-sub-after-slash : tie.Need-sub-after-slash Inv-loop μ-loop
-sub-after-slash c = search needs
-
-part-after-slash-start : tie.Need-part-after-slash-start Inv-loop μ-loop
-part-after-slash-start c = search needs
-
-part-after-slash-end : tie.Need-part-after-slash-end Inv-loop μ-loop
-part-after-slash-end c = search needs
-
-after-slash-requires : tie.Need-after-slash-requires Inv-loop μ-loop
-after-slash-requires c κs = search needs
+byte-after-requires : tie.Need-byte-after-requires Inv-loop μ-loop
+byte-after-requires c κs = search needs
 
 is-slashed-requires : tie.Need-is-slashed-requires Inv-loop μ-loop
 is-slashed-requires c κs = search needs
@@ -137,7 +128,7 @@ loop-less-2 c = omega (arith, two c .1)
 
 loop-again-2 : tie.Need-loop-again-2 Inv-loop μ-loop
 loop-again-2 c =
-    counted-swap (c .before .before .before .before .before .before .before .loop .inv) 2 (c .before .before .after-slash .result ∷ []) (omega arith) (two c .1) (omega arith) (two c .0)
+    counted-swap (c .before .before .before .before .before .before .loop .inv) 2 (c .before .before .byte-after .result ∷ []) (omega arith) (two c .1) (omega arith) (two c .0)
 
 byte-before-requires : tie.Need-byte-before-requires Inv-loop μ-loop
 byte-before-requires c κs = search needs
@@ -174,7 +165,7 @@ loop-less-3 c = search needs
 
 loop-again-3 : tie.Need-loop-again-3 Inv-loop μ-loop
 loop-again-3 c =
-    counted-keep (c .before .before .before .before .before .before .before .before .before .before .before .before .before .loop .inv) (search needs) (none c .moves)
+    counted-keep (c .before .before .before .before .before .before .before .before .before .before .before .before .loop .inv) (search needs) (none c .moves)
 
 char-length-requires : tie.Need-char-length-requires Inv-loop μ-loop
 char-length-requires c κs = search needs
@@ -193,7 +184,7 @@ loop-less-4 c = let w = fits (c .before .before) in omega (arith, w .0, w .1)
 
 loop-again-4 : tie.Need-loop-again-4 Inv-loop μ-loop
 loop-again-4 c =
-    let l = c .before .before .before .before .before .before .before .before .before .before .before .before .before .before .before .loop in
+    let l = c .before .before .before .before .before .before .before .before .before .before .before .before .before .before .loop in
     let n = c .before .before .n in
     let w = fits (c .before .before) in
     rw (c .char-length .ensures .0) (counted-swap (l .inv) (n .given .0 .0) (utf8 (n .given .0 .1 .0)) (w .0) (w .1) (w .2) (taken (c .before .before) .moves))
@@ -217,10 +208,7 @@ measure-spec =
     add-length
     loop-less
     loop-again
-    sub-after-slash
-    part-after-slash-start
-    part-after-slash-end
-    after-slash-requires
+    byte-after-requires
     is-slashed-requires
     add-length-2
     add-escapes

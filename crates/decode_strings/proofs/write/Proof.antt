@@ -64,76 +64,76 @@ size c =
     part-length (a .text .now) (l .i) (c .put-until .result) (c .put-until .ensures .0 .after) (c .put-until .ensures .0 .within)
 
 two : (c : tie.Then2 Inv-loop μ-loop)
-    → let a = c .before .before .before .before .before .before .before .before .before .before .args in
-    let l = c .before .before .before .before .before .before .before .loop in
-    SlashedAt (a .language) (a .quotes) (a .text .now) (l .i) (c .before .before .after-slash .result)
+    → let a = c .before .before .before .before .before .before .before .before .before .args in
+    let l = c .before .before .before .before .before .before .loop in
+    SlashedAt (a .language) (a .quotes) (a .text .now) (l .i) (c .before .before .byte-after .result)
 two c =
-    let a = c .before .before .before .before .before .before .before .before .before .before .args in
-    let l = c .before .before .before .before .before .before .before .loop in
-    let after-slash = c .before .before .after-slash in
-    slashed-here (a .language) (a .quotes) (a .text .now) (l .i) (after-slash .result) (after-slash .ensures) (sym (c .before .is-slashed .ensures) ∙ c .if2 .taken)
+    let a = c .before .before .before .before .before .before .before .before .before .args in
+    let l = c .before .before .before .before .before .before .loop in
+    let byte-after = c .before .before .byte-after in
+    slashed-here (a .language) (a .quotes) (a .text .now) (l .i) (byte-after .result) (byte-after .ensures) (sym (c .before .is-slashed .ensures) ∙ c .if2 .taken)
 
 next-two : (c : tie.Then2 Inv-loop μ-loop)
-    → let a = c .before .before .before .before .before .before .before .before .before .before .args in
-    let l = c .before .before .before .before .before .before .before .loop in
-    Next (Rest (a .language) (a .quotes) (a .text .now) (l .i)) (c .before .before .after-slash .result ∷ []) (Rest (a .language) (a .quotes) (a .text .now) (l .i + 2))
+    → let a = c .before .before .before .before .before .before .before .before .before .args in
+    let l = c .before .before .before .before .before .before .loop in
+    Next (Rest (a .language) (a .quotes) (a .text .now) (l .i)) (c .before .before .byte-after .result ∷ []) (Rest (a .language) (a .quotes) (a .text .now) (l .i + 2))
 next-two c =
-    let a = c .before .before .before .before .before .before .before .before .before .before .args in
-    let l = c .before .before .before .before .before .before .before .loop in
-    next-swap (decodeStep (stringOf (a .language) (a .quotes))) (a .text .now) (l .i) 2 (c .before .before .after-slash .result ∷ []) (omega arith) (two c .1) (two c .0)
+    let a = c .before .before .before .before .before .before .before .before .before .args in
+    let l = c .before .before .before .before .before .before .loop in
+    next-swap (decodeStep (stringOf (a .language) (a .quotes))) (a .text .now) (l .i) 2 (c .before .before .byte-after .result ∷ []) (omega arith) (two c .1) (two c .0)
 
 -- What was read at this place is the move here.
 told : (c : tie.After-read-escape Inv-loop μ-loop)
-    → let a = c .before .before .before .before .before .before .before .before .before .before .before .before .before .args in
-    let l = c .before .before .before .before .before .before .before .before .before .before .loop in
+    → let a = c .before .before .before .before .before .before .before .before .before .before .before .before .args in
+    let l = c .before .before .before .before .before .before .before .before .before .loop in
     (r : Escape) → c .read-escape .result ≡ r → Told (a .language) (a .quotes) (a .text .now) (l .i) r
 told c r =
-    let a = c .before .before .before .before .before .before .before .before .before .before .before .before .before .args in
-    let l = c .before .before .before .before .before .before .before .before .before .before .loop in
-    let after-slash = c .before .before .before .before .before .after-slash in
+    let a = c .before .before .before .before .before .before .before .before .before .before .before .before .args in
+    let l = c .before .before .before .before .before .before .before .before .before .loop in
+    let byte-after = c .before .before .before .before .before .byte-after in
     let byte-before = c .before .before .byte-before in
     let is-slashed = c .before .before .before .before .is-slashed in
     let if2 = c .before .before .before .if2 in
-    told-here (a .language) (a .quotes) (a .text .now) (l .i) (after-slash .result) (byte-before .result) r (c .read-escape .result)
-    (after-slash .ensures) (sym (is-slashed .ensures) ∙ if2 .left) (byte-before .ensures) (c .read-escape .ensures)
+    told-here (a .language) (a .quotes) (a .text .now) (l .i) (byte-after .result) (byte-before .result) r (c .read-escape .result)
+    (byte-after .ensures) (sym (is-slashed .ensures) ∙ if2 .left) (byte-before .ensures) (c .read-escape .ensures)
 
 none : (c : tie.After-enum-told Inv-loop μ-loop)
-    → let a = c .before .before .before .before .before .before .before .before .before .before .before .before .before .before .before .args in
-    let l = c .before .before .before .before .before .before .before .before .before .before .before .before .loop in
+    → let a = c .before .before .before .before .before .before .before .before .before .before .before .before .before .before .args in
+    let l = c .before .before .before .before .before .before .before .before .before .before .before .loop in
     Told (a .language) (a .quotes) (a .text .now) (l .i) Nothing
 none c = told (c .before .before) _ (c .enum-told .given .1)
 
 next-one : (c : tie.After-enum-told Inv-loop μ-loop)
-    → let a = c .before .before .before .before .before .before .before .before .before .before .before .before .before .before .before .args in
-    let l = c .before .before .before .before .before .before .before .before .before .before .before .before .loop in
+    → let a = c .before .before .before .before .before .before .before .before .before .before .before .before .before .before .args in
+    let l = c .before .before .before .before .before .before .before .before .before .before .before .loop in
     Next (Rest (a .language) (a .quotes) (a .text .now) (l .i)) (take (l .i + 1 - l .i) (drop (l .i) (a .text .now))) (Rest (a .language) (a .quotes) (a .text .now) (l .i + 1))
 next-one c =
-    let a = c .before .before .before .before .before .before .before .before .before .before .before .before .before .before .before .args in
-    let l = c .before .before .before .before .before .before .before .before .before .before .before .before .loop in
+    let a = c .before .before .before .before .before .before .before .before .before .before .before .before .before .before .args in
+    let l = c .before .before .before .before .before .before .before .before .before .before .before .loop in
     next-keep (decodeStep (stringOf (a .language) (a .quotes))) (a .text .now) (l .i) (search needs) (none c .moves)
 
 taken : (c : tie.After-n Inv-loop μ-loop)
-    → let a = c .before .before .before .before .before .before .before .before .before .before .before .before .before .before .before .args in
-    let l = c .before .before .before .before .before .before .before .before .before .before .before .before .loop in
+    → let a = c .before .before .before .before .before .before .before .before .before .before .before .before .before .before .args in
+    let l = c .before .before .before .before .before .before .before .before .before .before .before .loop in
     Told (a .language) (a .quotes) (a .text .now) (l .i) (Taken (c .n .given .0 .0) (c .n .given .0 .1 .0))
 taken c = told (c .before .before) _ (c .n .given .1)
 
 fits : (c : tie.After-n Inv-loop μ-loop)
-    → let l = c .before .before .before .before .before .before .before .before .before .before .before .before .loop in
-    let a = c .before .before .before .before .before .before .before .before .before .before .before .before .before .before .before .args in
+    → let l = c .before .before .before .before .before .before .before .before .before .before .before .loop in
+    let a = c .before .before .before .before .before .before .before .before .before .before .before .before .before .before .args in
     (1 ≤ c .n .given .0 .0) × (l .i + c .n .given .0 .0 ≤ length (a .text .now)) × (length (utf8 (c .n .given .0 .1 .0)) ≤ c .n .given .0 .0) × (c .n .given .0 .1 .0 ≤ 0x10FFFF)
 fits c =
-    let a = c .before .before .before .before .before .before .before .before .before .before .before .before .before .before .before .args in
-    let l = c .before .before .before .before .before .before .before .before .before .before .before .before .loop in
+    let a = c .before .before .before .before .before .before .before .before .before .before .before .before .before .before .args in
+    let l = c .before .before .before .before .before .before .before .before .before .before .before .loop in
     within-rest (a .text .now) (l .i) (c .n .given .0 .0) (c .n .given .0 .1 .0) (taken c .within)
 
 next-char : (c : tie.After-n Inv-loop μ-loop)
-    → let a = c .before .before .before .before .before .before .before .before .before .before .before .before .before .before .before .args in
-    let l = c .before .before .before .before .before .before .before .before .before .before .before .before .loop in
+    → let a = c .before .before .before .before .before .before .before .before .before .before .before .before .before .before .args in
+    let l = c .before .before .before .before .before .before .before .before .before .before .before .loop in
     Next (Rest (a .language) (a .quotes) (a .text .now) (l .i)) (utf8 (c .n .given .0 .1 .0)) (Rest (a .language) (a .quotes) (a .text .now) (l .i + c .n .given .0 .0))
 next-char c =
-    let a = c .before .before .before .before .before .before .before .before .before .before .before .before .before .before .before .args in
-    let l = c .before .before .before .before .before .before .before .before .before .before .before .before .loop in
+    let a = c .before .before .before .before .before .before .before .before .before .before .before .before .before .before .args in
+    let l = c .before .before .before .before .before .before .before .before .before .before .before .loop in
     next-swap (decodeStep (stringOf (a .language) (a .quotes))) (a .text .now) (l .i) (c .n .given .0 .0) (utf8 (c .n .given .0 .1 .0)) (fits c .0) (fits c .1) (taken c .moves)
 
 loop-holds : tie.Need-loop-holds Inv-loop μ-loop
@@ -189,17 +189,8 @@ loop-again c =
       filled-put (l .inv .1) (next-part p) (put-until .last .1 .1 .1 .0) (put-until .result - l .i) (sym (size p)) (put-until .ensures .1),
     )
 
-sub-after-slash : tie.Need-sub-after-slash Inv-loop μ-loop
-sub-after-slash c = search needs
-
-part-after-slash-start : tie.Need-part-after-slash-start Inv-loop μ-loop
-part-after-slash-start c = search needs
-
-part-after-slash-end : tie.Need-part-after-slash-end Inv-loop μ-loop
-part-after-slash-end c = search needs
-
-after-slash-requires : tie.Need-after-slash-requires Inv-loop μ-loop
-after-slash-requires c κs = search needs
+byte-after-requires : tie.Need-byte-after-requires Inv-loop μ-loop
+byte-after-requires c κs = search needs
 
 is-slashed-requires : tie.Need-is-slashed-requires Inv-loop μ-loop
 is-slashed-requires c κs = search needs
@@ -217,11 +208,11 @@ part-put-end : tie.Need-part-put-end Inv-loop μ-loop
 part-put-end c = search needs
 
 put-requires : tie.Need-put-requires Inv-loop μ-loop
-put-requires c κs = filled-room (c .before .before .before .before .before .before .before .before .before .loop .inv .1) (next-two (c .before .before))
+put-requires c κs = filled-room (c .before .before .before .before .before .before .before .before .loop .inv .1) (next-two (c .before .before))
 
 add-at-2 : tie.Need-add-at-2 Inv-loop μ-loop
 add-at-2 c =
-    omega (arith, c .before .before .put .ensures .0, filled-next (c .before .before .before .before .before .before .before .before .before .before .before .before .loop .inv .1) (next-two (c .before .before .before .before .before)))
+    omega (arith, c .before .before .put .ensures .0, filled-next (c .before .before .before .before .before .before .before .before .before .before .before .loop .inv .1) (next-two (c .before .before .before .before .before)))
 
 add-escapes : tie.Need-add-escapes Inv-loop μ-loop
 add-escapes c = search needs
@@ -235,10 +226,10 @@ loop-less-2 c = omega (arith, two (c .before .before .before .before .before) .1
 loop-again-2 : tie.Need-loop-again-2 Inv-loop μ-loop
 loop-again-2 c =
     let put = c .before .before .put in
-    let l = c .before .before .before .before .before .before .before .before .before .before .before .before .loop in
-    let after-slash = c .before .before .before .before .before .before .before .after-slash in
+    let l = c .before .before .before .before .before .before .before .before .before .before .before .loop in
+    let byte-after = c .before .before .before .before .before .before .before .byte-after in
     let p = (c .before .before .before .before .before) in (
-      rw (put .ensures .0) (counted-swap (l .inv .0) 2 (after-slash .result ∷ []) (omega arith) (two p .1) (omega arith) (two p .0)),
+      rw (put .ensures .0) (counted-swap (l .inv .0) 2 (byte-after .result ∷ []) (omega arith) (two p .1) (omega arith) (two p .0)),
       filled-put (l .inv .1) (next-two p) (put .last .1 .0) (put .result) (put .ensures .0) (put .ensures .1),
     )
 
@@ -286,11 +277,11 @@ part-put-end-3 c = search needs
 
 put-requires-2 : tie.Need-put-requires-2 Inv-loop μ-loop
 put-requires-2 c κs =
-    filled-room (c .before .before .before .before .before .before .before .before .before .before .before .before .before .before .loop .inv .1) (next-one (c .before .before))
+    filled-room (c .before .before .before .before .before .before .before .before .before .before .before .before .before .loop .inv .1) (next-one (c .before .before))
 
 add-at-3 : tie.Need-add-at-3 Inv-loop μ-loop
 add-at-3 c =
-    omega (arith, c .before .before .put2 .ensures .0, filled-next (c .before .before .before .before .before .before .before .before .before .before .before .before .before .before .before .before .before .loop .inv .1) (next-one (c .before .before .before .before .before)))
+    omega (arith, c .before .before .put2 .ensures .0, filled-next (c .before .before .before .before .before .before .before .before .before .before .before .before .before .before .before .before .loop .inv .1) (next-one (c .before .before .before .before .before)))
 
 loop-less-3 : tie.Need-loop-less-3 Inv-loop μ-loop
 loop-less-3 c = search needs
@@ -298,8 +289,8 @@ loop-less-3 c = search needs
 loop-again-3 : tie.Need-loop-again-3 Inv-loop μ-loop
 loop-again-3 c =
     let put2 = c .before .before .put2 in
-    let a = c .before .before .before .before .before .before .before .before .before .before .before .before .before .before .before .before .before .before .before .before .args in
-    let l = c .before .before .before .before .before .before .before .before .before .before .before .before .before .before .before .before .before .loop in
+    let a = c .before .before .before .before .before .before .before .before .before .before .before .before .before .before .before .before .before .before .before .args in
+    let l = c .before .before .before .before .before .before .before .before .before .before .before .before .before .before .before .before .loop in
     let p = (c .before .before .before .before .before) in
     let one : put2 .result ≡ 1 = omega (arith, put2 .ensures .0, part-length (a .text .now) (l .i) (l .i + 1) (omega arith) (search needs)) in
     (rw one (counted-keep (l .inv .0) (search needs) (none p .moves)), filled-put (l .inv .1) (next-one p) (put2 .last .1 .0) (put2 .result) (put2 .ensures .0) (put2 .ensures .1))
@@ -315,11 +306,11 @@ part-put-char-end c = search needs
 
 put-char-requires : tie.Need-put-char-requires Inv-loop μ-loop
 put-char-requires c κs =
-    (fits (c .before .before) .3, filled-room (c .before .before .before .before .before .before .before .before .before .before .before .before .before .before .loop .inv .1) (next-char (c .before .before)))
+    (fits (c .before .before) .3, filled-room (c .before .before .before .before .before .before .before .before .before .before .before .before .before .loop .inv .1) (next-char (c .before .before)))
 
 add-at-4 : tie.Need-add-at-4 Inv-loop μ-loop
 add-at-4 c =
-    omega (arith, c .before .before .put-char .ensures .0, filled-next (c .before .before .before .before .before .before .before .before .before .before .before .before .before .before .before .before .before .loop .inv .1) (next-char (c .before .before .before .before .before)))
+    omega (arith, c .before .before .put-char .ensures .0, filled-next (c .before .before .before .before .before .before .before .before .before .before .before .before .before .before .before .before .loop .inv .1) (next-char (c .before .before .before .before .before)))
 
 add-escapes-2 : tie.Need-add-escapes-2 Inv-loop μ-loop
 add-escapes-2 c = search needs
@@ -333,7 +324,7 @@ loop-less-4 c = let w = fits (c .before .before .before .before .before) in omeg
 loop-again-4 : tie.Need-loop-again-4 Inv-loop μ-loop
 loop-again-4 c =
     let put-char = c .before .before .put-char in
-    let l = c .before .before .before .before .before .before .before .before .before .before .before .before .before .before .before .before .before .loop in
+    let l = c .before .before .before .before .before .before .before .before .before .before .before .before .before .before .before .before .loop in
     let n = c .before .before .before .before .before .n in
     let p = (c .before .before .before .before .before) in
     let w = fits p in (
@@ -367,10 +358,7 @@ write-spec =
     add-at
     loop-less
     loop-again
-    sub-after-slash
-    part-after-slash-start
-    part-after-slash-end
-    after-slash-requires
+    byte-after-requires
     is-slashed-requires
     slice-aggregate-put
     sub-put
