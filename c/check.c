@@ -27,10 +27,11 @@ static void check(int holds, const char *what, uint32_t which)
     }
 }
 
-/* Whether the answer is these five numbers. */
+/* Whether the answer is these five numbers, and no reference stayed. */
 static int is(lintelrye_answer answer, uint64_t status, uint64_t length, uint64_t same, uint64_t replaced, uint64_t place)
 {
-    return answer.status == status && answer.length == length && answer.same == same && answer.replaced == replaced && answer.place == place;
+    return answer.status == status && answer.length == length && answer.same == same && answer.replaced == replaced && answer.place == place
+        && answer.left == 0 && answer.reason == 0;
 }
 
 /* Whether the output holds these bytes at its front and nothing new past them. */
@@ -157,11 +158,35 @@ static void check_without_output(void)
     check(lintelrye_check(LINTELRYE_TEXT, letters, LINTELRYE_TEXT_LIMIT).length == LINTELRYE_TEXT_LIMIT, "the longest text", 0);
 }
 
+/* Place and reason of the first reference that stays, in decode and browse, copying and borrowing; 5 only in decode. */
+static void check_left(void)
+{
+    static const struct {
+        const char *text;
+        uint64_t left, reason;
+    } rows[] = {
+        {"a & b", 2, LINTELRYE_NO_END}, {"&&;", 0, LINTELRYE_NO_END},        {"ab&#x;&", 2, LINTELRYE_EMPTY},       {"&nbps;", 0, LINTELRYE_UNKNOWN_NAME},
+        {"&Amp;&;", 0, LINTELRYE_UNKNOWN_NAME}, {"a&#99999999999x;", 1, LINTELRYE_NO_DIGIT}, {"&#4294967296;", 0, LINTELRYE_NOT_ALLOWED},
+    };
+    size_t i;
+    for (i = 0; i < sizeof rows / sizeof *rows; i++) {
+        uint32_t which;
+        for (which = 2; which < 8; which++) {
+            lintelrye_answer answer = of(which, 1, rows[i].text, OUTPUT);
+            int allowed = which >= 6 && rows[i].reason == LINTELRYE_NOT_ALLOWED;
+            int reads = which == 4 || which == 5;
+            check(answer.left == (allowed || reads ? 0 : rows[i].left) && answer.reason == (allowed || reads ? 0 : rows[i].reason), "the first reference that stays", which);
+        }
+    }
+    check(of(2, 1, "&;&lt;", 2).reason == 0, "no reason without room", 2);
+    check(of(2, 7, "&;", OUTPUT).reason == 0, "no reason in a string", 2);
+}
+
 /* lintelrye_view: the text, the front of the output, or none. */
 static void check_view(void)
 {
     const uint8_t *text = letters;
-    lintelrye_answer answer = {LINTELRYE_PASSED, 3, 1, 0, 0};
+    lintelrye_answer answer = {LINTELRYE_PASSED, 3, 1, 0, 0, 0, 0};
     size_t n = 99;
     check(lintelrye_view(text, 7, output, 2, answer, &n) == text && n == 7, "view of the text", 0);
     answer.same = 0;
@@ -181,7 +206,7 @@ int main(void)
 {
     uint32_t which;
     memset(letters, 'a', sizeof letters);
-    check(sizeof(lintelrye_answer) == 40, "the answer's size", 0);
+    check(sizeof(lintelrye_answer) == 56, "the answer's size", 0);
     check(sizeof(lintelrye_checked) == 24, "the size of what check returns", 0);
     for (which = 0; which < 8; which++) {
         check_null(which);
@@ -198,6 +223,7 @@ int main(void)
     }
     check_without_output();
     check_closing();
+    check_left();
     check_view();
     printf("c/check: %s\n", failed ? "FAILED" : "what the header says holds");
     return failed != 0;

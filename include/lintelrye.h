@@ -1,7 +1,7 @@
 /* Lintelrye for C and C++: HTML escaping with proofs. Link liblintelrye_c.a (x86-64, System V calls); nothing else is needed.
  *
  * Four operations, each as a copying and as a borrowing call. Every one of these takes a context by its number, a text, and an output that the caller
- * lends, and returns five numbers. lintelrye_check needs no output: it tells whether lintelrye_take would take a text, and returns three numbers.
+ * lends, and returns seven numbers. lintelrye_check needs no output: it tells whether lintelrye_take would take a text, and returns three numbers.
  * No call allocates, keeps a pointer or writes to a global, and every call ends.
  *
  * What a caller owes, and all that is owed:
@@ -80,6 +80,8 @@ typedef struct lintelrye_answer {
     uint64_t same;     /* 1 exactly if nothing was replaced, so that the result is the text; after a refusal 0 */
     uint64_t replaced; /* how many places were replaced: characters by encode and take, references or escapes by decode and browse; after a refusal 0 */
     uint64_t place;    /* after NOT_UTF8, CUT_SHORT and NOT_A_FORM the length of the longest correct prefix; otherwise 0 */
+    uint64_t left;     /* decode and browse in contexts 0 to 6: the place of the `&` of the first reference that stayed; 0 if none did, and after a refusal */
+    uint64_t reason;   /* why it stayed, see lintelrye_reason; 0 if none did, in every other call, and after a refusal */
 } lintelrye_answer;
 
 /* The answer of check. */
@@ -89,16 +91,25 @@ typedef struct lintelrye_checked {
     uint64_t place;  /* after NOT_UTF8, CUT_SHORT and NOT_A_FORM the length of the longest correct prefix; otherwise 0 */
 } lintelrye_checked;
 
+/* Why a reference stayed. One that has both a byte that is no digit and too large a number has NO_DIGIT. browse never gives NOT_ALLOWED. */
+enum lintelrye_reason {
+    LINTELRYE_NO_END = 1,       /* there is no `;` before the next `&` or the end */
+    LINTELRYE_EMPTY = 2,        /* its body is empty: `&;`, `&#;`, `&#x;` or `&#X;` */
+    LINTELRYE_UNKNOWN_NAME = 3, /* its body is no name of the table */
+    LINTELRYE_NO_DIGIT = 4,     /* a byte of its number is no digit of the base */
+    LINTELRYE_NOT_ALLOWED = 5   /* decode does not allow its number */
+};
+
 /* The archive's names of the calls that return an answer end in how many numbers it has. A program that was compiled with a header of another record
  * does not link with this archive, nor one compiled with this header with another archive. */
-#define lintelrye_encode lintelrye_encode_5
-#define lintelrye_encode_borrowing lintelrye_encode_borrowing_5
-#define lintelrye_decode lintelrye_decode_5
-#define lintelrye_decode_borrowing lintelrye_decode_borrowing_5
-#define lintelrye_take lintelrye_take_5
-#define lintelrye_take_borrowing lintelrye_take_borrowing_5
-#define lintelrye_browse lintelrye_browse_5
-#define lintelrye_browse_borrowing lintelrye_browse_borrowing_5
+#define lintelrye_encode lintelrye_encode_7
+#define lintelrye_encode_borrowing lintelrye_encode_borrowing_7
+#define lintelrye_decode lintelrye_decode_7
+#define lintelrye_decode_borrowing lintelrye_decode_borrowing_7
+#define lintelrye_take lintelrye_take_7
+#define lintelrye_take_borrowing lintelrye_take_borrowing_7
+#define lintelrye_browse lintelrye_browse_7
+#define lintelrye_browse_borrowing lintelrye_browse_borrowing_7
 
 /* encode: escapes the text for the context. Every character that the context replaces is replaced, everything else is copied. */
 lintelrye_answer lintelrye_encode(uint32_t context, const uint8_t *text, size_t text_length, uint8_t *output, size_t output_length);

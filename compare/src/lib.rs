@@ -14,6 +14,8 @@ pub struct Answer {
     pub same: u64,
     pub replaced: u64,
     pub place: u64,
+    pub left: u64,
+    pub reason: u64,
 }
 
 /// What check answers, as include/lintelrye.h lays it out.
@@ -50,8 +52,8 @@ macro_rules! exported {
 
 #[cfg(feature = "archive")]
 exported! {
-    lintelrye_encode_5 lintelrye_encode_borrowing_5 lintelrye_decode_5 lintelrye_decode_borrowing_5
-    lintelrye_take_5 lintelrye_take_borrowing_5 lintelrye_browse_5 lintelrye_browse_borrowing_5
+    lintelrye_encode_7 lintelrye_encode_borrowing_7 lintelrye_decode_7 lintelrye_decode_borrowing_7
+    lintelrye_take_7 lintelrye_take_borrowing_7 lintelrye_browse_7 lintelrye_browse_borrowing_7
 }
 
 #[cfg(feature = "archive")]
@@ -139,14 +141,14 @@ pub struct Call(Exported);
 impl Call {
     pub fn find(operation: Operation, borrowing: bool) -> Call {
         Call(match (operation, borrowing) {
-            (Operation::Encode, false) => lintelrye_encode_5,
-            (Operation::Encode, true) => lintelrye_encode_borrowing_5,
-            (Operation::Decode, false) => lintelrye_decode_5,
-            (Operation::Decode, true) => lintelrye_decode_borrowing_5,
-            (Operation::Read, false) => lintelrye_take_5,
-            (Operation::Read, true) => lintelrye_take_borrowing_5,
-            (Operation::Browse, false) => lintelrye_browse_5,
-            (Operation::Browse, true) => lintelrye_browse_borrowing_5,
+            (Operation::Encode, false) => lintelrye_encode_7,
+            (Operation::Encode, true) => lintelrye_encode_borrowing_7,
+            (Operation::Decode, false) => lintelrye_decode_7,
+            (Operation::Decode, true) => lintelrye_decode_borrowing_7,
+            (Operation::Read, false) => lintelrye_take_7,
+            (Operation::Read, true) => lintelrye_take_borrowing_7,
+            (Operation::Browse, false) => lintelrye_browse_7,
+            (Operation::Browse, true) => lintelrye_browse_borrowing_7,
         })
     }
 

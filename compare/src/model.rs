@@ -21,16 +21,18 @@ pub struct Outcome {
     pub status: u64,
     pub place: usize,
     pub replaced: u64,
+    /// Place and reason of the first reference that stays; 0 and 0 where none does.
+    pub left: (u64, u64),
     pub result: Vec<u8>,
 }
 
 impl Outcome {
-    fn passed(result: Vec<u8>, replaced: u64) -> Outcome {
-        Outcome { status: PASSED, place: 0, replaced, result }
+    fn passed(result: Vec<u8>, replaced: u64, left: (u64, u64)) -> Outcome {
+        Outcome { status: PASSED, place: 0, replaced, left, result }
     }
 
     fn refused(status: u64, place: usize) -> Outcome {
-        Outcome { status, place, replaced: 0, result: Vec::new() }
+        Outcome { status, place, replaced: 0, left: (0, 0), result: Vec::new() }
     }
 
     /// What check answers of a text that read makes this of: the numbers of a call with room.
@@ -43,14 +45,15 @@ impl Outcome {
         let length = self.result.len() as u64;
         let place = self.place as u64;
         if self.status != PASSED {
-            return (Answer { status: self.status, length: 0, same: 0, replaced: 0, place }, 0);
+            return (Answer { status: self.status, length: 0, same: 0, replaced: 0, place, left: 0, reason: 0 }, 0);
         }
         let same = self.replaced == 0;
         if !(borrowing && same) && room < self.result.len() {
-            return (Answer { status: NO_ROOM, length, same: 0, replaced: 0, place }, 0);
+            return (Answer { status: NO_ROOM, length, same: 0, replaced: 0, place, left: 0, reason: 0 }, 0);
         }
         let written = if borrowing && same { 0 } else { self.result.len() };
-        (Answer { status: PASSED, length, same: same as u64, replaced: self.replaced, place }, written)
+        let (left, reason) = self.left;
+        (Answer { status: PASSED, length, same: same as u64, replaced: self.replaced, place, left, reason }, written)
     }
 }
 
@@ -96,7 +99,7 @@ impl Model {
             Operation::Read => self.units[context].read(text),
             Operation::Browse => {
                 let (result, replaced) = references(text, browsed);
-                Outcome::passed(result.into_bytes(), replaced)
+                Outcome::passed(result.into_bytes(), replaced, first_left(text, browsed))
             }
         }
     }
@@ -110,7 +113,7 @@ impl Model {
             Some(units) => units.count(text),
             None => written.result.len() - text.len(),
         };
-        written.counted(replaced as u64)
+        written.counted(replaced as u64, (0, 0))
     }
 
     /// The crate's decoding. The places are found by the rules, and must give the crate's result.
@@ -122,7 +125,8 @@ impl Model {
             _ => self.units[context].unescape(text, "style"),
         };
         assert!(result.as_bytes() == decoded.result, "the places that the rules replace do not make the crate's result of {:?}", text);
-        decoded.counted(replaced)
+        let left = if context <= 6 { first_left(text, decoded_reference) } else { (0, 0) };
+        decoded.counted(replaced, left)
     }
 }
 
@@ -140,9 +144,9 @@ struct OfCrate {
 
 impl OfCrate {
     /// The crate's result with a count of replaced places, which is 0 exactly where the crate lends the text.
-    fn counted(self, replaced: u64) -> Outcome {
+    fn counted(self, replaced: u64, left: (u64, u64)) -> Outcome {
         assert!(self.lent == (replaced == 0), "{} places are replaced in {:?}, and the crate sees it otherwise", replaced, String::from_utf8_lossy(&self.result));
-        Outcome::passed(self.result, replaced)
+        Outcome::passed(self.result, replaced, left)
     }
 }
 
@@ -223,7 +227,7 @@ impl Units {
                 return Outcome::refused(NOT_A_FORM, at);
             }
         }
-        Outcome::passed(result.into_bytes(), replaced)
+        Outcome::passed(result.into_bytes(), replaced, (0, 0))
     }
 }
 
@@ -261,6 +265,42 @@ fn references(text: &str, meaning: fn(&str) -> Cow<'_, str>) -> (String, u64) {
     (result, replaced)
 }
 
+/// Place and reason of the first `&` that begins no reference which is replaced: RULES 10.7, read `&` by `&`.
+fn first_left(text: &str, meaning: fn(&str) -> Cow<'_, str>) -> (u64, u64) {
+    for (place, _) in text.match_indices('&') {
+        let after = &text[place + 1..];
+        let reason = match after.find(|c| c == '&' || c == ';') {
+            Some(end) if after.as_bytes()[end] == b';' => match meaning(&text[place..place + end + 2]) {
+                Cow::Owned(_) => continue,
+                Cow::Borrowed(_) => reason_of(&after[..end]),
+            },
+            _ => 1,
+        };
+        return (place as u64, reason);
+    }
+    (0, 0)
+}
+
+/// The digits of a body that is to be a number, and their base.
+fn digits_of(body: &str) -> Option<(&str, u32)> {
+    let number = body.strip_prefix('#')?;
+    Some(match number.strip_prefix('x').or_else(|| number.strip_prefix('X')) {
+        Some(digits) => (digits, 16),
+        None => (number, 10),
+    })
+}
+
+/// Why a body stands for nothing, where it does.
+fn reason_of(body: &str) -> u64 {
+    match digits_of(body) {
+        None if body.is_empty() => 2,
+        None => 3,
+        Some(("", _)) => 2,
+        Some((digits, base)) if digits.chars().all(|c| c.is_digit(base)) => 5,
+        Some(_) => 4,
+    }
+}
+
 /// What a browser takes the numbers from 80 to 9F hex for: the bytes of windows-1252, and the control character for the five that it leaves free.
 const WINDOWS: [char; 32] = [
     '€', '\u{81}', '‚', 'ƒ', '„', '…', '†', '‡', 'ˆ', '‰', 'Š', '‹', 'Œ', '\u{8D}', 'Ž', '\u{8F}', //
@@ -275,11 +315,9 @@ fn decoded_reference(reference: &str) -> Cow<'_, str> {
 /// What browse takes one for: names are the crate's decode, numbers are RULES 10.5.
 fn browsed(reference: &str) -> Cow<'_, str> {
     let body = &reference[1..reference.len() - 1];
-    let hex = body.strip_prefix("#x").or_else(|| body.strip_prefix("#X"));
-    let (digits, base) = match (hex, body.strip_prefix('#')) {
-        (Some(digits), _) => (digits, 16),
-        (None, Some(digits)) => (digits, 10),
-        (None, None) => return CRATE_LENDING_DECODERS[0](reference),
+    let (digits, base) = match digits_of(body) {
+        Some(digits) => digits,
+        None => return CRATE_LENDING_DECODERS[0](reference),
     };
     if digits.is_empty() || !digits.chars().all(|c| c.is_digit(base)) {
         return Cow::Borrowed(reference);

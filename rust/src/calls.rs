@@ -93,6 +93,45 @@ impl std::error::Error for Refusal {}
 pub struct Written<'a> {
     result: &'a str,
     replaced: usize,
+    left: Option<Left>,
+}
+
+/// A reference that [`decode`] or [`browse`] left as it stands: where its `&` is in the text, and why.
+#[derive(Clone, Copy, Debug, PartialEq, Eq)]
+pub struct Left {
+    /// The place of the `&` in the text.
+    pub place: usize,
+    /// Why the reference stayed.
+    pub reason: Reason,
+}
+
+/// Why a reference stayed. `NoDigit` goes before `NotAllowed`, and [`browse`] never gives `NotAllowed`.
+#[derive(Clone, Copy, Debug, PartialEq, Eq)]
+pub enum Reason {
+    /// There is no `;` before the next `&` or the end of the text.
+    NoEnd = 1,
+    /// Its body is empty: `&;`, `&#;`, `&#x;` or `&#X;`.
+    Empty = 2,
+    /// Its body is no name of the table.
+    UnknownName = 3,
+    /// A byte of its number is no digit of the base.
+    NoDigit = 4,
+    /// [`decode`] does not allow its number.
+    NotAllowed = 5,
+}
+
+/// Returns the first reference that stayed, if one did; the other `None` is for numbers that no archive of this record gives.
+fn left(answer: Answer) -> Option<Option<Left>> {
+    let reason = match answer.reason {
+        0 => return Some(None),
+        1 => Reason::NoEnd,
+        2 => Reason::Empty,
+        3 => Reason::UnknownName,
+        4 => Reason::NoDigit,
+        5 => Reason::NotAllowed,
+        _ => return None,
+    };
+    Some(Some(Left { place: answer.left as usize, reason }))
 }
 
 impl<'a> Written<'a> {
@@ -116,6 +155,19 @@ impl<'a> Written<'a> {
     /// ```
     pub fn replaced(self) -> usize {
         self.replaced
+    }
+
+    /// The first reference that [`decode`] or [`browse`] left as it stands, with its place in the text and the reason.
+    ///
+    /// ```
+    /// use lintelrye::{Left, Reason};
+    /// let mut line = [0; 64];
+    /// let name = lintelrye::decode_html_entities("Nan&nbps;&amp; Tom", &mut line)?;
+    /// assert_eq!(name.left(), Some(Left { place: 3, reason: Reason::UnknownName }));
+    /// # Ok::<(), lintelrye::Refusal>(())
+    /// ```
+    pub fn left(self) -> Option<Left> {
+        self.left
     }
 }
 
@@ -177,8 +229,8 @@ fn written(result: Option<&[u8]>, answer: Answer) -> Result<Written<'_>, Refusal
         return Err(refusal(answer.status, answer.length, answer.place));
     }
     let replaced = answer.replaced as usize;
-    match result.map(str::from_utf8) {
-        Some(Ok(result)) if answer.same == (replaced == 0) as u64 => Ok(Written { result, replaced }),
+    match (result.map(str::from_utf8), left(answer)) {
+        (Some(Ok(result)), Some(left)) if answer.same == (replaced == 0) as u64 => Ok(Written { result, replaced, left }),
         _ => Err(Refusal::WrongArchive),
     }
 }

@@ -1,4 +1,4 @@
-//! The calls as the archive exports them: they take any context number and return the five numbers of the answer, or the three of a check. The other
+//! The calls as the archive exports them: they take any context number and return the seven numbers of the answer, or the three of a check. The other
 //! calls of this crate are made of these.
 
 /// The answer of a call, as include/lintelrye.h lays it out.
@@ -15,6 +15,10 @@ pub struct Answer {
     pub replaced: u64,
     /// After [`NOT_UTF8`], [`CUT_SHORT`] and [`NOT_A_FORM`] the length of the longest correct prefix; otherwise 0.
     pub place: u64,
+    /// decode and browse in the HTML contexts: the place of the `&` of the first reference that stayed; 0 if none did, and after a refusal.
+    pub left: u64,
+    /// Why it stayed, 1 to 5, see [`Reason`](crate::Reason); 0 if none did, in every other call, and after a refusal.
+    pub reason: u64,
 }
 
 /// The answer of [`check`], as include/lintelrye.h lays it out.
@@ -75,14 +79,14 @@ macro_rules! exported {
 }
 
 exported! {
-    encode is lintelrye_encode_5: "`lintelrye_encode`, see [`crate::encode`].";
-    encode_borrowing is lintelrye_encode_borrowing_5: "`lintelrye_encode_borrowing`, see [`crate::encode_borrowing`].";
-    decode is lintelrye_decode_5: "`lintelrye_decode`, see [`crate::decode`].";
-    decode_borrowing is lintelrye_decode_borrowing_5: "`lintelrye_decode_borrowing`, see [`crate::decode_borrowing`].";
-    take is lintelrye_take_5: "`lintelrye_take`, see [`crate::take`].";
-    take_borrowing is lintelrye_take_borrowing_5: "`lintelrye_take_borrowing`, see [`crate::take_borrowing`].";
-    browse is lintelrye_browse_5: "`lintelrye_browse`, see [`crate::browse`].";
-    browse_borrowing is lintelrye_browse_borrowing_5: "`lintelrye_browse_borrowing`, see [`crate::browse_borrowing`].";
+    encode is lintelrye_encode_7: "`lintelrye_encode`, see [`crate::encode`].";
+    encode_borrowing is lintelrye_encode_borrowing_7: "`lintelrye_encode_borrowing`, see [`crate::encode_borrowing`].";
+    decode is lintelrye_decode_7: "`lintelrye_decode`, see [`crate::decode`].";
+    decode_borrowing is lintelrye_decode_borrowing_7: "`lintelrye_decode_borrowing`, see [`crate::decode_borrowing`].";
+    take is lintelrye_take_7: "`lintelrye_take`, see [`crate::take`].";
+    take_borrowing is lintelrye_take_borrowing_7: "`lintelrye_take_borrowing`, see [`crate::take_borrowing`].";
+    browse is lintelrye_browse_7: "`lintelrye_browse`, see [`crate::browse`].";
+    browse_borrowing is lintelrye_browse_borrowing_7: "`lintelrye_browse_borrowing`, see [`crate::browse_borrowing`].";
 }
 
 #[link(name = "lintelrye_c", kind = "static")]

@@ -1,7 +1,7 @@
 //! What this crate makes of the archive's answers: results that borrow the text or the buffer, refusals with an untouched buffer, texts of several
 //! types, and the names of html-escape.
 use lintelrye::raw::{self, Answer, Checked};
-use lintelrye::{Context, Refusal, Written};
+use lintelrye::{Context, Left, Reason, Refusal, Written};
 
 type Operation = for<'a> fn(Context, &'a [u8], &'a mut [u8]) -> Result<Written<'a>, Refusal>;
 
@@ -218,15 +218,15 @@ fn the_texts_tell_contexts_apart() {
 mod exported {
     use super::{Answer, Checked};
     extern "C" {
-        pub fn lintelrye_encode_5(c: u32, t: *const u8, n: usize, o: *mut u8, m: usize) -> Answer;
-        pub fn lintelrye_encode_borrowing_5(c: u32, t: *const u8, n: usize, o: *mut u8, m: usize) -> Answer;
-        pub fn lintelrye_decode_5(c: u32, t: *const u8, n: usize, o: *mut u8, m: usize) -> Answer;
-        pub fn lintelrye_decode_borrowing_5(c: u32, t: *const u8, n: usize, o: *mut u8, m: usize) -> Answer;
-        pub fn lintelrye_take_5(c: u32, t: *const u8, n: usize, o: *mut u8, m: usize) -> Answer;
-        pub fn lintelrye_take_borrowing_5(c: u32, t: *const u8, n: usize, o: *mut u8, m: usize) -> Answer;
+        pub fn lintelrye_encode_7(c: u32, t: *const u8, n: usize, o: *mut u8, m: usize) -> Answer;
+        pub fn lintelrye_encode_borrowing_7(c: u32, t: *const u8, n: usize, o: *mut u8, m: usize) -> Answer;
+        pub fn lintelrye_decode_7(c: u32, t: *const u8, n: usize, o: *mut u8, m: usize) -> Answer;
+        pub fn lintelrye_decode_borrowing_7(c: u32, t: *const u8, n: usize, o: *mut u8, m: usize) -> Answer;
+        pub fn lintelrye_take_7(c: u32, t: *const u8, n: usize, o: *mut u8, m: usize) -> Answer;
+        pub fn lintelrye_take_borrowing_7(c: u32, t: *const u8, n: usize, o: *mut u8, m: usize) -> Answer;
         pub fn lintelrye_check(c: u32, t: *const u8, n: usize) -> Checked;
-        pub fn lintelrye_browse_5(c: u32, t: *const u8, n: usize, o: *mut u8, m: usize) -> Answer;
-        pub fn lintelrye_browse_borrowing_5(c: u32, t: *const u8, n: usize, o: *mut u8, m: usize) -> Answer;
+        pub fn lintelrye_browse_7(c: u32, t: *const u8, n: usize, o: *mut u8, m: usize) -> Answer;
+        pub fn lintelrye_browse_borrowing_7(c: u32, t: *const u8, n: usize, o: *mut u8, m: usize) -> Answer;
     }
 }
 
@@ -235,16 +235,16 @@ mod exported {
 fn null_pointers_of_length_0() {
     use exported::*;
     let calls = [
-        lintelrye_encode_5,
-        lintelrye_encode_borrowing_5,
-        lintelrye_decode_5,
-        lintelrye_decode_borrowing_5,
-        lintelrye_take_5,
-        lintelrye_take_borrowing_5,
-        lintelrye_browse_5,
-        lintelrye_browse_borrowing_5,
+        lintelrye_encode_7,
+        lintelrye_encode_borrowing_7,
+        lintelrye_decode_7,
+        lintelrye_decode_borrowing_7,
+        lintelrye_take_7,
+        lintelrye_take_borrowing_7,
+        lintelrye_browse_7,
+        lintelrye_browse_borrowing_7,
     ];
-    let passed = Answer { status: 0, length: 0, same: 1, replaced: 0, place: 0 };
+    let passed = Answer { status: 0, length: 0, same: 1, replaced: 0, place: 0, left: 0, reason: 0 };
     let text = b"a&lt;";
     for call in calls {
         let mut output = [0xEE; 8];
@@ -268,4 +268,26 @@ fn null_pointers_of_length_0() {
         // SAFETY: a null text is valid for its length, 0.
         assert_eq!(unsafe { lintelrye_check(context, std::ptr::null(), 0) }, Checked { status: 0, length: 0, place: 0 });
     }
+}
+
+#[test]
+fn the_first_reference_that_stays_is_told() {
+    let rows = [
+        ("a & b", 2, Reason::NoEnd),
+        ("a&lt;&;&bogus;", 5, Reason::Empty),
+        ("&nbps;&;", 0, Reason::UnknownName),
+        ("&#99999999999x;", 0, Reason::NoDigit),
+        ("&amp;&#0;", 5, Reason::NotAllowed),
+    ];
+    for (text, place, reason) in rows {
+        let left = Some(Left { place, reason });
+        let (copying, borrowing, _) = OPERATIONS[1];
+        for call in [copying, borrowing] {
+            assert_eq!(call(Context::Text, text.as_bytes(), &mut [0; 64]).unwrap().left(), left);
+        }
+        let browsed = lintelrye::browse(Context::Text, text, &mut [0; 64]).unwrap().left();
+        assert_eq!(browsed, left.filter(|_| reason != Reason::NotAllowed));
+    }
+    assert_eq!(lintelrye::decode(Context::ScriptQuoted, "&;", &mut [0; 64]).unwrap().left(), None);
+    assert_eq!(lintelrye::decode(Context::Text, "&lt;", &mut [0; 64]).unwrap().left(), None);
 }

@@ -19,8 +19,13 @@ const SCRIPT_RAW: u32 = 13;
 
 /// Both calls pass with this result and so many replaced places, into a buffer of 64 bytes.
 fn passes(calls: [Call; 2], context: u32, text: &[u8], replaced: u64, result: &[u8]) {
+    leaves(calls, context, text, replaced, result, 0);
+}
+
+/// The same, and the reference at the start of the text stays for this reason.
+fn leaves(calls: [Call; 2], context: u32, text: &[u8], replaced: u64, result: &[u8], reason: u64) {
     let same = text == result;
-    let answer = Answer { status: 0, length: result.len() as u64, same: same as u64, replaced, place: 0 };
+    let answer = Answer { status: 0, length: result.len() as u64, same: same as u64, replaced, place: 0, left: 0, reason };
     for (borrowing, call) in calls.iter().enumerate() {
         let mut output = [0xEE; 64];
         assert_eq!(call(context, text, &mut output), answer, "of {:?}", text);
@@ -63,10 +68,12 @@ fn encoding_1_to_7() {
 
 #[test]
 fn decoding_8_to_11() {
-    passes(DECODE, TEXT, b"&&lt;", 1, b"&<");
+    leaves(DECODE, TEXT, b"&&lt;", 1, b"&<", 1);
     passes(DECODE, TEXT, b"&amp;lt;", 1, b"&lt;");
     passes(DECODE, TEXT, b"&#9;", 1, b"\x09");
-    stay(DECODE, TEXT, &[b"&#11;", b"&#0;", b"&#+65;", b"&#xD800;", b"&#4294967296;"]);
+    for (text, reason) in [(&b"&#11;"[..], 5), (b"&#0;", 5), (b"&#+65;", 4), (b"&#xD800;", 5), (b"&#4294967296;", 5)] {
+        leaves(DECODE, TEXT, text, 0, text, reason);
+    }
     passes(DECODE, SCRIPT_QUOTED, b"\\\\x3C", 1, b"\\x3C");
     stay(DECODE, SCRIPT_QUOTED, &[b"\\x3c", b"\\x20"]);
     passes(DECODE, STYLE_QUOTED, b"\\3C ", 1, b"<");
@@ -75,7 +82,7 @@ fn decoding_8_to_11() {
 
 #[test]
 fn reading_12() {
-    refuses(TAKE, TEXT_MINIMAL, b"a&lt;&gt;", 64, Answer { status: 4, length: 0, same: 0, replaced: 0, place: 5 });
+    refuses(TAKE, TEXT_MINIMAL, b"a&lt;&gt;", 64, Answer { status: 4, length: 0, same: 0, replaced: 0, place: 5, left: 0, reason: 0 });
 }
 
 #[test]
@@ -83,17 +90,17 @@ fn decoding_13_and_14() {
     passes(DECODE, SCRIPT_QUOTED, b"<\\/SCRIPT ", 1, b"</SCRIPT ");
     stay(DECODE, SCRIPT_QUOTED, &[b"<\\/script"]);
     passes(DECODE, TEXT, b"&nGt;", 1, b"\xE2\x89\xAB\xE2\x83\x92");
-    refuses(DECODE, TEXT, b"&nGt;", 5, Answer { status: 3, length: 6, same: 0, replaced: 0, place: 0 });
+    refuses(DECODE, TEXT, b"&nGt;", 5, Answer { status: 3, length: 6, same: 0, replaced: 0, place: 0, left: 0, reason: 0 });
 }
 
 #[test]
 fn limits_15() {
     let letters = vec![b'a'; 65_537];
     for calls in [ENCODE, DECODE, TAKE, BROWSE] {
-        refuses(calls, TEXT, b"\x61\xC3\x28", 64, Answer { status: 2, length: 0, same: 0, replaced: 0, place: 1 });
-        refuses(calls, TEXT, &letters, 64, Answer { status: 1, length: 0, same: 0, replaced: 0, place: 0 });
+        refuses(calls, TEXT, b"\x61\xC3\x28", 64, Answer { status: 2, length: 0, same: 0, replaced: 0, place: 1, left: 0, reason: 0 });
+        refuses(calls, TEXT, &letters, 64, Answer { status: 1, length: 0, same: 0, replaced: 0, place: 0, left: 0, reason: 0 });
         let mut output = vec![0xEE; 65_540];
-        let passed = Answer { status: 0, length: 65_536, same: 1, replaced: 0, place: 0 };
+        let passed = Answer { status: 0, length: 65_536, same: 1, replaced: 0, place: 0, left: 0, reason: 0 };
         assert_eq!(calls[1](TEXT, &letters[..65_536], &mut []), passed);
         assert_eq!(calls[0](TEXT, &letters[..65_536], &mut output), passed);
         assert_eq!(output[..65_536], letters[..65_536]);
@@ -103,7 +110,7 @@ fn limits_15() {
 
 #[test]
 fn room_16() {
-    refuses(ENCODE, TEXT, b"<", 3, Answer { status: 3, length: 4, same: 0, replaced: 0, place: 0 });
+    refuses(ENCODE, TEXT, b"<", 3, Answer { status: 3, length: 4, same: 0, replaced: 0, place: 0, left: 0, reason: 0 });
     let mut output = [0; 4];
     assert_eq!(raw::encode(TEXT, b"<", &mut output).status, 0);
     assert_eq!(&output, b"&lt;");
@@ -128,7 +135,7 @@ fn contexts_of_the_operations() {
             stay(calls, context, &[b"Hall"]);
         }
         for context in [contexts, 14, 255, 256, u32::MAX] {
-            refuses(calls, context, b"\xFF", 0, Answer { status: 5, length: 0, same: 0, replaced: 0, place: 0 });
+            refuses(calls, context, b"\xFF", 0, Answer { status: 5, length: 0, same: 0, replaced: 0, place: 0, left: 0, reason: 0 });
         }
     }
 }

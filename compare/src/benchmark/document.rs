@@ -110,6 +110,7 @@ const CLASSES: &str = "\
 | Cyrillic, CJK, emoji | 64 KiB of characters of two, three, four bytes, nothing special |
 | English | `unquoted` alone: 64 KiB of English words with the spaces between them |
 | only `<!--`, only `</script>`, only `<` | script_raw alone: 64 KiB of that piece |
+| stray & | decode and browse: 64 KiB of English words in which 1 % of the pieces are `&` or `&bogus;`, which stay |
 | in `closing_tag` | special are `<!--`, `-->`, `<script>`, `</scripts>`, `<` and `-`; escaped plain and escaped twice are plain text after `<!--` and `<!--<script>`, only `-` and only `<s` that piece after `<!--` |
 | numbers only, named only | decode and browse: 64 KiB of numeric references, or of names from the whole table; in strings, of the escapes with digits, or of the others |
 ";

@@ -97,7 +97,7 @@ impl Case {
             (Operation::Encode, 0..=6, "Cyrillic" | "CJK" | "emoji") => Some(0.6),
             (Operation::Encode, 0..=6, _) => Some(1.3),
             (Operation::Encode, _, _) => Some(1.5),
-            (Operation::Decode | Operation::Browse, _, "plain") => Some(1.0),
+            (Operation::Decode | Operation::Browse, _, "plain" | "stray &") => Some(1.0),
             (Operation::Decode | Operation::Browse, _, _) => Some(2.0),
             (Operation::Read, _, _) => None,
         }
@@ -168,6 +168,10 @@ fn cases_of(operation: Operation, kind: Kind, context: usize) -> Vec<Case> {
     }
     for (class, pieces) in further(operation, context) {
         add(class, vec![fill(numbers, &english, &pieces, 100, LONGEST)]);
+    }
+    if matches!((operation, context), (Operation::Decode | Operation::Browse, 0..=6)) {
+        let stray = ["&".to_string(), "&bogus;".to_string()];
+        add("stray &", vec![fill(numbers, &english, &stray, 1, LONGEST)]);
     }
     all
 }

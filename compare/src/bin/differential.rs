@@ -66,7 +66,10 @@ fn one_call(operation: Operation, context: u32, text: &[u8], outcome: &Outcome, 
 }
 
 fn shown(answer: Answer) -> String {
-    format!("status {} length {} same {} replaced {} place {}", answer.status, answer.length, answer.same, answer.replaced, answer.place)
+    format!(
+        "status {} length {} same {} replaced {} place {} left {} reason {}",
+        answer.status, answer.length, answer.same, answer.replaced, answer.place, answer.left, answer.reason
+    )
 }
 
 fn told(checked: Checked) -> String {

@@ -93,7 +93,7 @@ impl List {
         let operation_letters: String = operations.iter().map(|&operation| letter(operation)).collect();
         let context_letters: String = contexts.iter().map(|&context| if context > 25 { 'z' } else { (b'a' + context as u8) as char }).collect();
         for (kind, (answer, written)) in kinds {
-            let numbers = [room as u64, answer.status, answer.length, answer.same, answer.replaced, answer.place, written as u64];
+            let numbers = [room as u64, answer.status, answer.length, answer.same, answer.replaced, answer.place, answer.left, answer.reason, written as u64];
             let words: Vec<String> = numbers.iter().map(u64::to_string).collect();
             self.lines.push_str(&format!("{} {} {} {}\n", operation_letters, context_letters, kind, words.join(" ")));
             for &operation in operations {

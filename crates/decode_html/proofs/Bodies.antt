@@ -10,7 +10,8 @@ use borrow.Author.Tests.{ne-eqb}
 use lib.Dec.{eqb}
 use lib.ListN.{length, take, drop, getD, drop-of-length-le}
 use Rattle.rules.specs.Names.{names}
-use Rattle.rules.specs.References.{onto, bodyOf, digit, hexDigitAt, number, numberOf, meaning, lookup}
+use Rattle.rules.specs.References.{onto, bodyOf, digit, hexDigitAt, number, numberOf, meaning, lookup, whyDigits, why}
+use Rattle.rules.specs.declared.Reason.the-variants.{Empty}
 use Rattle.rules.proofs.Below.{eqb-comm}
 use Rattle.rules.proofs.Loops.{drop-next}
 use Rattle.rules.proofs.Names.{hash-unnamed}
@@ -91,3 +92,16 @@ number-hex (b ∷ s) h e = rw (eqb-comm 120 b, eqb-comm 88 b, and-true (eqb b 12
 pub number-decimal : (s : List ℕ) → (length s ≡ 0 → ⊥) → (eqb (getD s 0 0) 120 || eqb (getD s 0 0) 88) ≡ false → numberOf (35 ∷ s) ≡ number digit 10 s
 number-decimal [] h e = absurd (h refl)
 number-decimal (b ∷ s) h e = rw (eqb-comm 120 b, eqb-comm 88 b, and-true (eqb b 120), and-true (eqb b 88), e)
+
+-- The reasons, in the same three cases.
+pub why-empty : (s : List ℕ) → length s ≡ 0 → Empty ≡ why (35 ∷ s)
+why-empty [] e = refl
+why-empty (b ∷ s) e = absurd (omega arith)
+
+pub why-hex : (s : List ℕ) → (length s ≡ 0 → ⊥) → (eqb (getD s 0 0) 120 || eqb (getD s 0 0) 88) ≡ true → why (35 ∷ s) ≡ whyDigits hexDigitAt 16 (drop 1 s)
+why-hex [] h e = absurd (h refl)
+why-hex (b ∷ s) h e = rw (eqb-comm 120 b, eqb-comm 88 b, and-true (eqb b 120), and-true (eqb b 88), e)
+
+pub why-decimal : (s : List ℕ) → (length s ≡ 0 → ⊥) → (eqb (getD s 0 0) 120 || eqb (getD s 0 0) 88) ≡ false → why (35 ∷ s) ≡ whyDigits digit 10 s
+why-decimal [] h e = absurd (h refl)
+why-decimal (b ∷ s) h e = rw (eqb-comm 120 b, eqb-comm 88 b, and-true (eqb b 120), and-true (eqb b 88), e)

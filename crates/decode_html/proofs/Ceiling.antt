@@ -3,7 +3,7 @@
 -- Assumes nothing.
 use mathlib.Core.Bool.{Bool, true, false, not, _&&_, _||_, cond}
 use mathlib.Core.Logic.{_⊎_, inl, inr}
-use mathlib.Core.Option.{Option, none, some}
+use mathlib.Core.Option.{Option, none, some, Option·none-ne-some, Option·some-ne-none}
 use mathlib.Core.Path.{_≡_, refl, sym, ap, _∙_}
 use mathlib.Core.List.{List, [], _∷_}
 use Prim.Native.Nat.{ℕ, _+_, _*_, _≤_, _<_}
@@ -13,7 +13,9 @@ use borrow.Author.Tests.{leb-true, leb-false, lt-ltb, le-ltb, lt-leb}
 use lib.Dec.{T, leb, leb→le}
 use lib.ListN.{length, drop, getD, drop-of-length-le}
 use Rattle.rules.specs.Bytes.{inside}
-use Rattle.rules.specs.References.{digit, hexDigitAt, digits, number, scalar}
+use Rattle.rules.specs.References.{digit, hexDigitAt, digits, number, numberOf, scalar, whyDigits, why}
+use Rattle.rules.specs.declared.Reason.the-variants.{Empty, NoDigit, NotAllowed}
+use Rattle.rules.proofs.Reasons.{number-body}
 use Rattle.rules.proofs.Tests.{and-left}
 use Rattle.rules.proofs.Loops.{drop-next}
 use Rattle.decode_html.specs.declared.Numbers.{Numbers}
@@ -106,6 +108,27 @@ number-none d base (b ∷ s) h = absurd (omega arith)
 pub number-some : (d : ℕ → Option ℕ) (base : ℕ) (s : List ℕ) → (length s ≡ 0 → ⊥) → number d base s ≡ digits d base 0 s
 number-some d base [] h = absurd (h refl)
 number-some d base (b ∷ s) h = refl
+
+-- The reasons of digits that stand for nothing.
+pub why-none : (d : ℕ → Option ℕ) (base : ℕ) (s : List ℕ) → length s ≡ 0 → Empty ≡ whyDigits d base s
+why-none d base [] h = refl
+why-none d base (b ∷ s) h = absurd (omega arith)
+
+pub why-undigit : (d : ℕ → Option ℕ) (base : ℕ) (s : List ℕ) → (length s ≡ 0 → ⊥) → none ≡ capped (number d base s) → NoDigit ≡ whyDigits d base s
+why-undigit d base [] h e = absurd (h refl)
+why-undigit d base (b ∷ s) h e = go (digits d base 0 (b ∷ s)) e
+  where
+    go : (o : Option ℕ) → none ≡ capped o → NoDigit ≡ elim o [ none ↦ NoDigit | some n ↦ NotAllowed ]
+    go none e = refl
+    go (some n) e = absurd (Option·none-ne-some (ceilingOf n) e)
+
+-- A body that is a number is one that is not allowed.
+pub why-number : (body : List ℕ) (n : ℕ) → some n ≡ capped (numberOf body) → NotAllowed ≡ why body
+why-number body n e = go (numberOf body) refl e
+  where
+    go : (o : Option ℕ) → numberOf body ≡ o → some n ≡ capped o → NotAllowed ≡ why body
+    go none f e = absurd (Option·some-ne-none n e)
+    go (some m) f e = sym (number-body body m f)
 
 -- ---- characters
 

@@ -2,7 +2,7 @@
 -- Assumes nothing.
 use mathlib.Core.Bool.{Bool, true, false}
 use mathlib.Core.Option.{Option, none, some}
-use mathlib.Core.Path.{_≡_, refl, sym, ap, _∙_}
+use mathlib.Core.Path.{_≡_, refl, sym, ap, _∙_, subst}
 use mathlib.Core.List.{List, [], _∷_, _++_}
 use Prim.Native.Nat.{ℕ, suc, _+_, _-_, _/_, _≤_, _<_}
 use native.Mathlib.Nat.{div-add-mod'}
@@ -11,25 +11,31 @@ use borrow.Author.Tests.{leb-true, leb-false, le-ltb, ne-eqb}
 use lib.Dec.{T, leb, eqb→eq, leb→le}
 use lib.ListN.{length, take, drop, getD, length-drop}
 use lib.Seq.{take-suc, getD-drop}
-use Rattle.rules.specs.Bytes.{all}
-use Rattle.rules.specs.Moves.{keep}
+use Rattle.rules.specs.Bytes.{ascii, all}
+use Rattle.rules.specs.Moves.{keep, leave}
 use Rattle.rules.specs.Names.{names}
-use Rattle.rules.specs.References.{onto, bodyOf, decodeChar, browseChar, numberOf, lookup, meaning, refer, atAmp, referenceStep, browseStep}
+use Rattle.rules.specs.References.{onto, bodyOf, decodeChar, browseChar, numberOf, lookup, meaning, why, refer, atAmp, referenceStep, browseStep}
 use Rattle.rules.specs.Utf8.{utf8}
 use Rattle.rules.specs.Tables.{Row, value}
-use Rattle.rules.specs.Answers.{meaningBytes}
+use Rattle.rules.specs.Answers.{valueBytes, meaningBytes}
+use Rattle.rules.specs.declared.DecodedEntityValue.{DecodedEntityValue}
 use Rattle.rules.specs.declared.DecodedEntityValue.the-variants.{Named, Character}
 use Rattle.rules.specs.declared.Meaning.{Meaning}
 use Rattle.rules.specs.declared.Meaning.the-variants.{Value, Nothing as NoMeaning}
 use Rattle.rules.specs.declared.Reference.{Reference}
-use Rattle.rules.specs.declared.Reference.the-variants.{Found, Nothing}
+use Rattle.rules.specs.declared.Reference.the-variants.{Found, Left}
+use Rattle.rules.specs.declared.Reason.{Reason}
+use Rattle.rules.specs.declared.Reason.the-variants.{NoEnd, Empty, UnknownName}
 use Rattle.rules.proofs.Loops.{drop-next}
 use Rattle.rules.proofs.Decoder.{reference-quiet}
 use Rattle.rules.proofs.Tests.{all-in}
 use Rattle.rules.proofs.Names.{looked-up, empty-unnamed}
 use Rattle.decode_html.specs.declared.Numbers.{Numbers}
 use Rattle.decode_html.specs.declared.Numbers.the-variants.{Decoded, Browsed}
-use Rattle.decode_html.specs.Taking.{charBy, stepBy, RealMeaning, Reads}
+use Rattle.decode_html.specs.Taking.{charBy, stepBy, Real, RealMeaning, Reads}
+use Rattle.decode_html.specs.Digits.{Means}
+use Rattle.decode_html.specs.declared.digits.Numbered.{Numbered}
+use Rattle.decode_html.specs.declared.digits.Numbered.the-variants.{Is as IsValue, Left as LeftFor}
 use Rattle.decode_html.specs.Bodies.{Begun, Ends}
 
 -- ---- the rule at a byte
@@ -47,27 +53,32 @@ step-quiet Browsed p x s h = reference-quiet browseChar p x s (λ e. h (eqb→eq
 
 -- ---- by the body
 
--- The reference from place i on that ends at place r, if its body has a meaning.
-abbrev pub answer : ℕ → ℕ → Meaning → Reference
-answer i r (Value v) = Found (record { start = i; end = r + 1; value = v })
-answer i r NoMeaning = Nothing
+-- The reference from place i on that ends at place r, if it is a name of the table.
+abbrev pub named : ℕ → ℕ → Meaning → Reference
+named i r (Value v) = Found (record { start = i; end = r + 1; value = v })
+named i r NoMeaning = Left UnknownName
+
+-- The same of a number.
+abbrev pub numbered : ℕ → ℕ → Numbered → Reference
+numbered i r (IsValue v) = Found (record { start = i; end = r + 1; value = v })
+numbered i r (LeftFor w) = Left w
 
 module _ (numbers : Numbers) (t : List ℕ) (i : ℕ) (inside : i < length t) (amp : getD t i 0 ≡ 38) where
   starts : drop i t ≡ 38 ∷ drop (i + 1) t
   starts = drop-next t i inside ∙ rw amp
 
   -- There is no body.
-  pub reads-nobody : bodyOf (drop (i + 1) t) ≡ none → Reads numbers t i Nothing
+  pub reads-nobody : bodyOf (drop (i + 1) t) ≡ none → Reads numbers t i (Left NoEnd)
   reads-nobody e = record {
     move = λ p. rw starts (sym (step-at numbers p (drop (i + 1) t) ∙ ap (atAmp (charBy numbers)) e));
     lies = tt;
   }
 
   -- Another `&` follows, or the `;` at once.
-  pub reads-amp : i + 1 < length t → getD t (i + 1) 0 ≡ 38 → Reads numbers t i Nothing
+  pub reads-amp : i + 1 < length t → getD t (i + 1) 0 ≡ 38 → Reads numbers t i (Left NoEnd)
   reads-amp l e = reads-nobody (rw (drop-next t (i + 1) l, e))
 
-  pub reads-empty : i + 1 < length t → getD t (i + 1) 0 ≡ 59 → Reads numbers t i Nothing
+  pub reads-empty : i + 1 < length t → getD t (i + 1) 0 ≡ 59 → Reads numbers t i (Left Empty)
   reads-empty l e = record { move = λ p. rw starts (sym (step-at numbers p (drop (i + 1) t) ∙ rw (drop-next t (i + 1) l, e) (ap (refer []) empty-unnamed))); lies = tt }
 
   module _ (r : ℕ) (end : Ends t (i + 1) r) (before : r < length t) where
@@ -84,16 +95,19 @@ module _ (numbers : Numbers) (t : List ℕ) (i : ℕ) (inside : i < length t) (a
         (ap (λ (s : List ℕ). 38 ∷ s)
         (take-suc (drop (i + 1) t) (r - (i + 1)) 0 (rw length-drop (omega arith)) ∙ rw (getD-drop (i + 1) t (r - (i + 1)) 0, m, end .body before .0)))
 
-    -- The reference that the body's meaning makes is the move.
-    pub reads-meaning : (m : Meaning) → meaningBytes m ≡ meaning (charBy numbers) (take (r - (i + 1)) (drop (i + 1) t)) → RealMeaning m → Reads numbers t i (answer i r m)
-    reads-meaning m e real = go m (λ p. at-meaning p ∙ ap (refer (take (r - (i + 1)) (drop (i + 1) t))) (sym e)) real
-      where
-        go : (m : Meaning) → ((p : ℕ) → stepBy numbers p (38 ∷ drop (i + 1) t) ≡ refer (take (r - (i + 1)) (drop (i + 1) t)) (meaningBytes m)) → RealMeaning m → Reads numbers t i (answer i r m)
-        go NoMeaning f real = record { move = λ p. rw starts (sym (f p)); lies = tt }
-        go (Value v) f real = record {
-          move = λ p. rw taken (rw starts (sym (f p)));
-          lies = (refl, (let h : i + 1 ≤ r = end .after in omega arith), omega arith, real);
-        }
+    -- The body's bytes.
+    abbrev body : List ℕ
+    body = take (r - (i + 1)) (drop (i + 1) t)
+
+    -- The reference that the body's value makes is the move; where the body stands for nothing, the move is to leave it for its reason.
+    pub reads-value : (v : DecodedEntityValue) → some (valueBytes v) ≡ meaning (charBy numbers) body → Real v → Reads numbers t i (Found (record { start = i; end = r + 1; value = v }))
+    reads-value v e real = record {
+      move = λ p. rw taken (rw starts (sym (at-meaning p ∙ ap (refer body) (sym e))));
+      lies = (refl, (let h : i + 1 ≤ r = end .after in omega arith), omega arith, real);
+    }
+
+    pub reads-left : (w : Reason) → none ≡ meaning (charBy numbers) body → w ≡ why body → Reads numbers t i (Left w)
+    reads-left w e f = record { move = λ p. ap (λ (w : Reason). leave w (ascii "&")) f ∙ rw starts (sym (at-meaning p ∙ ap (refer body) (sym e))); lies = tt }
 
 -- A byte more before a body, if it is neither `;` nor `&`.
 pub ends-more : (t : List ℕ) (a r : ℕ) → a < length t → (getD t a 0 ≡ 59 → ⊥) → (getD t a 0 ≡ 38 → ⊥) → Ends t (a + 1) r → Ends t a r
@@ -113,6 +127,10 @@ ends-more t a r l f g end =
 no-number : (s : List ℕ) → (getD s 0 0 ≡ 35 → ⊥) → numberOf s ≡ none
 no-number [] h = refl
 no-number (b ∷ s) h = rw (ne-eqb 35 b (λ e. h (sym e)), numberOf)
+
+-- A body that begins with another byte can only be an unknown name.
+unknown : (b : ℕ) (s : List ℕ) → (b ≡ 35 → ⊥) → why (b ∷ s) ≡ UnknownName
+unknown b s h = rw (ne-eqb 35 b (λ e. h (sym e)))
 
 -- A body that does not begin with `#` is looked up whole.
 pub not-number : (char : ℕ → Option (List ℕ)) (s : List ℕ) → (getD s 0 0 ≡ 35 → ⊥) → meaning char s ≡ lookup names s
@@ -148,23 +166,34 @@ module _ (numbers : Numbers) (t : List ℕ) (i r : ℕ) (amp : getD t i 0 ≡ 38
   within : i < length t
   within = let h = begun .within in omega arith
 
-  pub begun-nobody : r ≡ length t → Reads numbers t i Nothing
+  pub begun-nobody : r ≡ length t → Reads numbers t i (Left NoEnd)
   begun-nobody e = reads-nobody numbers t i within amp (whole .nobody e)
 
   -- A number is what follows the `#`.
-  pub begun-number : getD t (i + 1) 0 ≡ 35 → r < length t → (m : Meaning) → meaningBytes m ≡ meaning (charBy numbers) (35 ∷ take (r - (i + 1 + 1)) (drop (i + 1 + 1) t)) → RealMeaning m
-      → Reads numbers t i (answer i r m)
-  begun-number hash l m e real =
+  pub begun-number : getD t (i + 1) 0 ≡ 35 → r < length t → (m : Numbered)
+      → Means m (meaning (charBy numbers) (35 ∷ take (r - (i + 1 + 1)) (drop (i + 1 + 1) t))) (why (35 ∷ take (r - (i + 1 + 1)) (drop (i + 1 + 1) t)))
+      → Reads numbers t i (numbered i r m)
+  begun-number hash l m e =
       let h : i + 1 + 1 ≤ r = end .after in
       let n : r - (i + 1) ≡ suc (r - (i + 1 + 1)) = omega arith in
       let body : take (r - (i + 1)) (drop (i + 1) t) ≡ 35 ∷ take (r - (i + 1 + 1)) (drop (i + 1 + 1) t) = rw (n, drop-next t (i + 1) (begun .within), hash) in
-      reads-meaning numbers t i within amp r whole l m (e ∙ ap (meaning (charBy numbers)) (sym body)) real
+      go m (subst (λ (b : List ℕ). Means m (meaning (charBy numbers) b) (why b)) (sym body) e)
+    where
+      go : (m : Numbered) → Means m (meaning (charBy numbers) (take (r - (i + 1)) (drop (i + 1) t))) (why (take (r - (i + 1)) (drop (i + 1) t))) → Reads numbers t i (numbered i r m)
+      go (IsValue v) e = reads-value numbers t i within amp r whole l v (e .0) (e .1)
+      go (LeftFor w) e = reads-left numbers t i within amp r whole l w (e .0) (e .1)
 
   -- Any other body is a name.
-  pub begun-name : (getD t (i + 1) 0 ≡ 35 → ⊥) → r < length t → (m : Meaning) → meaningBytes m ≡ lookup names (take (r - (i + 1)) (drop (i + 1) t)) → Reads numbers t i (answer i r m)
+  pub begun-name : (getD t (i + 1) 0 ≡ 35 → ⊥) → r < length t → (m : Meaning) → meaningBytes m ≡ lookup names (take (r - (i + 1)) (drop (i + 1) t)) → Reads numbers t i (named i r m)
   begun-name plain l m e =
       let h : i + 1 + 1 ≤ r = end .after in
       let n : r - (i + 1) ≡ suc (r - (i + 1 + 1)) = omega arith in
-      let first : getD (take (r - (i + 1)) (drop (i + 1) t)) 0 0 ≡ getD t (i + 1) 0 = rw (n, drop-next t (i + 1) (begun .within)) in
-      reads-meaning numbers t i within amp r whole l m
-      (e ∙ sym (not-number (charBy numbers) (take (r - (i + 1)) (drop (i + 1) t)) (λ z. plain (sym first ∙ z)))) (name-real (take (r - (i + 1)) (drop (i + 1) t)) m e)
+      let first : take (r - (i + 1)) (drop (i + 1) t) ≡ getD t (i + 1) 0 ∷ take (r - (i + 1 + 1)) (drop (i + 1 + 1) t) = rw (n, drop-next t (i + 1) (begun .within)) in
+      let hashless : getD (take (r - (i + 1)) (drop (i + 1) t)) 0 0 ≡ 35 → ⊥ = λ z. plain (sym (ap (λ (s : List ℕ). getD s 0 0) first) ∙ z) in
+      go m (e ∙ sym (not-number (charBy numbers) (take (r - (i + 1)) (drop (i + 1) t)) hashless)) (name-real (take (r - (i + 1)) (drop (i + 1) t)) m e)
+      (ap why first ∙ unknown (getD t (i + 1) 0) (take (r - (i + 1 + 1)) (drop (i + 1 + 1) t)) plain)
+    where
+      go : (m : Meaning) → meaningBytes m ≡ meaning (charBy numbers) (take (r - (i + 1)) (drop (i + 1) t)) → RealMeaning m → why (take (r - (i + 1)) (drop (i + 1) t)) ≡ UnknownName
+          → Reads numbers t i (named i r m)
+      go (Value v) e real w = reads-value numbers t i within amp r whole l v e real
+      go NoMeaning e real w = reads-left numbers t i within amp r whole l UnknownName e (sym w)

@@ -1,4 +1,4 @@
--- A turn of the loops over a text: bytes before the next `&`, the reference at an `&`, or that byte alone. Each is a move of the rule; what it
+-- A turn of the loops over a text: bytes before the next `&`, or the reference at an `&`, which gives way or stays. Each is a move of the rule; what it
 -- counts, and what it gives next in the result, follows by the laws of any rule.
 -- Assumes nothing.
 use mathlib.Core.Path.{_≡_, sym, ap, _∙_}
@@ -7,11 +7,12 @@ use Prim.Native.Nat.{ℕ, _+_, _-_, _*_, _≤_, _<_}
 use native.Mathlib.Omega.{arith}
 use lib.ListN.{length, take, drop, getD, length-drop}
 use lib.Seq.{length-take-le}
-use Rattle.rules.specs.Moves.{swap, through, result, before, from}
-use Rattle.rules.specs.Encoding.{keepByte}
+use Rattle.rules.specs.Bytes.{ascii}
+use Rattle.rules.specs.Moves.{swap, leave, through, result, before, from}
 use Rattle.rules.specs.Answers.{valueBytes}
 use Rattle.rules.specs.declared.DecodedEntity.{DecodedEntity}
-use Rattle.rules.specs.declared.Reference.the-variants.{Found, Nothing}
+use Rattle.rules.specs.declared.Reason.{Reason}
+use Rattle.rules.specs.declared.Reference.the-variants.{Found, Left}
 use Rattle.rules.proofs.Machine.{Fair}
 use Rattle.rules.specs.Operations.{decodeStep}
 use Rattle.rules.specs.declared.Html.the-variants.{Text}
@@ -20,7 +21,7 @@ use Rattle.rules.proofs.Whole.{Fifth, decode-fair, browse-fair, decode-fifth, b
 use Rattle.rules.proofs.Loops.{drop-next}
 use Rattle.rules.proofs.Quiet.{Keeps}
 use Rattle.base.proofs.Filled.{Next}
-use Rattle.base.proofs.Counted.{Counted, step-keep, counted-grow, next-quiet, next-swap}
+use Rattle.base.proofs.Counted.{Counted, Noted, step-leave, counted-grow, noted-swap, next-quiet, next-swap}
 use Rattle.base.specs.Places.{Nearest}
 use Rattle.decode_html.specs.declared.Numbers.{Numbers}
 use Rattle.decode_html.specs.declared.Numbers.the-variants.{Decoded, Browsed}
@@ -40,13 +41,13 @@ module _ (numbers : Numbers) (t : List ℕ) where
   pub quiet-next : (i p : ℕ) → Nearest t i 38 p → Next (result (from (stepBy numbers) t i)) (take (p - i) (drop i t)) (result (from (stepBy numbers) t p))
   quiet-next i p n = next-quiet (stepBy numbers) t i p (n .after) (n .within) (quiet i p n)
 
-  -- The `&` alone is kept.
-  module _ (p : ℕ) (reads : Reads numbers t p Nothing) where
-    pub alone : stepBy numbers (before t p) (drop p t) ≡ keepByte (drop p t)
-    alone = sym (reads .move (before t p))
+  -- The reference stays, and its `&` is kept.
+  module _ (p : ℕ) (w : Reason) (reads : Reads numbers t p (Left w)) where
+    pub stays : stepBy numbers (before t p) (drop p t) ≡ leave w (ascii "&")
+    stays = sym (reads .move (before t p))
 
-    pub alone-next : p < length t → getD t p 0 ≡ 38 → Next (result (from (stepBy numbers) t p)) (38 ∷ []) (result (from (stepBy numbers) t (p + 1)))
-    alone-next h amp = record { next = ap result (step-keep (stepBy numbers) t p h alone) ∙ rw amp }
+    pub stays-next : p < length t → Next (result (from (stepBy numbers) t p)) (38 ∷ []) (result (from (stepBy numbers) t (p + 1)))
+    stays-next h = record { next = ap result (step-leave (stepBy numbers) t p w h stays) }
 
   -- The reference gives way to its value.
   module _ (p : ℕ) (e : DecodedEntity) (reads : Reads numbers t p (Found e)) where
@@ -69,6 +70,9 @@ module _ (numbers : Numbers) (t : List ℕ) where
 
     pub counted-found : {n k : ℕ} → Counted (stepBy numbers) t p n k → Counted (stepBy numbers) t (e .end) (n + length (valueBytes (e .value))) (k + 1)
     counted-found c = rw here at (counted-grow c (e .end - p) (valueBytes (e .value)) some within fifth found)
+
+    pub noted-found : {l r : ℕ} → Noted (stepBy numbers) t p l r → Noted (stepBy numbers) t (e .end) l r
+    noted-found c = rw here at (noted-swap c (e .end - p) (valueBytes (e .value)) some within found)
 
     pub found-next : Next (result (from (stepBy numbers) t p)) (valueBytes (e .value)) (result (from (stepBy numbers) t (e .end)))
     found-next = rw here at (next-swap (stepBy numbers) t p (e .end - p) (valueBytes (e .value)) some within found)

@@ -2,18 +2,23 @@
 -- Assumes nothing.
 use mathlib.Core.Option.{Option, none, some}
 use mathlib.Core.Path.{_≡_}
-use mathlib.Core.List.{List}
-use Prim.Native.Nat.{ℕ, _≤_, _<_}
+use mathlib.Core.List.{List, [], _∷_}
+use Prim.Native.Nat.{ℕ, _+_, _≤_, _<_}
 use lib.ListN.{length, drop}
-use Rattle.rules.specs.Moves.{Rule}
+use Rattle.rules.specs.Moves.{Rule, reasonNumber}
 use Rattle.rules.specs.References.{decodeChar, browseChar, referenceStep, browseStep}
+use Rattle.rules.specs.Reasons.{leftsIn}
 use Rattle.rules.specs.Answers.{referenceMove}
+use Rattle.rules.specs.declared.Reason.{Reason}
 use Rattle.rules.specs.declared.DecodedEntityValue.{DecodedEntityValue}
 use Rattle.rules.specs.declared.DecodedEntityValue.the-variants.{Named, Character}
 use Rattle.rules.specs.declared.Meaning.{Meaning}
 use Rattle.rules.specs.declared.Meaning.the-variants.{Value, Nothing as NoMeaning}
 use Rattle.rules.specs.declared.Reference.{Reference}
-use Rattle.rules.specs.declared.Reference.the-variants.{Found, Nothing as NoReference}
+use Rattle.rules.specs.declared.Reference.the-variants.{Found, Left}
+use Rattle.decode_html.specs.declared.entity.Start.{Start}
+use Rattle.decode_html.specs.declared.entity.Start.the-variants.{Body, Left as LeftAt}
+use Rattle.decode_html.specs.Bodies.{Begun}
 use Rattle.decode_html.specs.declared.Numbers.{Numbers}
 use Rattle.decode_html.specs.declared.Numbers.the-variants.{Decoded, Browsed}
 
@@ -45,9 +50,25 @@ RealMeaning NoMeaning = Unit {0}
 -- A found reference starts at place i and ends in the text.
 abbrev pub Lies : List ℕ → ℕ → Reference → Type 0
 Lies t i (Found e) = (e .start ≡ i) × (i < e .end) × (e .end ≤ length t) × Real (e .value)
-Lies t i NoReference = Unit {0}
+Lies t i (Left r) = Unit {0}
 
 -- What the reference reader finds at place i is the move there, whatever the byte before.
 pub record Reads (numbers : Numbers) (t : List ℕ) (i : ℕ) (r : Reference) : Type 0 where
-  pub move : (p : ℕ) → referenceMove t i r ≡ stepBy numbers p (drop i t)
+  pub move : (p : ℕ) → referenceMove t r ≡ stepBy numbers p (drop i t)
   pub lies : Lies t i r
+
+-- What the byte after the `&` at place i tells: a body begins, or the reference stays, in decode as in browse.
+abbrev pub Starts : List ℕ → ℕ → Start → Type 0
+Starts t i Body = Begun t i
+Starts t i (LeftAt r) = (numbers : Numbers) → Reads numbers t i (Left r)
+
+-- The number of the reason why a reference stays, 0 if it does not.
+abbrev pub leftNumber : Reference → ℕ
+leftNumber (Found e) = 0
+leftNumber (Left r) = reasonNumber r
+
+-- The first reference that decode leaves from place i of a text on: its place and the number of its reason, which is 0 where there is none.
+pub record NextLeft (t : List ℕ) (i p n : ℕ) : Type 0 where
+  pub none : n ≡ 0 → leftsIn referenceStep i (drop i t) ≡ []
+  pub some : (n ≡ 0 → ⊥)
+      → (i ≤ p) × (p < length t) × (w : Reason) × (n ≡ reasonNumber w) × (leftsIn referenceStep i (drop i t) ≡ (p, w) ∷ leftsIn referenceStep (p + 1) (drop (p + 1) t))

@@ -5,19 +5,25 @@ ghost use mathlib.Core.Path.{_≡_};
 ghost use mathlib.Core.List.{[], _∷_};
 ghost use lib.Dec.{leb, eqb};
 ghost use Rattle.rules.specs.Bytes.{oneOf};
-ghost use Rattle.rules.specs.References.{digit, hexDigitAt, number, numberOf, scalar, decodeChar, renumbering, standsFor, browseChar, meaning};
-ghost use Rattle.rules.specs.Answers.{meaningBytes};
+ghost use Rattle.rules.specs.References.{digit, hexDigitAt, number, numberOf, scalar, decodeChar, renumbering, standsFor, browseChar, meaning, whyDigits, why};
+ghost use Rattle.rules.specs.declared.Reason.the-variants.{NotAllowed};
 ghost use Rattle.base.specs.Digits.{below};
-ghost use Rattle.decode_html.specs.Taking.{charBy, RealMeaning};
-ghost use Rattle.decode_html.specs.Digits.{digitBy, ceilingOf, found, capped};
+ghost use Rattle.decode_html.specs.Taking.{charBy};
+ghost use Rattle.decode_html.specs.Digits.{digitBy, ceilingOf, found, capped, Blames, Means};
 use crate::Numbers;
 use rules::DecodedEntityValue;
-use rules::Meaning;
+use rules::Reason;
 
-// The number of digits, which stays at the ceiling once it is above the last character, or none.
+// The number of digits, which stays at the ceiling once it is above the last character, or why there is none.
 enum Number {
     Is(u32),
-    Nothing,
+    Left(Reason),
+}
+
+// What a number stands for, or why it stands for nothing.
+pub enum Numbered {
+    Is(DecodedEntityValue),
+    Left(Reason),
 }
 
 // Returns the value of a digit, 255 for any other byte.
@@ -37,21 +43,21 @@ fn ceiling(number: u32) -> u32
     0x110000
 }
 
-// Reads digits in a base: nothing if there is none, or if another byte is among them. Leading zeros are free, and a number of any length is read to
-// its end.
+// Reads digits in a base. Leading zeros are free, and a number of any length is read to its end, so that a byte that is no digit is found before the
+// number is judged.
 fn read_digits(base: u32, digits: &[u8]) -> Number
     requires { ⌜ (base ≡ 10) ⊎ (base ≡ 16) ⌝ }
-    ensures { λ r. ⌜ found r ≡ capped (number (digitBy base) base (now (digits .entry))) ⌝ }
+    ensures { λ r. ⌜ (found r ≡ capped (number (digitBy base) base (now (digits .entry)))) × Blames r (whyDigits (digitBy base) base (now (digits .entry))) ⌝ }
 {
     if digits.len() == 0 {
-        return Number::Nothing;
+        return Number::Left(Reason::Empty);
     }
     let mut number: u32 = 0;
     let mut i: usize = 0;
     while i < digits.len() {
         let value = value_of(digits[i]);
         if base <= value {
-            return Number::Nothing;
+            return Number::Left(Reason::NoDigit);
         }
         number = ceiling(number * base + value);
         i += 1;
@@ -86,13 +92,13 @@ fn is_decoded(number: u32) -> bool
 }
 
 // Returns the character of a number that decode allows.
-fn decoded(number: u32) -> Meaning
-    ensures { λ r. ⌜ (meaningBytes r ≡ decodeChar number) × RealMeaning r ⌝ }
+fn decoded(number: u32) -> Numbered
+    ensures { λ r. ⌜ Means r (decodeChar number) NotAllowed ⌝ }
 {
     if is_decoded(number) {
-        return Meaning::Value(DecodedEntityValue::Character(number));
+        return Numbered::Is(DecodedEntityValue::Character(number));
     }
-    Meaning::Nothing
+    Numbered::Left(Reason::NotAllowed)
 }
 
 // Returns the number that a number stands for in browse. The two tests come first, since nearly every number ends there.
@@ -138,21 +144,21 @@ fn stands_for(number: u32) -> u32
 }
 
 // Returns the character of a number as a browser takes it: U+FFFD if it is 0 or no character.
-fn browsed(number: u32) -> Meaning
-    ensures { λ r. ⌜ (meaningBytes r ≡ browseChar number) × RealMeaning r ⌝ }
+fn browsed(number: u32) -> Numbered
+    ensures { λ r. ⌜ Means r (browseChar number) NotAllowed ⌝ }
 {
     if number == 0 {
-        return Meaning::Value(DecodedEntityValue::Character(0xFFFD));
+        return Numbered::Is(DecodedEntityValue::Character(0xFFFD));
     }
     if is_scalar(number) {
-        return Meaning::Value(DecodedEntityValue::Character(stands_for(number)));
+        return Numbered::Is(DecodedEntityValue::Character(stands_for(number)));
     }
-    Meaning::Value(DecodedEntityValue::Character(0xFFFD))
+    Numbered::Is(DecodedEntityValue::Character(0xFFFD))
 }
 
 // Returns the character of a number.
-fn decode_character(numbers: Numbers, number: u32) -> Meaning
-    ensures { λ r. ⌜ (meaningBytes r ≡ charBy numbers number) × RealMeaning r ⌝ }
+fn decode_character(numbers: Numbers, number: u32) -> Numbered
+    ensures { λ r. ⌜ Means r (charBy numbers number) NotAllowed ⌝ }
 {
     match numbers {
         Numbers::Decoded => decoded(number),
@@ -169,10 +175,10 @@ fn is_hex_mark(b: u8) -> bool
 
 // Reads the number of a body from after its `#` on: decimal digits, or hex digits after `x` or `X`.
 fn read_number(body: &[u8]) -> Number
-    ensures { λ r. ⌜ found r ≡ capped (numberOf (35 ∷ now (body .entry))) ⌝ }
+    ensures { λ r. ⌜ (found r ≡ capped (numberOf (35 ∷ now (body .entry)))) × Blames r (why (35 ∷ now (body .entry))) ⌝ }
 {
     if body.len() == 0 {
-        return Number::Nothing;
+        return Number::Left(Reason::Empty);
     }
     if is_hex_mark(body[0]) {
         return read_digits(16, &body[1..]);
@@ -180,12 +186,12 @@ fn read_number(body: &[u8]) -> Number
     read_digits(10, body)
 }
 
-// Returns what a body stands for that begins with `#`; `body` is what follows.
-pub fn decode_number(numbers: Numbers, body: &[u8]) -> Meaning
-    ensures { λ r. ⌜ (meaningBytes r ≡ meaning (charBy numbers) (35 ∷ now (body .entry))) × RealMeaning r ⌝ }
+// Returns what a body stands for that begins with `#`, or why it stands for nothing; `body` is what follows.
+pub fn decode_number(numbers: Numbers, body: &[u8]) -> Numbered
+    ensures { λ r. ⌜ Means r (meaning (charBy numbers) (35 ∷ now (body .entry))) (why (35 ∷ now (body .entry))) ⌝ }
 {
-    let Number::Is(n) = read_number(body) else {
-        return Meaning::Nothing;
-    };
-    decode_character(numbers, n)
+    match read_number(body) {
+        Number::Is(n) => decode_character(numbers, n),
+        Number::Left(reason) => Numbered::Left(reason),
+    }
 }

@@ -1,37 +1,42 @@
 // The reader of the reference at an `&`.
-ghost use mathlib.Core.Bool.{true, false, cond};
+ghost use mathlib.Core.Bool.{cond};
 ghost use mathlib.Core.Path.{_≡_};
 ghost use Prim.Native.Nat.{_+_, _≤_, _<_};
 ghost use lib.ListN.{length, getD};
-ghost use Rattle.rules.specs.References.{meaning};
-ghost use Rattle.rules.specs.Answers.{meaningBytes};
-ghost use Rattle.rules.specs.declared.Reference.the-variants.{Nothing};
-ghost use Rattle.decode_html.specs.declared.Numbers.{Numbers};
-ghost use Rattle.decode_html.specs.Taking.{charBy, RealMeaning, Reads};
+ghost use Rattle.rules.specs.Moves.{reasonNumber};
+ghost use Rattle.decode_html.specs.Taking.{Reads, Starts, leftNumber};
 ghost use Rattle.decode_html.specs.Bodies.{Begun, Ends, Known, knownValue};
 use crate::Numbers;
 use crate::digits;
+use crate::digits::Numbered;
 use rules::DecodedEntity;
 use rules::DecodedEntityValue;
 use rules::Meaning;
+use rules::Reason;
 use rules::Reference;
 
-// Reports whether the `&` at `start` begins no reference, by the byte after it: there is none, or it is `&` or `;`.
-fn is_bare(text: &[u8], start: usize) -> bool
+// What follows an `&`: a body, or the reason why the reference stays.
+enum Start {
+    Body,
+    Left(Reason),
+}
+
+// Looks at the byte after the `&` at `start`: a body begins there unless there is none, or it is `&` or `;`.
+fn start_of(text: &[u8], start: usize) -> Start
     requires { ⌜ (start < length (now text)) × (getD (now text) start 0 ≡ 38) ⌝ }
-    ensures { λ r. ⌜ (r ≡ true → (numbers : Numbers) → Reads numbers (now (text .entry)) start Nothing) × (r ≡ false → Begun (now (text .entry)) start) ⌝ }
+    ensures { λ r. ⌜ Starts (now (text .entry)) start r ⌝ }
 {
     let first = start + 1;
     if first == text.len() {
-        return true;
+        return Start::Left(Reason::NoEnd);
     }
     if text[first] == b'&' {
-        return true;
+        return Start::Left(Reason::NoEnd);
     }
     if text[first] == b';' {
-        return true;
+        return Start::Left(Reason::Empty);
     }
-    false
+    Start::Body
 }
 
 // Returns `size` if the test holds, else 0.
@@ -101,17 +106,17 @@ fn find_number(numbers: Numbers, text: &[u8], start: usize) -> Reference
     let first = start + 1;
     let end = body_end(text, first + 1);
     if end == text.len() {
-        return Reference::Nothing;
+        return Reference::Left(Reason::NoEnd);
     }
     let digits = first + 1;
-    let Meaning::Value(value) = digits::decode_number(numbers, &text[digits..end]) else {
-        return Reference::Nothing;
-    };
-    Reference::Found(DecodedEntity {
-        start: start,
-        end: end + 1,
-        value: value,
-    })
+    match digits::decode_number(numbers, &text[digits..end]) {
+        Numbered::Is(value) => Reference::Found(DecodedEntity {
+            start: start,
+            end: end + 1,
+            value: value,
+        }),
+        Numbered::Left(reason) => Reference::Left(reason),
+    }
 }
 
 // Reads the reference of a name at `start`; the first byte of its body is known to be neither `&` nor `;` nor `#`.
@@ -122,10 +127,10 @@ fn find_name(numbers: Numbers, text: &[u8], start: usize) -> Reference
     let first = start + 1;
     let end = body_end(text, first + 1);
     if end == text.len() {
-        return Reference::Nothing;
+        return Reference::Left(Reason::NoEnd);
     }
     let Meaning::Value(value) = names::decode_named_entity(&text[first..end]) else {
-        return Reference::Nothing;
+        return Reference::Left(Reason::UnknownName);
     };
     Reference::Found(DecodedEntity {
         start: start,
@@ -134,14 +139,11 @@ fn find_name(numbers: Numbers, text: &[u8], start: usize) -> Reference
     })
 }
 
-// Reads the reference that begins with the `&` at `start`, or finds nothing: then the `&` is copied.
-pub fn find_decoded_entity(numbers: Numbers, text: &[u8], start: usize) -> Reference
-    requires { ⌜ (start < length (now text)) × (getD (now text) start 0 ≡ 38) ⌝ }
+// Reads the reference at `start` whose body begins with a byte that does not end it.
+fn find_body(numbers: Numbers, text: &[u8], start: usize) -> Reference
+    requires { ⌜ (getD (now text) start 0 ≡ 38) × Begun (now text) start ⌝ }
     ensures { λ r. ⌜ Reads numbers (now (text .entry)) start r ⌝ }
 {
-    if is_bare(text, start) {
-        return Reference::Nothing;
-    }
     let letter = text[start + 1];
     if letter == b'#' {
         return find_number(numbers, text, start);
@@ -155,4 +157,38 @@ pub fn find_decoded_entity(numbers: Numbers, text: &[u8], start: usize) -> Refer
         end: start + length,
         value: DecodedEntityValue::Named(known_value(letter)),
     })
+}
+
+// Reads the reference that begins with the `&` at `start`, or tells why it stays: then the `&` is copied.
+pub fn find_decoded_entity(numbers: Numbers, text: &[u8], start: usize) -> Reference
+    requires { ⌜ (start < length (now text)) × (getD (now text) start 0 ≡ 38) ⌝ }
+    ensures { λ r. ⌜ Reads numbers (now (text .entry)) start r ⌝ }
+{
+    match start_of(text, start) {
+        Start::Left(reason) => Reference::Left(reason),
+        Start::Body => find_body(numbers, text, start),
+    }
+}
+
+// Returns the number of a reason.
+fn reason_number(reason: Reason) -> usize
+    ensures { λ r. ⌜ r ≡ reasonNumber reason ⌝ }
+{
+    match reason {
+        Reason::NoEnd => 1,
+        Reason::Empty => 2,
+        Reason::UnknownName => 3,
+        Reason::NoDigit => 4,
+        Reason::NotAllowed => 5,
+    }
+}
+
+// Returns the number of the reason why a reference stays, 0 if it does not.
+pub fn number_of(reference: Reference) -> usize
+    ensures { λ r. ⌜ r ≡ leftNumber reference ⌝ }
+{
+    match reference {
+        Reference::Found(_) => 0,
+        Reference::Left(reason) => reason_number(reason),
+    }
 }

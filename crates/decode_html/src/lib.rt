@@ -1,11 +1,13 @@
 // The decoder of character references, html-escape's decode/html_entity: decode and browse in the HTML seven.
+ghost use mathlib.Core.Bool.{cond};
 ghost use mathlib.Core.Path.{_≡_};
 ghost use Prim.Native.Nat.{_≤_};
+ghost use lib.Dec.{eqb};
 ghost use lib.ListN.{length};
 ghost use Rattle.rules.specs.Bytes.{over};
 ghost use Rattle.rules.specs.Moves.{through, result};
 ghost use Rattle.rules.specs.Answers.{Measures};
-ghost use Rattle.decode_html.specs.Taking.{stepBy};
+ghost use Rattle.decode_html.specs.Taking.{stepBy, NextLeft};
 
 mod characters;
 mod digits;
@@ -20,6 +22,19 @@ pub enum Numbers {
     Browsed,
 }
 
+// A reference that stays: its place and the number of the reason; 0 and 0 where there is none.
+pub struct Left {
+    pub place: usize,
+    pub reason: usize,
+}
+
+// Returns what was noted of the first reference that stays, or else what is to be noted.
+fn kept(reason: usize, noted: usize, new: usize) -> usize
+    ensures { λ r. ⌜ r ≡ cond (eqb reason 0) new noted ⌝ }
+{
+    if reason == 0 { new } else { noted }
+}
+
 // Measures the decoding of a text. Bytes before the next `&` are skipped together; a reference counts as the bytes of its value.
 pub fn measure(numbers: Numbers, text: &[u8]) -> Measured
     requires { ⌜ length (now text) ≤ 65536 ⌝ }
@@ -27,6 +42,8 @@ pub fn measure(numbers: Numbers, text: &[u8]) -> Measured
 {
     let mut length: usize = 0;
     let mut references: usize = 0;
+    let mut left: usize = 0;
+    let mut reason: usize = 0;
     let mut i: usize = 0;
     while i < text.len() {
         if text[i] != b'&' {
@@ -35,7 +52,10 @@ pub fn measure(numbers: Numbers, text: &[u8]) -> Measured
             i = next;
             continue;
         }
-        let Reference::Found(found) = entity::find_decoded_entity(numbers, text, i) else {
+        let reference = entity::find_decoded_entity(numbers, text, i);
+        let Reference::Found(found) = reference else {
+            left = kept(reason, left, i);
+            reason = kept(reason, reason, entity::number_of(reference));
             length += 1;
             i += 1;
             continue;
@@ -49,6 +69,8 @@ pub fn measure(numbers: Numbers, text: &[u8]) -> Measured
         length,
         place: i,
         replaced: references,
+        left,
+        reason,
     }
 }
 
@@ -60,6 +82,8 @@ pub fn write(numbers: Numbers, text: &[u8], output: &mut [u8]) -> Measured
 {
     let mut at: usize = 0;
     let mut references: usize = 0;
+    let mut left: usize = 0;
+    let mut reason: usize = 0;
     let mut i: usize = 0;
     while i < text.len() {
         if text[i] != b'&' {
@@ -68,7 +92,10 @@ pub fn write(numbers: Numbers, text: &[u8], output: &mut [u8]) -> Measured
             i = next;
             continue;
         }
-        let Reference::Found(found) = entity::find_decoded_entity(numbers, text, i) else {
+        let reference = entity::find_decoded_entity(numbers, text, i);
+        let Reference::Found(found) = reference else {
+            left = kept(reason, left, i);
+            reason = kept(reason, reason, entity::number_of(reference));
             at += base::put(b"&", &mut output[at..]);
             i += 1;
             continue;
@@ -82,5 +109,26 @@ pub fn write(numbers: Numbers, text: &[u8], output: &mut [u8]) -> Measured
         length: at,
         place: i,
         replaced: references,
+        left,
+        reason,
+    }
+}
+
+// Finds the first reference from `from` on that decode leaves. Since no body has an `&`, each `&` is looked at.
+pub fn next_left(text: &[u8], from: usize) -> Left
+    requires { ⌜ from ≤ length (now text) ⌝ }
+    ensures { λ r. ⌜ NextLeft (now (text .entry)) from (r .place) (r .reason) ⌝ }
+{
+    let mut i = base::find::find_byte(text, from, b'&');
+    while i < text.len() {
+        let reason = entity::number_of(entity::find_decoded_entity(Numbers::Decoded, text, i));
+        if reason != 0 {
+            return Left { place: i, reason };
+        }
+        i = base::find::find_byte(text, i + 1, b'&');
+    }
+    Left {
+        place: 0,
+        reason: 0,
     }
 }

@@ -17,7 +17,7 @@ use Rattle.rules.specs.Escapes.{afterLess, escapeBy}
 use Rattle.rules.specs.Operations.{decodeStep}
 use Rattle.rules.specs.Contexts.{stringOf}
 use Rattle.rules.specs.Tables.{Row, value, slashed, hexRow, rows}
-use Rattle.rules.specs.Moves.{keep, swap, before}
+use Rattle.rules.specs.Moves.{keep, swap, firstOf, firstLeft, through, before}
 use Rattle.rules.specs.Utf8.{utf8}
 use Rattle.rules.specs.declared.Context.the-variants.{InScript, InStyle}
 use Rattle.rules.specs.declared.Language.{Language}
@@ -29,6 +29,7 @@ use Rattle.rules.specs.declared.Escape.the-variants.{Taken, Nothing}
 use Rattle.rules.proofs.Tests.{and-both, or-cases, all-in, any-intro}
 use Rattle.rules.proofs.EveryByte.{every-byte}
 use Rattle.rules.proofs.Decoder.{at-mark}
+use Rattle.rules.proofs.Reasons.{no-lefts, escape-leaveless}
 use Rattle.rules.proofs.Loops.{drop-next}
 use Rattle.rules.proofs.Quiet.{Keeps}
 use Rattle.base.proofs.Filled.{lent-rest}
@@ -324,3 +325,9 @@ no-separator s h = finds-later (none (value lineSeparator) (omega arith) refl) (
         go : (b : Bool) → stands v s ≡ b → b ≡ false
         go true t = absurd (h (slash-taken s 0x75 (stands-take v s 2 l t ∙ e)))
         go false t = refl
+
+-- No reference stays in a string.
+pub none-left : (language : Language) (q : Quotes) (t : List ℕ) → firstLeft (through (decodeStep (stringOf language q)) t) ≡ (0, 0)
+unfolding decodeStep
+none-left Script q t = ap firstOf (no-lefts (decodeStep (InScript q)) (escape-leaveless (ascii "script") (rows (InScript q))) 0 0 0 t)
+none-left Style q t = ap firstOf (no-lefts (decodeStep (InStyle q)) (escape-leaveless (ascii "style") (rows (InStyle q))) 0 0 0 t)

@@ -128,6 +128,8 @@ pub fn measure(language: Language, quotes: Quotes, text: &[u8]) -> Measured
         length,
         place: i,
         replaced: escapes,
+        left: 0,
+        reason: 0,
     }
 }
 
@@ -168,5 +170,7 @@ pub fn write(language: Language, quotes: Quotes, text: &[u8], output: &mut [u8])
         length: at,
         place: i,
         replaced: escapes,
+        left: 0,
+        reason: 0,
     }
 }

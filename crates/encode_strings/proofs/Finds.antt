@@ -13,7 +13,7 @@ use borrow.Author.Tests.{ne-eqb, lt-ltb, le-ltb, eqb-true, eqb-false, ltb-true, 
 use lib.Dec.{T, eqb, leb, ltb, eqb→eq, leb→le}
 use lib.ListN.{length, drop, getD}
 use Rattle.rules.specs.Bytes.{ascii, inside, stands, sameBytes}
-use Rattle.rules.specs.Moves.{Move, keep, swap, stop, takes, gives, replaced}
+use Rattle.rules.specs.Moves.{Move, keep, swap, leave, stop, takes, gives, replaced}
 use Rattle.rules.specs.Tables.{Row, rowAt, key, value, table, lineSeparator, paragraphSeparator}
 use Rattle.rules.specs.Encoding.{write, keepByte, encodeStep}
 use Rattle.rules.specs.Answers.{replacementMove, replacedMove}
@@ -35,26 +35,34 @@ use Rattle.rules.specs.declared.Language.the-variants.{Script, Style}
 abbrev sameMove : Move → Move → Bool
 sameMove (keep a) (keep b) = sameBytes a b
 sameMove (keep a) (swap c d) = false
+sameMove (keep a) (leave r c) = false
 sameMove (keep a) stop = false
 sameMove (swap a b) (keep c) = false
 sameMove (swap a b) (swap c d) = sameBytes a c && sameBytes b d
+sameMove (swap a b) (leave r c) = false
 sameMove (swap a b) stop = false
+sameMove (leave r a) m = false
 sameMove stop (keep a) = false
 sameMove stop (swap a b) = false
+sameMove stop (leave r c) = false
 sameMove stop stop = true
 
 same-move : (m n : Move) → T (sameMove m n) → m ≡ n
 same-move (keep a) (keep b) t = ap keep (same-bytes a b t)
 same-move (keep a) (swap c d) t = absurd t
+same-move (keep a) (leave r c) t = absurd t
 same-move (keep a) stop t = absurd t
 same-move (swap a b) (keep c) t = absurd t
 same-move (swap a b) (swap c d) t =
     let e = same-bytes a c (and-left (sameBytes a c) (sameBytes b d) t) in
     let f = same-bytes b d (and-right (sameBytes a c) (sameBytes b d) t) in
     λ i. swap (e i) (f i)
+same-move (swap a b) (leave r c) t = absurd t
 same-move (swap a b) stop t = absurd t
+same-move (leave r a) m t = absurd t
 same-move stop (keep a) t = absurd t
 same-move stop (swap a b) t = absurd t
+same-move stop (leave r c) t = absurd t
 same-move stop stop t = refl
 
 -- ---- the test

@@ -5,14 +5,16 @@ use mathlib.Core.List.{List}
 use Prim.Native.Nat.{ℕ, _+_, _-_, _*_, _≤_}
 use native.Mathlib.Omega.{arith}
 use lib.ListN.{length, take, drop, drop-of-length-le}
-use Rattle.rules.specs.Moves.{through, replaced}
+use Rattle.rules.specs.Moves.{through, replaced, firstOf, firstLeft}
 use Rattle.rules.specs.Contexts.{stringOf}
 use Rattle.rules.specs.Encoding.{encodeStep}
 use Rattle.rules.specs.Operations.{encodeOf}
+use Rattle.rules.specs.declared.Reason.{Reason}
 use Rattle.rules.specs.Answers.{Measures}
 use Rattle.rules.specs.declared.Language.{Language}
 use Rattle.rules.specs.declared.Quotes.{Quotes}
 use Rattle.rules.proofs.Growth.{encode-whole, encode-six}
+use Rattle.rules.proofs.Reasons.{no-lefts, encode-leaveless}
 use Rattle.base.proofs.Part.{part-length}
 use Rattle.encode_strings.specs.Strings.{Apart}
 use Rattle.encode_strings.proofs.Cuts.{next-length, next-replaced}
@@ -31,17 +33,24 @@ module _ (language : Language) (quotes : Quotes) where
     pub many : k + hits (drop i t) ≡ hits t
 
   module _ (t : List ℕ) where
+    -- No reference is left, since an encoder knows none.
+    pub none-left : (0 ≡ firstLeft (through (encodeStep (stringOf language quotes)) t) .0) × (0 ≡ firstLeft (through (encodeStep (stringOf language quotes)) t) .1)
+    none-left =
+        let alone = no-lefts (encodeStep (stringOf language quotes)) (encode-leaveless (stringOf language quotes)) 0 0 0 t in
+        (ap (λ (ls : List (ℕ × Reason)). firstOf ls .0) (sym alone), ap (λ (ls : List (ℕ × Reason)). firstOf ls .1) (sym alone))
+
     pub gone-start : Gone t 0 0 0
     gone-start = record { inside = omega arith; few = omega arith; long = omega arith; many = omega arith }
 
     -- At the end they are what a pass over the text finds.
-    pub gone-end : {i n k : ℕ} → Gone t i n k → length t ≤ i → Measures (record { length = n; place = i; replaced = k }) (through (encodeStep (stringOf language quotes)) t)
+    pub gone-end : {i n k : ℕ} → Gone t i n k → length t ≤ i → Measures (record { length = n; place = i; replaced = k; left = 0; reason = 0 }) (through (encodeStep (stringOf language quotes)) t)
     gone-end {i} {n} {k} g h =
         let none = drop-of-length-le t {i = i} h in
         record {
           long = omega (arith, g .long, ap size none);
           reach = let e : i ≡ length t = omega (arith, g .inside, h) in e ∙ sym (ap length (encode-whole (stringOf language quotes) t));
           many = omega (arith, g .many, ap hits none);
+          first = none-left;
         }
 
     module _ {i n k : ℕ} (g : Gone t i n k) (e : ℕ) (h : i ≤ e) (l : e ≤ length t) (apart : Apart t e) where

@@ -54,6 +54,8 @@ pub fn measure(language: Language, quotes: Quotes, text: &[u8]) -> Measured
         length: n,
         place: i,
         replaced: places,
+        left: 0,
+        reason: 0,
     }
 }
 
@@ -68,6 +70,8 @@ fn write_part(language: Language, quotes: Quotes, part: &[u8], output: &mut [u8]
             length: base::put(part, output),
             place: part.len(),
             replaced: 0,
+            left: 0,
+            reason: 0,
         };
     }
     let written = escapes::write_bytes(language, quotes, part, output);
@@ -75,6 +79,8 @@ fn write_part(language: Language, quotes: Quotes, part: &[u8], output: &mut [u8]
         length: written,
         place: part.len(),
         replaced: growth::places(language, found, written - part.len()),
+        left: 0,
+        reason: 0,
     }
 }
 
@@ -97,5 +103,7 @@ pub fn write(language: Language, quotes: Quotes, text: &[u8], output: &mut [u8])
         length: at,
         place: i,
         replaced: places,
+        left: 0,
+        reason: 0,
     }
 }

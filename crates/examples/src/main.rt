@@ -1,5 +1,5 @@
 // Runs the examples of RULES 16 through the public calls, copying and borrowing, and prints what each answers: the number of the example,
-// status, length, same, replaced and place of the two calls, and what view gives of each, in hex.
+// status, length, same, replaced, place, left and reason of the two calls, and what view gives of each, in hex.
 use libc::STDOUT_FILENO;
 use lintelrye::Answer;
 use lintelrye::Operation;
@@ -10,13 +10,15 @@ fn print_number(n: usize) {
     io::write_all(STDOUT_FILENO, b" ");
 }
 
-// Prints an answer's five numbers.
+// Prints an answer's seven numbers.
 fn print_answer(answer: Answer) {
     print_number(answer.status);
     print_number(answer.length);
     print_number(answer.same);
     print_number(answer.replaced);
     print_number(answer.place);
+    print_number(answer.left);
+    print_number(answer.reason);
 }
 
 // The byte as a number.

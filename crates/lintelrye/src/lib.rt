@@ -1,11 +1,14 @@
 // Lintelrye: HTML escaping and unescaping with proofs. No call allocates, panics or fails to end, and no caller has to check anything first.
 //
-// Each call takes a context by its number, a text, and an output buffer that the caller lends, and returns five numbers:
+// Each call takes a context by its number, a text, and an output buffer that the caller lends, and returns seven numbers:
 //   status    0, or the first refusal of the table below that applies;
 //   length    the length of the result (after NO_ROOM the length needed, after any other refusal 0);
 //   same      1 exactly if nothing was replaced, so that the result is the text;
 //   replaced  how many places were replaced: characters by encode and take, references or escapes by decode and browse (after a refusal 0);
-//   place     after NOT_UTF8, CUT_SHORT and NOT_A_FORM the length of the longest correct prefix of the text, else 0.
+//   place     after NOT_UTF8, CUT_SHORT and NOT_A_FORM the length of the longest correct prefix of the text, else 0;
+//   left      decode and browse in the HTML contexts: the place of the `&` of the first reference that stayed, 0 if none did (after a refusal 0);
+//   reason    why it stayed: 1 no `;` before the next `&` or the end, 2 an empty body, 3 an unknown name, 4 a byte that is no digit, 5 a number that is
+//             not allowed; 0 if none did (after a refusal 0).
 // After status 0 the first `length` bytes of the output are the result and the other bytes keep their values; after a refusal all keep them.
 // A borrowing call does not write, and needs no room, where nothing is replaced: `view` then returns the text itself.
 // The operation read, which undoes what encode writes, has two calls beside each other: `check` takes no output and returns status, length and place;
@@ -27,7 +30,7 @@
 //   - `script_raw` is for the whole text of a script element, in one call: parts that are escaped one by one can still close the element. It is no JSON
 //     encoder: it keeps the text from closing the element, and does not make a string or a value of it.
 //
-// The contracts cite the definitions of crates/rules/specs: `Allowed` (Refusals.antt) fixes the five numbers and every byte of the output,
+// The contracts cite the definitions of crates/rules/specs: `Allowed` (Refusals.antt) fixes the seven numbers and every byte of the output,
 // by the rule of the operation in the context (Operations.antt); `checkOf` (Refusals.antt) fixes what `check` answers.
 pub mod labels;
 

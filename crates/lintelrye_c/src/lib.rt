@@ -13,7 +13,7 @@ use lintelrye::Closing;
 
 // Escapes `text` for `context`: `lintelrye::encode`.
 #[no_mangle]
-pub extern "C" fn lintelrye_encode_5(context: u32, text: &[u8], output: &mut [u8]) -> Answer
+pub extern "C" fn lintelrye_encode_7(context: u32, text: &[u8], output: &mut [u8]) -> Answer
     ensures { λ r. ⌜ Allowed Encode (contextOf context) false (now (text .entry)) (now (output .entry)) r (now (output .exit)) ⌝ }
 {
     lintelrye::encode(context, text, output)
@@ -21,7 +21,7 @@ pub extern "C" fn lintelrye_encode_5(context: u32, text: &[u8], output: &mut [u8
 
 // The same as a borrowing call: `lintelrye::encode_borrowing`.
 #[no_mangle]
-pub extern "C" fn lintelrye_encode_borrowing_5(
+pub extern "C" fn lintelrye_encode_borrowing_7(
     context: u32,
     text: &[u8],
     output: &mut [u8],
@@ -33,7 +33,7 @@ pub extern "C" fn lintelrye_encode_borrowing_5(
 
 // Undoes the replacements as html-escape does: `lintelrye::decode`.
 #[no_mangle]
-pub extern "C" fn lintelrye_decode_5(context: u32, text: &[u8], output: &mut [u8]) -> Answer
+pub extern "C" fn lintelrye_decode_7(context: u32, text: &[u8], output: &mut [u8]) -> Answer
     ensures { λ r. ⌜ Allowed Decode (contextOf context) false (now (text .entry)) (now (output .entry)) r (now (output .exit)) ⌝ }
 {
     lintelrye::decode(context, text, output)
@@ -41,7 +41,7 @@ pub extern "C" fn lintelrye_decode_5(context: u32, text: &[u8], output: &mut [u8
 
 // The same as a borrowing call: `lintelrye::decode_borrowing`.
 #[no_mangle]
-pub extern "C" fn lintelrye_decode_borrowing_5(
+pub extern "C" fn lintelrye_decode_borrowing_7(
     context: u32,
     text: &[u8],
     output: &mut [u8],
@@ -61,7 +61,7 @@ pub extern "C" fn lintelrye_check(context: u32, text: &[u8]) -> Checked
 
 // Undoes exactly what encode writes: `lintelrye::take`.
 #[no_mangle]
-pub extern "C" fn lintelrye_take_5(context: u32, text: &[u8], output: &mut [u8]) -> Answer
+pub extern "C" fn lintelrye_take_7(context: u32, text: &[u8], output: &mut [u8]) -> Answer
     ensures { λ r. ⌜ Allowed Read (contextOf context) false (now (text .entry)) (now (output .entry)) r (now (output .exit)) ⌝ }
 {
     lintelrye::take(context, text, output)
@@ -69,7 +69,7 @@ pub extern "C" fn lintelrye_take_5(context: u32, text: &[u8], output: &mut [u8])
 
 // The same as a borrowing call: `lintelrye::take_borrowing`.
 #[no_mangle]
-pub extern "C" fn lintelrye_take_borrowing_5(context: u32, text: &[u8], output: &mut [u8]) -> Answer
+pub extern "C" fn lintelrye_take_borrowing_7(context: u32, text: &[u8], output: &mut [u8]) -> Answer
     ensures { λ r. ⌜ Allowed Read (contextOf context) true (now (text .entry)) (now (output .entry)) r (now (output .exit)) ⌝ }
 {
     lintelrye::take_borrowing(context, text, output)
@@ -77,7 +77,7 @@ pub extern "C" fn lintelrye_take_borrowing_5(context: u32, text: &[u8], output: 
 
 // Undoes character references, with numbers as a browser reads them: `lintelrye::browse`.
 #[no_mangle]
-pub extern "C" fn lintelrye_browse_5(context: u32, text: &[u8], output: &mut [u8]) -> Answer
+pub extern "C" fn lintelrye_browse_7(context: u32, text: &[u8], output: &mut [u8]) -> Answer
     ensures { λ r. ⌜ Allowed Browse (contextOf context) false (now (text .entry)) (now (output .entry)) r (now (output .exit)) ⌝ }
 {
     lintelrye::browse(context, text, output)
@@ -85,7 +85,7 @@ pub extern "C" fn lintelrye_browse_5(context: u32, text: &[u8], output: &mut [u8
 
 // The same as a borrowing call: `lintelrye::browse_borrowing`.
 #[no_mangle]
-pub extern "C" fn lintelrye_browse_borrowing_5(
+pub extern "C" fn lintelrye_browse_borrowing_7(
     context: u32,
     text: &[u8],
     output: &mut [u8],

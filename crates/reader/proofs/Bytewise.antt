@@ -12,7 +12,7 @@ use lib.Dec.{T, eqb, eqb→eq, T-not}
 use lib.ListN.{length, drop}
 use lib.Seq.{drop-append-seam}
 use Rattle.rules.specs.Bytes.{All, all, join, stands, Range}
-use Rattle.rules.specs.Moves.{Move, keep, swap, stop, takes, andThen, moves, result, replaced, place, through, from}
+use Rattle.rules.specs.Moves.{Move, keep, swap, stop, takes, andThen, moves, result, replaced, firstOf, firstLeft, place, through, from}
 use Rattle.rules.specs.Utf8.{IsChar, IsText, sequenceAt, keepChar, validTo}
 use Rattle.rules.specs.Tables.{Row, rowAt, value, rows, replacedChars}
 use Rattle.rules.specs.Units.{IsUnit}
@@ -22,8 +22,8 @@ use Rattle.rules.specs.Reading.{undo, unless, readStep}
 use Rattle.rules.specs.Operations.{readOf, readTo}
 use Rattle.rules.specs.declared.Context.{Context}
 use Rattle.rules.proofs.Tests.{and-left, is-false, all-in, any-in}
-use Rattle.rules.proofs.Machine.{Makes, Follows, Ends, singly, cut, follows-cut, retrace, moves-fair, taken-cut, result-cut}
-use Rattle.rules.proofs.Quiet.{replaced-singly}
+use Rattle.rules.proofs.Machine.{Makes, Follows, Ends, singly, cut, follows-cut, retrace, moves-fair, taken-cut, result-cut, replaced-cut}
+use Rattle.rules.proofs.Reasons.{no-lefts, read-leaveless}
 use Rattle.rules.proofs.Codes.{Reads}
 use Rattle.rules.proofs.Chars.{isTail, char-unique, char-singly, sequence-of-char, sequence-pos, pred-of}
 use Rattle.rules.proofs.Tables.{barred, bar-stops, row-length, row-first, table-reads}
@@ -58,12 +58,6 @@ text-begins x s ([], f, q) e = suc-ne-zero (length s) (ap length q)
 text-begins x s (a ∷ cs, f, q) e = Option·none-ne-some (f .0 .0) (sym e ∙ ap sequenceAt q ∙ sequence-of-char a (join cs) (f .0))
 
 -- ---- the moves
-
-replaced-cut : (ms : List Move) → replaced (cut ms) ≡ replaced ms
-replaced-cut [] = refl
-replaced-cut (keep a ∷ ms) = replaced-singly a (cut ms) ∙ replaced-cut ms
-replaced-cut (swap a b ∷ ms) = ap suc (replaced-cut ms)
-replaced-cut (stop ∷ ms) = replaced-cut ms
 
 -- No replaced character begins with a byte 80 to BF.
 abbrev leads : List ℕ → Bool
@@ -119,7 +113,7 @@ module _ (c : Context) where
       let (cs, f, q) = valid-iff t .1 h in
       let (ds, f′, q′) = run-text c ms g in
       let left = text-rest ds cs r f′ f (ap (λ (a : List ℕ). a ++ r) (sym q′) ∙ sym e ∙ q) in
-      let (p, w) = retrace (byteStep c) 0 (cut ms) r (follows-cut (byteStep c) (IsUnit (rows c) (replacedChars c)) byte-keeps byte-swaps ms g r) in
+      let (p, w) = retrace (byteStep c) 0 (cut ms) r (follows-cut (byteStep c) (IsUnit (rows c) (replacedChars c)) byte-keeps byte-swaps (λ w a u. u) ms g r) in
       ap (through (byteStep c)) (e ∙ ap (λ (a : List ℕ). a ++ r) (sym (taken-cut ms))) ∙ w ∙ ap (λ (ns : List Move). cut ms ++ ns) (byte-stops r left end p) ∙ append-nil (cut ms)
 
   pub byte-result : (t : List ℕ) → validTo t ≡ length t → result (through (byteStep c) t) ≡ readOf c t
@@ -133,7 +127,13 @@ module _ (c : Context) where
 
   -- A loop that has counted all of the one reader's moves has found what a pass of the other finds.
   pub read-measures : (t : List ℕ) (i n k : ℕ) → validTo t ≡ length t → Counted (byteStep c) t i n k → from (byteStep c) t i ≡ []
-      → Measures (record { length = n; place = i; replaced = k }) (through (readStep c) t)
+      → Measures (record { length = n; place = i; replaced = k; left = 0; reason = 0 }) (through (readStep c) t)
   read-measures t i n k h f e =
       let (long, many, far) = counted-end f e in
-      record { long = long ∙ ap length (byte-result t h); reach = far ∙ byte-place t h; many = many ∙ byte-replaced t h }
+      let none : firstLeft (through (readStep c) t) ≡ (0, 0) = ap firstOf (no-lefts (readStep c) (read-leaveless c) 0 0 0 t) in
+      record {
+        long = long ∙ ap length (byte-result t h);
+        reach = far ∙ byte-place t h;
+        many = many ∙ byte-replaced t h;
+        first = (ap (λ (p : ℕ × ℕ). p .0) (sym none), ap (λ (p : ℕ × ℕ). p .1) (sym none));
+      }

@@ -37,6 +37,8 @@ pub fn measure(c: Context, text: &[u8]) -> Measured
                     length,
                     place: i,
                     replaced: units,
+                    left: 0,
+                    reason: 0,
                 };
             }
             length += e - i;
@@ -49,6 +51,8 @@ pub fn measure(c: Context, text: &[u8]) -> Measured
                 length,
                 place: i,
                 replaced: units,
+                left: 0,
+                reason: 0,
             };
         };
         length += base::chars::char_length(ch);
@@ -59,6 +63,8 @@ pub fn measure(c: Context, text: &[u8]) -> Measured
         length,
         place: i,
         replaced: units,
+        left: 0,
+        reason: 0,
     }
 }
 
@@ -82,6 +88,8 @@ pub fn write(c: Context, text: &[u8], output: &mut [u8]) -> Measured
                     length: at,
                     place: i,
                     replaced: units,
+                    left: 0,
+                    reason: 0,
                 };
             }
             at += base::put(&text[i..e], &mut output[at..]);
@@ -93,6 +101,8 @@ pub fn write(c: Context, text: &[u8], output: &mut [u8]) -> Measured
                 length: at,
                 place: i,
                 replaced: units,
+                left: 0,
+                reason: 0,
             };
         };
         at += base::chars::put_char(ch, &mut output[at..]);
@@ -103,5 +113,7 @@ pub fn write(c: Context, text: &[u8], output: &mut [u8]) -> Measured
         length: at,
         place: i,
         replaced: units,
+        left: 0,
+        reason: 0,
     }
 }

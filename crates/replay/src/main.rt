@@ -1,5 +1,5 @@
 // Replays the list of the oracle's answers, which compare/src/bin/generate.rs makes of the unchanged Rust: reads it from standard input, makes
-// each call that it names, and compares the five numbers, every byte written, every byte that must stay as it was, what view gives, and, beside each
+// each call that it names, and compares the seven numbers, every byte written, every byte that must stay as it was, what view gives, and, beside each
 // call of read, what check says.
 // It prints how many cases ran and how many differ, for each operation and context and in all, and names the first that differ.
 //
@@ -7,9 +7,9 @@
 //   # ..       a remark;
 //   tTEXT      the text of the cases that follow, and what they give, until an r line says otherwise;
 //   rRESULT    what the cases that follow give where they pass;
-//   OPERATIONS CONTEXTS KINDS ROOM STATUS LENGTH SAME REPLACED PLACE WRITTEN
+//   OPERATIONS CONTEXTS KINDS ROOM STATUS LENGTH SAME REPLACED PLACE LEFT REASON WRITTEN
 //              a case for each operation (E, D, R, B), context (a for 0, b for 1, ..; z for the largest number) and kind of call (c, b): with an
-//              output of ROOM bytes the answer is the five numbers, and the first WRITTEN bytes of the output are those of the result;
+//              output of ROOM bytes the answer is the seven numbers, and the first WRITTEN bytes of the output are those of the result;
 //   end COUNT  the last line: how many cases the list has.
 // crates/replay_list says how a text is spelt. A list with any other line, or with another count, is reported as malformed.
 ghost use mathlib.Core.Path.{_≡_};
@@ -193,7 +193,7 @@ struct Numbers {
     next: usize,
 }
 
-// Reads the seven numbers of a line of cases.
+// Reads the nine numbers of a line of cases.
 fn read_numbers(list: &[u8], at: usize) -> Numbers {
     let room = read_number(list, at);
     let status = read_number(list, after(room.next));
@@ -201,7 +201,9 @@ fn read_numbers(list: &[u8], at: usize) -> Numbers {
     let same = read_number(list, after(length.next));
     let replaced = read_number(list, after(same.next));
     let place = read_number(list, after(replaced.next));
-    let written = read_number(list, after(place.next));
+    let left = read_number(list, after(place.next));
+    let reason = read_number(list, after(left.next));
+    let written = read_number(list, after(reason.next));
     let expected = Expected {
         room: room.value,
         status: status.value,
@@ -209,6 +211,8 @@ fn read_numbers(list: &[u8], at: usize) -> Numbers {
         same: same.value,
         replaced: replaced.value,
         place: place.value,
+        left: left.value,
+        reason: reason.value,
         written: written.value,
     };
     Numbers {
@@ -317,10 +321,10 @@ fn replay(
 }
 
 // Room for the list, a text, a result or an output. The length is what lending a part of it asks for.
-fn buffer() -> [u8; 1048576]
-    ensures { λ r. ⌜ 1048576 ≡ length r ⌝ }
+fn buffer() -> [u8; 1572864]
+    ensures { λ r. ⌜ 1572864 ≡ length r ⌝ }
 {
-    [0; 1048576]
+    [0; 1572864]
 }
 
 // Reads the list, replays it and prints the report.

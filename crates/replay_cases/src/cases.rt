@@ -17,6 +17,8 @@ pub struct Expected {
     pub same: usize,
     pub replaced: usize,
     pub place: usize,
+    pub left: usize,
+    pub reason: usize,
     pub written: usize,
 }
 
@@ -28,6 +30,8 @@ pub enum Difference {
     Same,
     Replaced,
     Place,
+    Left,
+    Reason,
     Written,
     Kept,
     View,
@@ -126,7 +130,7 @@ fn is_checked(case: Case, expected: Expected, text: &[u8]) -> bool {
     checked.status == expected.status
 }
 
-// The first of the five numbers that differs.
+// The first of the seven numbers that differs.
 fn of_numbers(answer: Answer, expected: Expected) -> Difference {
     if answer.status != expected.status {
         return Difference::Status;
@@ -142,6 +146,12 @@ fn of_numbers(answer: Answer, expected: Expected) -> Difference {
     }
     if answer.place != expected.place {
         return Difference::Place;
+    }
+    if answer.left != expected.left {
+        return Difference::Left;
+    }
+    if answer.reason != expected.reason {
+        return Difference::Reason;
     }
     Difference::Nothing
 }

@@ -103,6 +103,8 @@ fn print_difference(difference: Difference) {
         Difference::Same => print(b"same"),
         Difference::Replaced => print(b"replaced"),
         Difference::Place => print(b"place"),
+        Difference::Left => print(b"left"),
+        Difference::Reason => print(b"reason"),
         Difference::Written => print(b"a byte of the result"),
         Difference::Kept => print(b"a byte that is to stay"),
         Difference::View => print(b"view"),

@@ -1,7 +1,7 @@
 // Requests to the program `entity`: reads the header lines, makes the call that they ask for, and writes the lines of the answer. `reply` does all of
 // it, in memory; crates/entity reads and prints the bytes. Which bytes are printed for a request is `entityOf` of crates/rules/specs/Program.antt.
 mod lines;
-mod print;
+pub mod print;
 
 ghost use mathlib.Core.Bool.{true, false};
 ghost use mathlib.Core.List.{List};
@@ -11,7 +11,7 @@ ghost use Prim.Native.Nat.{ℕ, _≤_};
 ghost use lib.ListN.{length, take};
 ghost use Rattle.rules.specs.Bytes.{over};
 ghost use Rattle.rules.specs.Contexts.{contextOf};
-ghost use Rattle.rules.specs.Refusals.{refusal as refusalOf, Allowed};
+ghost use Rattle.rules.specs.Refusals.{Allowed};
 ghost use Rattle.rules.specs.Program.{entityOf, requestOf, contextLine, textOf, printedCall};
 ghost use Rattle.rules.specs.declared.Operation.the-variants.{Read};
 ghost use Rattle.requests.specs.Asked.{resultRoom, replyRoom, asked, answerTo, outputOf, refused, printedBy, Prints};
@@ -21,10 +21,10 @@ use lintelrye::Operation;
 use lintelrye::labels;
 
 // The longest text of a request, in bytes.
-const TEXT_LIMIT: usize = 8192;
+pub const TEXT_LIMIT: usize = 8192;
 
 // Room for every result: a result is at most six times as long as its text.
-const RESULT_ROOM: usize = 6 * TEXT_LIMIT;
+pub const RESULT_ROOM: usize = 6 * TEXT_LIMIT;
 
 // Room for every reply: the lines of an answer, and a result.
 pub const REPLY_ROOM: usize = 65536;
@@ -42,19 +42,6 @@ pub fn is_enough(n: usize) -> bool
     ENOUGH <= n
 }
 
-// Returns a refusal by its three numbers.
-fn refusal(status: usize, length: usize, place: usize) -> Answer
-    ensures { λ r. ⌜ r ≡ refusalOf status length place ⌝ }
-{
-    Answer {
-        status,
-        length,
-        same: 0,
-        replaced: 0,
-        place,
-    }
-}
-
 // Returns the answer for a text above the limit; `empty` is the answer for the empty text, which shows whether the operation has the context.
 fn too_long(empty: Answer) -> Answer
     ensures { λ r. ⌜ r ≡ refused empty ⌝ }
@@ -62,7 +49,7 @@ fn too_long(empty: Answer) -> Answer
     if empty.status == lintelrye::BAD_CONTEXT {
         return empty;
     }
-    refusal(lintelrye::TOO_LONG, 0, 0)
+    frame::refusal(lintelrye::TOO_LONG, 0, 0)
 }
 
 // Reads a text by the two calls: check judges it, and only a form is taken.
@@ -71,7 +58,7 @@ fn read(context: u32, text: &[u8], output: &mut [u8]) -> Answer
 {
     let checked = lintelrye::check(context, text);
     if checked.status != lintelrye::PASSED {
-        return refusal(checked.status, checked.length, checked.place);
+        return frame::refusal(checked.status, checked.length, checked.place);
     }
     lintelrye::take(context, text, output)
 }
@@ -87,7 +74,7 @@ fn copying(operation: Operation, context: u32, text: &[u8], output: &mut [u8]) -
 }
 
 // Makes the call that a request asks for, with the program's limit.
-fn limited(operation: Operation, context: u32, text: &[u8], output: &mut [u8]) -> Answer
+pub fn limited(operation: Operation, context: u32, text: &[u8], output: &mut [u8]) -> Answer
     ensures { λ r. ⌜ (r ≡ answerTo (asked operation context (now (text .entry)) (length (now (output .entry))))) × (now (output .exit) ≡ outputOf (asked operation context (now (text .entry)) (length (now (output .entry)))) (now (output .entry))) ⌝ }
 {
     if TEXT_LIMIT < text.len() {
@@ -97,7 +84,7 @@ fn limited(operation: Operation, context: u32, text: &[u8], output: &mut [u8]) -
 }
 
 // Returns a buffer that holds every result.
-fn room() -> [u8; RESULT_ROOM]
+pub fn room() -> [u8; RESULT_ROOM]
     ensures { λ r. ⌜ resultRoom ≡ length r ⌝ }
 {
     [0; RESULT_ROOM]
@@ -119,7 +106,7 @@ fn refuse(output: &mut [u8]) -> usize
     requires { ⌜ replyRoom ≤ length (now output) ⌝ }
     ensures { λ r. ⌜ Prints (printedBy none) r (now (output .entry)) (now (output .exit)) ⌝ }
 {
-    print::put_answer(refusal(rules::BAD_REQUEST, 0, 0), output)
+    print::put_answer(frame::refusal(rules::BAD_REQUEST, 0, 0), output)
 }
 
 // Answers a request from `text=` on, behind the line of the context.

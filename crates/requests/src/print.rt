@@ -34,7 +34,7 @@ fn put_digits(most: usize, n: usize, output: &mut [u8]) -> usize
 }
 
 // Writes `name` and a number in decimal.
-fn put_number(name: &[u8], n: usize, output: &mut [u8]) -> usize
+pub fn put_number(name: &[u8], n: usize, output: &mut [u8]) -> usize
     requires { ⌜ length (now name) + 20 ≤ length (now output) ⌝ }
     ensures { λ r. ⌜ (r ≡ length (now (name .entry) ++ decimal n)) × (now (output .exit) ≡ over (now (name .entry) ++ decimal n) (now (output .entry))) × (r ≤ length (now (name .entry)) + 20) ⌝ }
 {

@@ -12,7 +12,7 @@ use native.Mathlib.Omega.{arith}
 use lib.Dec.{eqb, ltb}
 use lib.ListN.{length as size, drop}
 use Rattle.rules.specs.Bytes.{over}
-use Rattle.rules.specs.Moves.{Move, Rule, through, result, replaced, place}
+use Rattle.rules.specs.Moves.{Move, Rule, through, result, replaced, place, lefts, firstOf}
 use Rattle.rules.specs.Utf8.{IsText, IsFree, validTo, isCut}
 use Rattle.rules.specs.Units.{IsForm, unread, undecoded}
 use Rattle.rules.specs.Reading.{readStep}
@@ -24,7 +24,7 @@ use Rattle.rules.specs.declared.Operation.{Operation}
 use Rattle.rules.specs.declared.Operation.the-variants.{Decode, Read}
 use Rattle.rules.specs.declared.AnyContext.{AnyContext}
 use Rattle.rules.specs.declared.AnyContext.the-variants.{Units}
-use Rattle.rules.proofs.Machine.{taken-cut, result-cut, replaced-cut}
+use Rattle.rules.proofs.Machine.{taken-cut, result-cut, replaced-cut, lefts-cut}
 use Rattle.rules.proofs.Laws.{form-iff, form-within, form-free, form-encoded, read-length, encode-form, encode-any, encode-read, form-text, read-encode, decode-encode, decode-moves}
 use Rattle.rules.proofs.Cut.{cut-no-text}
 use Rattle.rules.proofs.Refused.{case-given, case-iff}
@@ -128,8 +128,8 @@ module _ (c : Context) (borrows : Bool) (s out : List ℕ) where
 
 -- ---- decode and read agree
 
--- Moves that end at the same place, replace as many places and give the same have the same answer and leave the same output.
-module _ (borrows : Bool) (t out : List ℕ) (ms ns : List Move) (p : place ms ≡ place ns) (q : replaced ms ≡ replaced ns) (e : result ms ≡ result ns) where
+-- Moves that end at the same place, replace as many places, leave the same references and give the same have the same answer and leave the same output.
+module _ (borrows : Bool) (t out : List ℕ) (ms ns : List Move) (p : place ms ≡ place ns) (q : replaced ms ≡ replaced ns) (f : lefts ms ≡ lefts ns) (e : result ms ≡ result ns) where
   abbrev judged : List Move → Case
   judged ms = judge borrows textLimit t ms (size out)
 
@@ -145,9 +145,9 @@ module _ (borrows : Bool) (t out : List ℕ) (ms ns : List Move) (p : place ms �
   same-answer not-utf8 = refl
   same-answer cut-short = refl
   same-answer not-a-form = λ i. refusal 4 0 (p i)
-  same-answer lent = λ i. success (size (e i)) 0
+  same-answer lent = λ i. success (size (e i)) 0 (firstOf (f i))
   same-answer no-room = λ i. refusal 3 (size (e i)) 0
-  same-answer written = λ i. success (size (e i)) (q i)
+  same-answer written = λ i. success (size (e i)) (q i) (firstOf (f i))
 
   same-out : (row : Case) → outAt row ms out ≡ outAt row ns out
   same-out bad-context = refl
@@ -173,4 +173,4 @@ decode-as-read c borrows s out form free =
     let m = decode-moves c s form free in
     let ms = through (readStep c) s in
     alike borrows s out (through (decodeStep c) s) ms
-    (ap place m ∙ ap size (taken-cut ms)) (ap replaced m ∙ replaced-cut ms) (ap result m ∙ result-cut ms)
+    (ap place m ∙ ap size (taken-cut ms)) (ap replaced m ∙ replaced-cut ms) (ap lefts m ∙ lefts-cut 0 ms) (ap result m ∙ result-cut ms)

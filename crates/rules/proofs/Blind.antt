@@ -7,7 +7,7 @@ use native.Mathlib.Nat.{not-suc-le-zero, le-of-suc-le-suc}
 use native.Mathlib.Omega.{arith}
 use lib.ListN.{length, drop, getD}
 use lib.Seq.{drop-drop}
-use Rattle.rules.specs.Moves.{Move, keep, swap, stop, takes, gives, Rule, andThen, moves, through, result, replaced}
+use Rattle.rules.specs.Moves.{Move, keep, swap, leave, stop, takes, gives, Rule, andThen, moves, through, result, replaced}
 use Rattle.rules.proofs.Machine.{and-then}
 use Rattle.rules.proofs.Loops.{drop-next}
 
@@ -23,6 +23,7 @@ pub replaced-append : (ms ns : List Move) → replaced (ms ++ ns) ≡ replaced m
 replaced-append [] ns = omega arith
 replaced-append (keep a ∷ ms) ns = replaced-append ms ns
 replaced-append (swap a b ∷ ms) ns = omega (arith, replaced-append ms ns)
+replaced-append (leave r a ∷ ms) ns = replaced-append ms ns
 replaced-append (stop ∷ ms) ns = replaced-append ms ns
 
 -- At the head of s, where b follows it, the rule makes the move that it makes where nothing does, and this takes some bytes of s.

@@ -13,7 +13,7 @@ use lib.Dec.{T, eqb, T-not}
 use lib.ListN.{length as size, take, drop, length-append, length-drop}
 use lib.Seq.{take-append-seam, drop-append-seam}
 use Rattle.rules.specs.Bytes.{over}
-use Rattle.rules.specs.Moves.{Move, through, result, replaced, growth, shrinkage, taken, place}
+use Rattle.rules.specs.Moves.{Move, through, result, replaced, growth, shrinkage, taken, place, firstLeft}
 use Rattle.rules.specs.Utf8.{IsText, validTo}
 use Rattle.rules.specs.Operations.{ruleOf, encodeOf}
 use Rattle.rules.specs.Refusals.{Call, Case, bad-context, too-long, not-utf8, cut-short, not-a-form, lent, no-room, written, Given, movesOf, movesIn, caseOf, success, answerAt, outAt, textLimit, call, answerOf, outOf, Allowed, viewOf}
@@ -49,7 +49,7 @@ none-taken [] h = refl
 none-taken (x ∷ t) h = absurd (not-suc-le-zero h)
 
 -- 1 exactly if a number is 0.
-same-iff : (r : ℕ) → (success 0 r .same ≡ 1) ↔ (r ≡ 0)
+same-iff : (r : ℕ) → (success 0 r (0, 0) .same ≡ 1) ↔ (r ≡ 0)
 same-iff r = (λ e. go (eqb r 0) refl e, λ z. ap (λ (b : Bool). cond b 1 0) (eq-eqb r 0 z))
   where
     go : (b : Bool) → eqb r 0 ≡ b → _≡_ {A = ℕ} (cond b 1 0) 1 → r ≡ 0
@@ -98,19 +98,21 @@ module _ (o : Operation) (n : AnyContext) (borrows : Bool) (t out : List ℕ) wh
           length-append (result ms) (drop (size (result ms)) out) ∙ ap (λ (m : ℕ). size (result ms) + m) (length-drop (size (result ms)) out)
           ∙ add-back (size (result ms)) (size out) (h .1 .1 .1 .1 .1 .1 .1 .0)
 
-  -- On any refusal same and replaced are 0 and the output is unchanged.
+  -- On any refusal same, replaced, left and reason are 0 and the output is unchanged.
   pub refused-unchanged : (answerOf o n borrows t out .status ≡ 0 → ⊥)
-      → (answerOf o n borrows t out .same ≡ 0) × (answerOf o n borrows t out .replaced ≡ 0) × (outOf o n borrows t out ≡ out)
+      → (answerOf o n borrows t out .same ≡ 0) × (answerOf o n borrows t out .replaced ≡ 0) × (answerOf o n borrows t out .left ≡ 0)
+      × (answerOf o n borrows t out .reason ≡ 0) × (outOf o n borrows t out ≡ out)
   refused-unchanged = go (caseOf k)
     where
-      go : (row : Case) → (answerAt row t ms .status ≡ 0 → ⊥) → (answerAt row t ms .same ≡ 0) × (answerAt row t ms .replaced ≡ 0) × (outAt row ms out ≡ out)
-      go bad-context h = (refl, refl, refl)
-      go too-long h = (refl, refl, refl)
-      go not-utf8 h = (refl, refl, refl)
-      go cut-short h = (refl, refl, refl)
-      go not-a-form h = (refl, refl, refl)
+      go : (row : Case) → (answerAt row t ms .status ≡ 0 → ⊥) → (answerAt row t ms .same ≡ 0) × (answerAt row t ms .replaced ≡ 0) × (answerAt row t ms .left ≡ 0)
+          × (answerAt row t ms .reason ≡ 0) × (outAt row ms out ≡ out)
+      go bad-context h = (refl, refl, refl, refl, refl)
+      go too-long h = (refl, refl, refl, refl, refl)
+      go not-utf8 h = (refl, refl, refl, refl, refl)
+      go cut-short h = (refl, refl, refl, refl, refl)
+      go not-a-form h = (refl, refl, refl, refl, refl)
       go lent h = absurd (h refl)
-      go no-room h = (refl, refl, refl)
+      go no-room h = (refl, refl, refl, refl, refl)
       go written h = absurd (h refl)
 
   -- What a call that passes shows.
@@ -123,6 +125,8 @@ module _ (o : Operation) (n : AnyContext) (borrows : Bool) (t out : List ℕ) wh
     -- replaced is how many places were replaced, and same is 1 exactly if it is 0.
     pub count : answerAt row t ms .replaced ≡ replaced ms
     pub same : (answerAt row t ms .same ≡ 1) ↔ (answerAt row t ms .replaced ≡ 0)
+    -- left and reason are those of the first reference that stays.
+    pub first : (answerAt row t ms .left ≡ firstLeft ms .0) × (answerAt row t ms .reason ≡ firstLeft ms .1)
     -- view gives the result.
     pub view : viewOf t (outAt row ms out) (answerAt row t ms .same) (answerAt row t ms .length) ≡ result ms
     -- The first `length` bytes of the output are the result, unless the call borrows and nothing was replaced.
@@ -153,7 +157,7 @@ module _ (o : Operation) (n : AnyContext) (borrows : Bool) (t out : List ℕ) wh
       go not-a-form h e = absurd (suc-ne-zero 3 e)
       go lent h e =
           let w = taken-all o n t (case-taken k (h .1 .0) (h .1 .1 .1 .1 .1 .0)) in
-          record { whole = w; long = refl; nowhere = refl; count = sym (h .0 .1); same = (λ q. refl, λ q. refl); view = sym (same-result ms (h .0 .1) ∙ w); head = λ q. absurd (q (h .0)); tail = refl }
+          record { whole = w; long = refl; nowhere = refl; count = sym (h .0 .1); same = (λ q. refl, λ q. refl); first = (refl, refl); view = sym (same-result ms (h .0 .1) ∙ w); head = λ q. absurd (q (h .0)); tail = refl }
       go no-room h e = absurd (suc-ne-zero 2 e)
       go written h e =
           let w = taken-all o n t (case-taken k (h .1 .0) (h .1 .1 .1 .1 .1 .0)) in
@@ -163,6 +167,7 @@ module _ (o : Operation) (n : AnyContext) (borrows : Bool) (t out : List ℕ) wh
             nowhere = refl;
             count = refl;
             same = same-iff (replaced ms);
+            first = (refl, refl);
             view = view-written (h .1 .1 .1 .1 .1 .1 .1 .0) w;
             head = λ q. take-append-seam (result ms) (drop (size (result ms)) out);
             tail = drop-append-seam (result ms) (drop (size (result ms)) out);

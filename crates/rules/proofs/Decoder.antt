@@ -9,7 +9,7 @@ use Prim.Native.Nat.{ℕ, pred}
 use lib.Dec.{T, eqb, eqb→eq, eqb-refl, T-not}
 use lib.ListN.{length}
 use Rattle.rules.specs.Bytes.{ascii, In, All, all, any, fits, stands, sameBytes, oneOf}
-use Rattle.rules.specs.Moves.{Move, keep, swap, stop, gives, taken, result, through}
+use Rattle.rules.specs.Moves.{Move, keep, swap, leave, stop, gives, taken, result, through}
 use Rattle.rules.specs.Tables.{Row, rowAt, key, value, htmlRows, rows, replacedChars}
 use Rattle.rules.specs.Units.{left, undecoded}
 use Rattle.rules.specs.declared.Context.{Context}
@@ -92,10 +92,12 @@ body-append (x ∷ xs) r b e = go (eqb x 59) (eqb x 38) (bodyOf xs) refl (λ b. 
 abbrev undoes : Move → Row → Bool
 undoes (keep a) e = false
 undoes (swap a b) e = sameBytes a (value e) && sameBytes b (key e)
+undoes (leave r a) e = false
 undoes stop e = false
 
 undoes-row : (m : Move) (e : Row) → T (undoes m e) → m ≡ swap (value e) (key e)
 undoes-row (keep a) e t = absurd t
+undoes-row (leave r a) e t = absurd t
 undoes-row (swap a b) e t =
     λ i. swap (same-bytes a (value e) (and-left (sameBytes a (value e)) (sameBytes b (key e)) t) i) (same-bytes b (key e) (and-right (sameBytes a (value e)) (sameBytes b (key e)) t) i)
 undoes-row stop e t = absurd t
@@ -163,7 +165,7 @@ module _ (c : Context) where
 
   -- Through such a run the decoder's moves are those of the run, byte by byte.
   pub decode-cut : (us : List Move) → All (IsDecoded c) us → through (decodeStep c) (taken us) ≡ cut us
-  decode-cut us g = cut-moves (decodeStep c) (IsDecoded c) decode-keeps decode-swaps 0 us g
+  decode-cut us g = cut-moves (decodeStep c) (IsDecoded c) decode-keeps decode-swaps (λ w a u. u .0) 0 us g
 
   -- So it gives what the run gives.
   pub decode-run : (us : List Move) → All (IsDecoded c) us → decodeOf c (taken us) ≡ result us

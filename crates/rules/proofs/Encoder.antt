@@ -9,7 +9,7 @@ use Prim.Native.Nat.{ℕ, pred}
 use lib.Dec.{T, eqb, eqb→eq, T-not}
 use lib.ListN.{length}
 use Rattle.rules.specs.Bytes.{In, All, all, any, join, stands, sameBytes}
-use Rattle.rules.specs.Moves.{Move, keep, swap, stop, gives, taken, result, through}
+use Rattle.rules.specs.Moves.{Move, keep, swap, leave, stop, gives, taken, result, through}
 use Rattle.rules.specs.Utf8.{IsChar, IsText, IsFree, charStep, validTo}
 use Rattle.rules.specs.Tables.{Row, rowAt, key, value, rows, lossy, table, replacedChars}
 use Rattle.rules.specs.Units.{unread}
@@ -90,13 +90,14 @@ module _ (c : Context) where
   turned [] g = tt
   turned (keep a ∷ us) g = (g .0, turned us (g .1))
   turned (swap v k ∷ us) g = (g .0, turned us (g .1))
+  turned (leave r a ∷ us) g = absurd (g .0)
   turned (stop ∷ us) g = absurd (g .0)
 
   -- Through the text of a run the encoder goes the run back, byte by byte.
   pub encode-moves : (us : List Move) → All (IsUnit (table c) (replacedChars c)) us → through (encodeStep c) (result us) ≡ cut (map turn us)
   encode-moves us g =
       ap (through (encodeStep c)) (sym (taken-turn us))
-      ∙ cut-moves (encodeStep c) (λ (m : Move). IsUnit (table c) (replacedChars c) (turn m)) encode-keeps encode-swaps 0 (map turn us) (turned us g)
+      ∙ cut-moves (encodeStep c) (λ (m : Move). IsUnit (table c) (replacedChars c) (turn m)) encode-keeps encode-swaps (λ w a u. u) 0 (map turn us) (turned us g)
 
   -- What it writes is the form.
   pub encode-run : (us : List Move) → All (IsUnit (table c) (replacedChars c)) us → encodeOf c (result us) ≡ taken us
@@ -138,6 +139,7 @@ module _ (c : Context) where
   -- A unit that does not come from NUL in a style string is a unit of the context's forms.
   readable : (u : Move) → IsUnit (table c) (replacedChars c) u → (In (gives u) (unread c) → ⊥) → IsUnit (rows c) (replacedChars c) u
   readable (keep a) i s = i
+  readable (leave r a) i s = i
   readable stop i s = i
   readable (swap v k) i s = go (in-append (k, v) (lossy c) (rows c) i)
     where
@@ -164,6 +166,7 @@ module _ (c : Context) where
   run-free (swap v k ∷ us) g =
       let (cs, h, f, e) = run-free us (g .1) in
       (k ∷ cs, (key-char (k, v) (in-right (k, v) (lossy c) (rows c) (g .0)), h), ((λ i. rows-readable (k, v) (g .0) i), f), ap (λ (s : List ℕ). k ++ s) e)
+  run-free (leave r a ∷ us) g = absurd (g .0)
   run-free (stop ∷ us) g = absurd (g .0)
 
   -- The units of a form are units of the whole table.
@@ -171,6 +174,7 @@ module _ (c : Context) where
   wide [] g = tt
   wide (keep a ∷ us) g = (g .0, wide us (g .1))
   wide (swap v k ∷ us) g = (in-right (k, v) (lossy c) (rows c) (g .0), wide us (g .1))
+  wide (leave r a ∷ us) g = absurd (g .0)
   wide (stop ∷ us) g = absurd (g .0)
 
   -- Any text is what a run of units of the whole table gives.
@@ -200,6 +204,7 @@ module _ (c : Context) where
           → (ws : List Move) × IsRun c ws × (v ++ taken us ≡ taken ws)
       go (inl i) vs h e = (keep v ∷ vs, (lossy-plain (k, v) i, h), ap (λ (s : List ℕ). v ++ s) e)
       go (inr i) vs h e = (swap v k ∷ vs, (i, h), ap (λ (s : List ℕ). v ++ s) e)
+  plain-run (leave r a ∷ us) g = absurd (g .0)
   plain-run (stop ∷ us) g = absurd (g .0)
 
   -- A form is a text.
@@ -207,4 +212,5 @@ module _ (c : Context) where
   run-text [] g = ([], tt, refl)
   run-text (keep a ∷ us) g = let (cs, h, e) = run-text us (g .1) in (a ∷ cs, (g .0 .0, h), ap (λ (s : List ℕ). a ++ s) e)
   run-text (swap v k ∷ us) g = text-append v (taken us) (value-text c (k, v) (g .0)) (run-text us (g .1))
+  run-text (leave r a ∷ us) g = absurd (g .0)
   run-text (stop ∷ us) g = absurd (g .0)

@@ -13,9 +13,9 @@ use Rattle.rules.specs.Names.{names}
 use Rattle.rules.specs.References.{renumbering, referenceStep, browseStep}
 use Rattle.rules.specs.Operations.{decodeStep}
 use Rattle.rules.specs.Refusals.{caseBy}
-use Rattle.rules.specs.Program.{entityOf}
+use Rattle.rules.specs.Program.{entityOf, reasonsOf}
 use Rattle.rules.specs.Examples.{holdsIn, holds, starred, rest}
-use Rattle.rules.specs.Edges.{characters, validUpTo, longByOnes, encoders, writeFrom, closesAt, edges, copying, borrowing, digest, namesDigest, asRow, renumberingDigest, papers, readsAs, checks, checksAs, requests, answers}
+use Rattle.rules.specs.Edges.{characters, validUpTo, longByOnes, encoders, writeFrom, closesAt, edges, copying, borrowing, digest, namesDigest, asRow, renumberingDigest, papers, readsAs, checks, checksAs, requests, answers, reported, reports}
 
 -- The starred examples, 1 to 12.
 pub starred-hold : T (all holds starred)
@@ -27,7 +27,7 @@ pub rest-hold : T (all holds rest)
 unfolding charStep isCut encodeStep rawStep readStep names renumbering referenceStep browseStep decodeStep caseBy contextOf entityOf
 rest-hold = tt
 
--- The edges: characters, what each context writes, calls, calls of one kind only, check, the table of names, the program.
+-- The edges: characters, what each context writes, calls, calls of one kind only, check, the table of names, the programs.
 pub characters-valid : T (all validUpTo characters)
 unfolding charStep
 characters-valid = tt
@@ -68,3 +68,7 @@ papers-read = tt
 pub program-answers : T (all answers requests)
 unfolding charStep isCut encodeStep rawStep readStep names renumbering referenceStep browseStep decodeStep caseBy contextOf entityOf
 program-answers = tt
+
+pub reasons-reported : T (all reports reported)
+unfolding charStep isCut names referenceStep decodeStep caseBy reasonsOf
+reasons-reported = tt

@@ -11,7 +11,7 @@ use native.Mathlib.Omega.{arith}
 use lib.Dec.{leb, ltb, eqb, leb→le, ltb→lt}
 use lib.ListN.{length, length-append}
 use Rattle.rules.specs.Bytes.{ascii, All, all, stands}
-use Rattle.rules.specs.Moves.{Move, keep, swap, stop, takes, gives, Rule, taken, result, replaced, growth, shrinkage, through}
+use Rattle.rules.specs.Moves.{Move, keep, swap, leave, stop, takes, gives, Rule, taken, result, replaced, growth, shrinkage, through}
 use Rattle.rules.specs.Tables.{Row, rowAt, key, value, table, replacedChars}
 use Rattle.rules.specs.declared.Context.{Context}
 use Rattle.rules.specs.Encoding.{write, keepByte, encodeStep, rawStep, parted}
@@ -94,6 +94,7 @@ sum-up n v k m a b h i = omega arith
 replaced-cons : (m : Move) (ms : List Move) → replaced (m ∷ ms) ≡ replaced (m ∷ []) + replaced ms
 replaced-cons (keep a) ms = omega arith
 replaced-cons (swap a b) ms = omega arith
+replaced-cons (leave r a) ms = omega arith
 replaced-cons stop ms = omega arith
 
 pub at-least : (ms : List Move) → All Grows ms → replaced ms + length (taken ms) ≤ length (result ms)
@@ -116,6 +117,8 @@ balance (keep a ∷ ms) =
 balance (swap a b ∷ ms) =
     rw (length-append b (result ms), length-append a (taken ms))
     (swap-balance (length a) (length b) (length (result ms)) (length (taken ms)) (growth ms) (shrinkage ms) (balance ms))
+balance (leave r a ∷ ms) =
+    rw (length-append a (result ms), length-append a (taken ms)) (keep-balance (length a) (length (result ms)) (length (taken ms)) (growth ms) (shrinkage ms) (balance ms))
 balance (stop ∷ ms) = balance ms
 
 no-loss : (a b k : ℕ) → 1 + a ≤ b → k ≡ 0 → a - b + k ≡ 0
@@ -126,6 +129,7 @@ none-shrinks : (ms : List Move) → All Grows ms → shrinkage ms ≡ 0
 none-shrinks [] g = refl
 none-shrinks (keep a ∷ ms) g = none-shrinks ms (g .1)
 none-shrinks (swap a b ∷ ms) g = no-loss (length a) (length b) (shrinkage ms) (g .0 .1) (none-shrinks ms (g .1))
+none-shrinks (leave r a ∷ ms) g = none-shrinks ms (g .1)
 none-shrinks (stop ∷ ms) g = none-shrinks ms (g .1)
 
 none-left : (n a b : ℕ) → n + a ≤ b → b ≡ a → n ≡ 0

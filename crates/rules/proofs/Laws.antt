@@ -9,7 +9,7 @@ use native.Mathlib.Omega.{arith}
 use lib.Dec.{T, leb, leb→le}
 use lib.ListN.{length, take, length-append}
 use Rattle.rules.specs.Bytes.{ascii, In, All, all, any, sameBytes}
-use Rattle.rules.specs.Moves.{Move, keep, swap, stop, gives, taken, result, replaced, growth, through}
+use Rattle.rules.specs.Moves.{Move, keep, swap, leave, stop, gives, taken, result, replaced, growth, through}
 use Rattle.rules.specs.Utf8.{IsText, IsFree}
 use Rattle.rules.specs.Tables.{Row, key, value, rows, replacedChars}
 use Rattle.rules.specs.Units.{IsUnit, IsRun, IsForm, unread, undecoded}
@@ -178,6 +178,7 @@ module _ (c : Context) where
   shorter (swap v k ∷ us) g =
       rw (length-append k (result us), length-append v (taken us))
       (omega (arith, shorter us (g .1), leb→le (length k) (length v) (all-in noLonger (rows c) (every (λ (c : Context). all noLonger (rows c)) tt c) (k, v) (g .0))))
+  shorter (leave r a ∷ us) g = absurd (g .0)
   shorter (stop ∷ us) g = absurd (g .0)
 
   -- What read gives is no longer than what it takes.

@@ -10,6 +10,7 @@ pub mod EveryByte
 pub mod Encoder
 pub mod Decoder
 pub mod Search
+pub mod Reasons
 pub mod Growth
 pub mod Whole
 pub mod Names

@@ -8,7 +8,8 @@ use native.Mathlib.Omega.{arith}
 use lib.ListN.{length, drop, length-append}
 use lib.Seq.{drop-at}
 use Rattle.rules.specs.Bytes.{All}
-use Rattle.rules.specs.Moves.{Move, keep, swap, stop, takes, Rule, andThen, moves, taken, result, replaced, place, through}
+use Rattle.rules.specs.Moves.{Move, keep, swap, leave, stop, takes, Rule, andThen, moves, taken, result, replaced, leftsAt, place, through}
+use Rattle.rules.specs.declared.Reason.{Reason}
 use Rattle.rules.proofs.Tests.{length-pos}
 
 -- ---- where a rule makes given moves, they are the moves of the text
@@ -31,6 +32,7 @@ skipped rule p (suc k) (x ∷ xs) r e = skipped rule x k xs r (suc-inj e)
 pub and-then : (m : Move) (k : ℕ) (ms : List Move) → length (takes m) ≡ suc k → andThen m ms ≡ m ∷ ms
 and-then (keep a) k ms e = refl
 and-then (swap a b) k ms e = refl
+and-then (leave r a) k ms e = refl
 and-then stop k ms e = absurd (suc-ne-zero k (sym e))
 
 -- One move, and then the moves from its end on.
@@ -79,6 +81,7 @@ Stands good m s = good m × (r : List ℕ) × (s ≡ takes m ++ r) × (k : ℕ) 
 abbrev pub Fair : (Move → Type 0) → Move → List ℕ → Type 0
 Fair good (keep a) s = Stands good (keep a) s
 Fair good (swap a b) s = Stands good (swap a b) s
+Fair good (leave r a) s = Stands good (leave r a) s
 Fair good stop s = Unit {0}
 
 -- The text ends here, or the rule stops.
@@ -90,6 +93,7 @@ Ends rule (x ∷ xs) = (p : ℕ) × (rule p (x ∷ xs) ≡ stop)
 abbrev pub Goes : Move → Type 0
 Goes (keep a) = Unit {0}
 Goes (swap a b) = Unit {0}
+Goes (leave r a) = Unit {0}
 Goes stop = ⊥
 
 module _ (good : Move → Type 0) (rule : Rule) (fair : (p : ℕ) (s : List ℕ) → Fair good (rule p s) s) where
@@ -119,6 +123,7 @@ module _ (good : Move → Type 0) (rule : Rule) (fair : (p : ℕ) (s : List ℕ)
           → Rest (andThen m (moves rule x (pred (length (takes m))) xs)) (x ∷ xs)
       go (keep a) e f ih = step (keep a) f ih
       go (swap a b) e f ih = step (swap a b) f ih
+      go (leave r a) e f ih = step (leave r a) f ih
       go stop e f ih = (tt, x ∷ xs, refl, (p, e))
 
   -- A rule that never stops takes the whole text.
@@ -151,6 +156,7 @@ pub same-result : (ms : List Move) → replaced ms ≡ 0 → result ms ≡ taken
 same-result [] e = refl
 same-result (keep a ∷ ms) e = ap (λ (s : List ℕ). a ++ s) (same-result ms e)
 same-result (swap a b ∷ ms) e = absurd (suc-ne-zero (replaced ms) e)
+same-result (leave r a ∷ ms) e = ap (λ (s : List ℕ). a ++ s) (same-result ms e)
 same-result (stop ∷ ms) e = same-result ms e
 
 -- ---- the other way round, and byte by byte
@@ -159,18 +165,21 @@ same-result (stop ∷ ms) e = same-result ms e
 abbrev pub turn : Move → Move
 turn (keep a) = keep a
 turn (swap a b) = swap b a
+turn (leave r a) = leave r a
 turn stop = stop
 
 pub taken-turn : (ms : List Move) → taken (map turn ms) ≡ result ms
 taken-turn [] = refl
 taken-turn (keep a ∷ ms) = ap (λ (s : List ℕ). a ++ s) (taken-turn ms)
 taken-turn (swap a b ∷ ms) = ap (λ (s : List ℕ). b ++ s) (taken-turn ms)
+taken-turn (leave r a ∷ ms) = ap (λ (s : List ℕ). a ++ s) (taken-turn ms)
 taken-turn (stop ∷ ms) = taken-turn ms
 
 pub result-turn : (ms : List Move) → result (map turn ms) ≡ taken ms
 result-turn [] = refl
 result-turn (keep a ∷ ms) = ap (λ (s : List ℕ). a ++ s) (result-turn ms)
 result-turn (swap a b ∷ ms) = ap (λ (s : List ℕ). a ++ s) (result-turn ms)
+result-turn (leave r a ∷ ms) = ap (λ (s : List ℕ). a ++ s) (result-turn ms)
 result-turn (stop ∷ ms) = result-turn ms
 
 -- Each byte kept by itself.
@@ -182,6 +191,7 @@ abbrev pub cut : List Move → List Move
 cut [] = []
 cut (keep a ∷ ms) = singly a ++ cut ms
 cut (swap a b ∷ ms) = swap a b ∷ cut ms
+cut (leave r a ∷ ms) = leave r a ∷ cut ms
 cut (stop ∷ ms) = cut ms
 
 pub taken-singly : (a : List ℕ) (ms : List Move) → taken (singly a ++ ms) ≡ a ++ taken ms
@@ -196,12 +206,14 @@ pub taken-cut : (ms : List Move) → taken (cut ms) ≡ taken ms
 taken-cut [] = refl
 taken-cut (keep a ∷ ms) = taken-singly a (cut ms) ∙ ap (λ (s : List ℕ). a ++ s) (taken-cut ms)
 taken-cut (swap a b ∷ ms) = ap (λ (s : List ℕ). a ++ s) (taken-cut ms)
+taken-cut (leave r a ∷ ms) = ap (λ (s : List ℕ). a ++ s) (taken-cut ms)
 taken-cut (stop ∷ ms) = taken-cut ms
 
 pub result-cut : (ms : List Move) → result (cut ms) ≡ result ms
 result-cut [] = refl
 result-cut (keep a ∷ ms) = result-singly a (cut ms) ∙ ap (λ (s : List ℕ). a ++ s) (result-cut ms)
 result-cut (swap a b ∷ ms) = ap (λ (s : List ℕ). b ++ s) (result-cut ms)
+result-cut (leave r a ∷ ms) = ap (λ (s : List ℕ). a ++ s) (result-cut ms)
 result-cut (stop ∷ ms) = result-cut ms
 
 replaced-singly : (a : List ℕ) (ms : List Move) → replaced (singly a ++ ms) ≡ replaced ms
@@ -212,15 +224,31 @@ pub replaced-cut : (ms : List Move) → replaced (cut ms) ≡ replaced ms
 replaced-cut [] = refl
 replaced-cut (keep a ∷ ms) = replaced-singly a (cut ms) ∙ replaced-cut ms
 replaced-cut (swap a b ∷ ms) = ap suc (replaced-cut ms)
+replaced-cut (leave r a ∷ ms) = replaced-cut ms
 replaced-cut (stop ∷ ms) = replaced-cut ms
 
--- A rule that keeps each byte of what is kept, and makes each swap, has these moves byte by byte.
+-- Bytes that are kept one by one leave nothing,
+pub lefts-singly : (i : ℕ) (a : List ℕ) (ms : List Move) → leftsAt i (singly a ++ ms) ≡ leftsAt (i + length a) ms
+lefts-singly i [] ms = ap (λ (n : ℕ). leftsAt n ms) (let e : i ≡ i + 0 = omega arith in e)
+lefts-singly i (x ∷ a) ms =
+    lefts-singly (i + 1) a ms ∙ ap (λ (n : ℕ). leftsAt n ms) (let e : i + 1 + length a ≡ i + suc (length a) = omega arith in e)
+
+-- so that the same references stay.
+pub lefts-cut : (i : ℕ) (ms : List Move) → leftsAt i (cut ms) ≡ leftsAt i ms
+lefts-cut i [] = refl
+lefts-cut i (keep a ∷ ms) = lefts-singly i a (cut ms) ∙ lefts-cut (i + length a) ms
+lefts-cut i (swap a b ∷ ms) = lefts-cut (i + length a) ms
+lefts-cut i (leave r a ∷ ms) = ap (λ (ls : List (ℕ × Reason)). (i, r) ∷ ls) (lefts-cut (i + length a) ms)
+lefts-cut i (stop ∷ ms) = lefts-cut i ms
+
+-- A rule that keeps each byte of what is kept, and makes each swap, has these moves byte by byte, if none leaves a reference.
 module _ (rule : Rule) (unit : Move → Type 0) (keeps : (a : List ℕ) → unit (keep a) → (r : List ℕ) → Follows rule (singly a) r)
-    (swaps : (a b : List ℕ) → unit (swap a b) → (r : List ℕ) → Makes rule (swap a b) r) where
+    (swaps : (a b : List ℕ) → unit (swap a b) → (r : List ℕ) → Makes rule (swap a b) r) (none : (w : Reason) (a : List ℕ) → unit (leave w a) → ⊥) where
   pub follows-cut : (ms : List Move) → All unit ms → (r : List ℕ) → Follows rule (cut ms) r
   follows-cut [] g r = tt
   follows-cut (keep a ∷ ms) g r = follows-append rule (singly a) (cut ms) r (keeps a (g .0) (taken (cut ms) ++ r)) (follows-cut ms (g .1) r)
   follows-cut (swap a b ∷ ms) g r = (swaps a b (g .0) (taken (cut ms) ++ r), follows-cut ms (g .1) r)
+  follows-cut (leave w a ∷ ms) g r = absurd (none w a (g .0))
   follows-cut (stop ∷ ms) g r = follows-cut ms (g .1) r
 
   -- The moves of such a rule are these, byte by byte.

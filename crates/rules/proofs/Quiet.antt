@@ -7,8 +7,8 @@ use Prim.Native.Nat.{ℕ, zero, suc, _+_, _-_, _≤_, _<_}
 use native.Mathlib.Omega.{arith}
 use lib.ListN.{length, take, drop, getD, length-append, length-drop}
 use lib.Seq.{length-take-le}
-use Rattle.rules.specs.Moves.{Move, keep, Rule, result, replaced, place, before, from}
-use Rattle.rules.proofs.Machine.{singly, taken-singly, result-singly}
+use Rattle.rules.specs.Moves.{Move, keep, Rule, result, replaced, leftsAt, place, before, from}
+use Rattle.rules.proofs.Machine.{singly, taken-singly, result-singly, lefts-singly}
 use Rattle.rules.proofs.Loops.{from-next, drop-next}
 
 -- The rule keeps the byte at each place from i up to r.
@@ -50,3 +50,10 @@ module _ (rule : Rule) (t : List ℕ) (i r : ℕ) (h : i ≤ r) (l : r ≤ lengt
   -- And nothing in it is replaced.
   pub quiet-replaced : replaced (from rule t i) ≡ replaced (from rule t r)
   quiet-replaced = ap replaced quiet ∙ replaced-singly (take (r - i) (drop i t)) (from rule t r)
+
+  -- Nor does a reference stay.
+  pub quiet-lefts : leftsAt i (from rule t i) ≡ leftsAt r (from rule t r)
+  quiet-lefts =
+      let n : length (take (r - i) (drop i t)) ≡ r - i = length-take-le (r - i) (drop i t) (rw length-drop (omega arith)) in
+      let z : i + length (take (r - i) (drop i t)) ≡ r = omega arith in
+      ap (leftsAt i) quiet ∙ lefts-singly i (take (r - i) (drop i t)) (from rule t r) ∙ ap (λ (n : ℕ). leftsAt n (from rule t r)) z

@@ -9,22 +9,18 @@ use Prim.Native.Nat.{ℕ}
 use lib.Dec.{T, eqb}
 use lib.ListN.{length}
 use Rattle.rules.specs.Bytes.{ascii, is, In}
-use Rattle.rules.specs.Moves.{Move, keep, swap, moves, taken}
-use Rattle.rules.specs.References.{onto, bodyOf, meaning, refer, atAmp, referenceBy}
+use Rattle.rules.specs.Moves.{Move, swap, leave, moves, taken}
+use Rattle.rules.specs.References.{onto, bodyOf, meaning, why, refer, atAmp, referenceBy}
+use Rattle.rules.specs.Reasons.{Ampless, Endless}
+use Rattle.rules.specs.declared.Reason.{Reason}
+use Rattle.rules.specs.declared.Reason.the-variants.{NoEnd}
 use Rattle.rules.proofs.Tests.{in-append}
 use Rattle.rules.proofs.Machine.{Makes, Follows, one-move, retrace, singly}
 use Rattle.rules.proofs.Chars.{taken-singles}
 use Rattle.rules.proofs.Decoder.{reference-quiet}
 
--- No byte of a is `&`; none is `;`.
-abbrev pub NoAmp : List ℕ → Type 0
-NoAmp a = (x : ℕ) → In x a → T (is "&" x) → ⊥
-
-abbrev pub NoEnd : List ℕ → Type 0
-NoEnd a = (x : ℕ) → In x a → T (is ";" x) → ⊥
-
 -- Bytes with no `;` have no body before an `&` or the end of the text.
-body-none : (a r : List ℕ) → NoEnd a → bodyOf r ≡ none → bodyOf (a ++ r) ≡ none
+pub body-none : (a r : List ℕ) → Endless a → bodyOf r ≡ none → bodyOf (a ++ r) ≡ none
 body-none [] r f e = e
 body-none (x ∷ a) r f e = go (eqb x 59) refl (eqb x 38) (body-none a r (λ y i. f y (inr i)) e)
   where
@@ -34,7 +30,7 @@ body-none (x ∷ a) r f e = go (eqb x 59) refl (eqb x 38) (body-none a r (λ y i
     go false h false ih = ap (onto x) ih
 
 -- Bytes with neither are a body where a `;` follows.
-body-some : (a r : List ℕ) → NoAmp a → NoEnd a → bodyOf (a ++ 59 ∷ r) ≡ some a
+pub body-some : (a r : List ℕ) → Ampless a → Endless a → bodyOf (a ++ 59 ∷ r) ≡ some a
 body-some [] r g f = refl
 body-some (x ∷ a) r g f = go (eqb x 59) refl (eqb x 38) refl (body-some a r (λ y i. g y (inr i)) (λ y i. f y (inr i)))
   where
@@ -49,31 +45,32 @@ module _ (char : ℕ → Option (List ℕ)) where
   any-before p q [] = refl
   any-before p q (x ∷ s) = refl
 
-  singly-kept : (a r : List ℕ) → NoAmp a → Follows (referenceBy char) (singly a) r
+  singly-kept : (a r : List ℕ) → Ampless a → Follows (referenceBy char) (singly a) r
   singly-kept [] r g = tt
   singly-kept (x ∷ a) r g = ((0, refl, λ p. reference-quiet char p x (taken (singly a) ++ r) (g x (inl refl))), singly-kept a r (λ y i. g y (inr i)))
 
-  -- Where the `&` is kept, so are the bytes after it that are no `&`.
-  kept : (p q : ℕ) (a r : List ℕ) → NoAmp a → atAmp char (bodyOf (a ++ r)) ≡ keep (ascii "&")
-      → moves (referenceBy char) p 0 (38 ∷ a ++ r) ≡ singly (38 ∷ a) ++ moves (referenceBy char) q 0 r
-  kept p q a r g e =
-      let amp : Makes (referenceBy char) (keep (ascii "&")) (taken (singly a) ++ r) = (0, refl, λ p. ap (λ (t : List ℕ). atAmp char (bodyOf (t ++ r))) (taken-singles a) ∙ e) in
-      let (q′, f) = retrace (referenceBy char) p (singly (38 ∷ a)) r (amp, singly-kept a r g) in
-      ap (λ (t : List ℕ). moves (referenceBy char) p 0 (38 ∷ t ++ r)) (sym (taken-singles a)) ∙ f ∙ ap (λ (ms : List Move). singly (38 ∷ a) ++ ms) (any-before q′ q r)
+  -- Where the reference stays, the bytes after its `&` that are no `&` are kept.
+  stays : (p q : ℕ) (w : Reason) (a r : List ℕ) → Ampless a → atAmp char (bodyOf (a ++ r)) ≡ leave w (ascii "&")
+      → moves (referenceBy char) p 0 (38 ∷ a ++ r) ≡ leave w (ascii "&") ∷ singly a ++ moves (referenceBy char) q 0 r
+  stays p q w a r g e =
+      let amp : Makes (referenceBy char) (leave w (ascii "&")) (taken (singly a) ++ r) = (0, refl, λ p. ap (λ (t : List ℕ). atAmp char (bodyOf (t ++ r))) (taken-singles a) ∙ e) in
+      let (q′, f) = retrace (referenceBy char) p (leave w (ascii "&") ∷ singly a) r (amp, singly-kept a r g) in
+      ap (λ (t : List ℕ). moves (referenceBy char) p 0 (38 ∷ t ++ r)) (sym (taken-singles a))
+      ∙ f ∙ ap (λ (ms : List Move). leave w (ascii "&") ∷ singly a ++ ms) (any-before q′ q r)
 
-  -- No `&` or `;` comes after the `&`: nothing more is replaced.
-  pub search-ends : (p : ℕ) (a : List ℕ) → NoAmp a → NoEnd a → moves (referenceBy char) p 0 (38 ∷ a) ≡ singly (38 ∷ a)
+  -- No `&` or `;` comes after the `&`: it stays for want of a `;`, and nothing more is replaced.
+  pub search-ends : (p : ℕ) (a : List ℕ) → Ampless a → Endless a → moves (referenceBy char) p 0 (38 ∷ a) ≡ leave NoEnd (ascii "&") ∷ singly a
   search-ends p a g f =
       ap (λ (t : List ℕ). moves (referenceBy char) p 0 (38 ∷ t)) (sym (append-nil a))
-      ∙ kept p 0 a [] g (ap (atAmp char) (body-none a [] f refl)) ∙ append-nil (singly (38 ∷ a))
+      ∙ stays p 0 NoEnd a [] g (ap (atAmp char) (body-none a [] f refl)) ∙ append-nil (leave NoEnd (ascii "&") ∷ singly a)
 
-  -- The next is an `&`: the search starts again there.
-  pub search-restarts : (p q : ℕ) (a r : List ℕ) → NoAmp a → NoEnd a
-      → moves (referenceBy char) p 0 (38 ∷ a ++ 38 ∷ r) ≡ singly (38 ∷ a) ++ moves (referenceBy char) q 0 (38 ∷ r)
-  search-restarts p q a r g f = kept p q a (38 ∷ r) g (ap (atAmp char) (body-none a (38 ∷ r) f refl))
+  -- The next is an `&`: the first stays for want of a `;`, and the search starts again at the next.
+  pub search-restarts : (p q : ℕ) (a r : List ℕ) → Ampless a → Endless a
+      → moves (referenceBy char) p 0 (38 ∷ a ++ 38 ∷ r) ≡ leave NoEnd (ascii "&") ∷ singly a ++ moves (referenceBy char) q 0 (38 ∷ r)
+  search-restarts p q a r g f = stays p q NoEnd a (38 ∷ r) g (ap (atAmp char) (body-none a (38 ∷ r) f refl))
 
   -- The next is a `;`, and the body stands for v: v takes the place of the reference, and the search goes on after the `;`.
-  pub search-replaces : (p q : ℕ) (body r v : List ℕ) → NoAmp body → NoEnd body → meaning char body ≡ some v
+  pub search-replaces : (p q : ℕ) (body r v : List ℕ) → Ampless body → Endless body → meaning char body ≡ some v
       → moves (referenceBy char) p 0 (38 ∷ body ++ 59 ∷ r) ≡ swap (ascii "&" ++ body ++ ascii ";") v ∷ moves (referenceBy char) q 0 r
   search-replaces p q body r v g f m =
       let made : atAmp char (bodyOf (body ++ 59 ∷ r)) ≡ swap (38 ∷ body ++ ascii ";") v = ap (atAmp char) (body-some body r g f) ∙ ap (refer body) m in
@@ -83,14 +80,14 @@ module _ (char : ℕ → Option (List ℕ)) where
       ap (λ (t : List ℕ). moves (referenceBy char) p 0 (38 ∷ t)) (sym (append-assoc body (ascii ";") r))
       ∙ e ∙ ap (λ (ms : List Move). swap (38 ∷ body ++ ascii ";") v ∷ ms) (any-before q′ q r)
 
-  -- Otherwise the reference stays, and the search goes on after the `;`.
-  pub search-goes-on : (p q : ℕ) (body r : List ℕ) → NoAmp body → NoEnd body → meaning char body ≡ none
-      → moves (referenceBy char) p 0 (38 ∷ body ++ 59 ∷ r) ≡ singly (38 ∷ body ++ ascii ";") ++ moves (referenceBy char) q 0 r
+  -- Otherwise the reference stays for the reason that its body gives, and the search goes on after the `;`.
+  pub search-goes-on : (p q : ℕ) (body r : List ℕ) → Ampless body → Endless body → meaning char body ≡ none
+      → moves (referenceBy char) p 0 (38 ∷ body ++ 59 ∷ r) ≡ leave (why body) (ascii "&") ∷ singly (body ++ ascii ";") ++ moves (referenceBy char) q 0 r
   search-goes-on p q body r g f m =
       ap (λ (t : List ℕ). moves (referenceBy char) p 0 (38 ∷ t)) (sym (append-assoc body (ascii ";") r))
-      ∙ kept p q (body ++ ascii ";") r quiet (ap (λ (t : List ℕ). atAmp char (bodyOf t)) (append-assoc body (ascii ";") r) ∙ ap (atAmp char) (body-some body r g f) ∙ ap (refer body) m)
+      ∙ stays p q (why body) (body ++ ascii ";") r quiet (ap (λ (t : List ℕ). atAmp char (bodyOf t)) (append-assoc body (ascii ";") r) ∙ ap (atAmp char) (body-some body r g f) ∙ ap (refer body) m)
     where
-      quiet : NoAmp (body ++ ascii ";")
+      quiet : Ampless (body ++ ascii ";")
       quiet x i t = go (in-append x body (ascii ";") i)
         where
           go : In x body ⊎ In x (ascii ";") → ⊥

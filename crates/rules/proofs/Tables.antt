@@ -9,7 +9,7 @@ use lib.Dec.{T, ltb}
 use lib.ListN.{length, take, drop, take-append-drop}
 use lib.Seq.{take-at}
 use Rattle.rules.specs.Bytes.{In, all, any, fits, stands, Range, inside}
-use Rattle.rules.specs.Moves.{Move, keep, swap, stop}
+use Rattle.rules.specs.Moves.{Move, keep, swap, leave, stop}
 use Rattle.rules.specs.Utf8.{sequences, sequenceAt, keepChar}
 use Rattle.rules.specs.Tables.{Row, rowAt, value}
 use Rattle.rules.specs.Units.{IsUnit}
@@ -78,6 +78,7 @@ module _ (rows : List Row) (bars : List (List ℕ)) (ok : T (isCode value rows b
     row-length value rows bars ok (k, v) i,
     λ p. ap (λ (o : Option Row). undo o (unless (barred bars (v ++ r)) (keepChar (sequenceAt (v ++ r)) (v ++ r)))) (row-first value rows bars ok (k, v) i r),
   )
+  read-finds (leave w a) i r = absurd i
   read-finds stop i r = absurd i
   read-finds (keep a) u r =
       let (q, i, h, len) = u .0 in (

@@ -180,7 +180,7 @@ same-in a (b ∷ bs) t = go (or-cases (sameBytes a b) (any (sameBytes a) bs) t) 
     go (inl h) ih = inl (same-bytes a b h)
     go (inr h) ih = inr (ih h)
 
-same-refl : (a : List ℕ) → T (sameBytes a a)
+pub same-refl : (a : List ℕ) → T (sameBytes a a)
 same-refl [] = tt
 same-refl (x ∷ a) = and-both (eqb x x) (sameBytes a a) (eqb-refl x) (same-refl a)
 

@@ -11,7 +11,8 @@ use native.Mathlib.Omega.{arith}
 use lib.Dec.{T, leb, ltb, eqb, leb→le, ltb→lt, eqb→eq}
 use lib.ListN.{length, drop, getD}
 use Rattle.rules.specs.Bytes.{ascii, In, All, all, fits, join, Range, inside, oneOf}
-use Rattle.rules.specs.Moves.{Move, keep, swap, stop, taken, result, through}
+use Rattle.rules.specs.Moves.{Move, keep, swap, leave, stop, taken, result, through}
+use Rattle.rules.specs.declared.Reason.{Reason}
 use Rattle.rules.specs.Utf8.{sequences, IsChar, IsText, utf8, substitute}
 use Rattle.rules.specs.Tables.{Row, key, value, rows}
 use Rattle.rules.specs.Encoding.{rawStep, parted}
@@ -114,12 +115,13 @@ after (x ∷ x′ ∷ a) r [] ((z ∷ zs) ∷ cs) t y h e = after (x′ ∷ a) r
 
 -- ---- moves that keep texts valid
 
--- One byte is kept; or bytes that begin and end with ASCII give way to a text.
+-- One byte is kept; or bytes that begin and end with ASCII give way to a text, or are left, being one.
 abbrev pub Regroups : Move → Type 0
 Regroups (keep []) = ⊥
 Regroups (keep (x ∷ [])) = Unit {0}
 Regroups (keep (x ∷ y ∷ a)) = ⊥
 Regroups (swap a v) = T (edged a) × IsText v
+Regroups (leave r a) = T (edged a) × IsText a
 Regroups stop = ⊥
 
 no-edge : (a s zs : List ℕ) (z : ℕ) → T (edged a) → T (isTail z) → a ++ s ≡ z ∷ zs → ⊥
@@ -130,6 +132,17 @@ no-edge (x ∷ a) s zs z t y e =
 edge-end : (a : List ℕ) → T (edged a) → T (endsAscii a)
 edge-end [] t = absurd t
 edge-end (x ∷ a) t = and-right (isAscii x) (endsAscii (x ∷ a)) t
+
+-- Where bytes a, which begin and end with ASCII, and what the moves ms take are the rest of a character and a text, that rest is empty; and a text v and
+-- what ms give of what is left are a text.
+edged-text : (a v : List ℕ) (ms : List Move) (ys : List ℕ) (cs : List (List ℕ)) → T (edged a) → IsText v → T (all isTail ys) → All IsChar cs → a ++ taken ms ≡ ys ++ join cs
+    → ((ds : List (List ℕ)) → All IsChar ds → taken ms ≡ join ds → (w : List ℕ) × IsText w × (result ms ≡ w))
+    → (w : List ℕ) × IsText w × (v ++ result ms ≡ ys ++ w)
+edged-text a v ms (z ∷ zs) cs l u y h e rest = absurd (no-edge a (taken ms) (zs ++ join cs) z l (and-left (isTail z) (all isTail zs) y) e)
+edged-text a v ms [] cs l u y h e rest =
+    let (ds, i, q) = after a (taken ms) [] cs (edge-end a l) tt h e in
+    let (w, t, r) = rest ds i q in
+    (v ++ w, text-append v w u t, ap (λ (l : List ℕ). v ++ l) r)
 
 -- Where the rest ys of a character and a text are taken, that rest and a text are given.
 regroup : (ms : List Move) (ys : List ℕ) (cs : List (List ℕ)) → All Regroups ms → T (all isTail ys) → All IsChar cs → taken ms ≡ ys ++ join cs
@@ -146,11 +159,8 @@ regroup (keep (x ∷ []) ∷ ms) [] ([] ∷ cs) g y h e = absurd (no-char (h .0)
 regroup (keep (x ∷ []) ∷ ms) [] ((z ∷ zs) ∷ cs) g y h e =
     let (w, t, q) = regroup ms zs cs (g .1) (char-tails z zs (h .0)) (h .1) (same-rest x z (taken ms) (zs ++ join cs) e) in
     ((z ∷ zs) ++ w, text-append (z ∷ zs) w (char-text (z ∷ zs) (h .0)) t, λ i. same-head x z (taken ms) (zs ++ join cs) e i ∷ q i)
-regroup (swap a v ∷ ms) (z ∷ zs) cs g y h e = absurd (no-edge a (taken ms) (zs ++ join cs) z (g .0 .0) (and-left (isTail z) (all isTail zs) y) e)
-regroup (swap a v ∷ ms) [] cs g y h e =
-    let (ds, i, q) = after a (taken ms) [] cs (edge-end a (g .0 .0)) tt h e in
-    let (w, t, r) = regroup ms [] ds (g .1) tt i q in
-    (v ++ w, text-append v w (g .0 .1) t, ap (λ (l : List ℕ). v ++ l) r)
+regroup (swap a v ∷ ms) ys cs g y h e = edged-text a v ms ys cs (g .0 .0) (g .0 .1) y h e (λ ds i q. regroup ms [] ds (g .1) tt i q)
+regroup (leave r a ∷ ms) ys cs g y h e = edged-text a a ms ys cs (g .0 .0) (g .0 .1) y h e (λ ds i q. regroup ms [] ds (g .1) tt i q)
 regroup (stop ∷ ms) ys cs g y h e = absurd (g .0)
 
 -- What such moves give of a text is a text.
@@ -191,6 +201,9 @@ reference-regroups : (char : ℕ → Option (List ℕ)) → ((n : ℕ) (v : List
     → (body v : List ℕ) → meaning char body ≡ some v → Regroups (swap (ascii "&" ++ body ++ ascii ";") v)
 reference-regroups char text body v e = (ends-append (38 ∷ body) 59 tt, meaning-text char text body v e)
 
+left-regroups : (w : Reason) → Regroups (leave w (ascii "&"))
+left-regroups w = (tt, char-text (ascii "&") (is-char (ascii "&") tt))
+
 -- A row's value begins and ends with ASCII, and its key is a character.
 abbrev rowEdged : Row → Bool
 rowEdged e = edged (value e) && isChar (key e)
@@ -210,13 +223,13 @@ slash = (tt, char-text (ascii "/") (is-char (ascii "/") tt))
 
 decode-regroups : (c : Context) (p : ℕ) (s : List ℕ) → Fair Regroups (decodeStep c p s) s
 unfolding decodeStep referenceStep
-decode-regroups (InHtml h) = reference-fair Regroups (λ x. tt) decodeChar (reference-regroups decodeChar decode-char)
+decode-regroups (InHtml h) = reference-fair Regroups (λ x. tt) left-regroups decodeChar (reference-regroups decodeChar decode-char)
 decode-regroups (InScript q) = escape-fair Regroups (λ x. tt) bang slash (InScript q) (row-regroups (InScript q)) (ascii "script")
 decode-regroups (InStyle q) = escape-fair Regroups (λ x. tt) bang slash (InStyle q) (row-regroups (InStyle q)) (ascii "style")
 
 browse-regroups : (p : ℕ) (s : List ℕ) → Fair Regroups (browseStep p s) s
 unfolding browseStep
-browse-regroups = reference-fair Regroups (λ x. tt) browseChar (reference-regroups browseChar browse-char)
+browse-regroups = reference-fair Regroups (λ x. tt) left-regroups browseChar (reference-regroups browseChar browse-char)
 
 raw-regroups : (p : ℕ) (s : List ℕ) → Fair Regroups (rawStep p s) s
 unfolding rawStep

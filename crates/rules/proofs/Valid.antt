@@ -6,7 +6,7 @@ use mathlib.Core.List.{List, [], _∷_, _++_}
 use Prim.Native.Nat.{ℕ, _≤_}
 use lib.ListN.{length, take}
 use Rattle.rules.specs.Bytes.{All, join}
-use Rattle.rules.specs.Moves.{Move, keep, swap, stop, taken}
+use Rattle.rules.specs.Moves.{Move, keep, swap, leave, stop, taken}
 use Rattle.rules.specs.Utf8.{IsChar, IsText, validTo, charStep}
 use Rattle.rules.specs.Units.{IsUnit}
 use Rattle.rules.proofs.Machine.{place-within}
@@ -25,6 +25,7 @@ run-chars : (us : List Move) → All (IsUnit [] []) us → (cs : List (List ℕ)
 run-chars [] g = ([], tt, refl)
 run-chars (keep a ∷ us) g = let (cs, h, e) = run-chars us (g .1) in (a ∷ cs, (g .0 .0, h), ap (λ (s : List ℕ). a ++ s) e)
 run-chars (swap v k ∷ us) g = absurd (g .0)
+run-chars (leave r a ∷ us) g = absurd (g .0)
 run-chars (stop ∷ us) g = absurd (g .0)
 
 text-written : (s : List ℕ) → IsText s → IsWritten (IsUnit [] []) s

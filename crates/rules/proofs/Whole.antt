@@ -9,15 +9,17 @@ use native.Mathlib.Omega.{arith}
 use lib.Dec.{T, leb, ltb, eqb, eqb→eq, leb→le}
 use lib.ListN.{length, length-append}
 use Rattle.rules.specs.Bytes.{ascii, In, All, all, first, fits, stands, sameBytes, oneOf}
-use Rattle.rules.specs.Moves.{Move, keep, swap, takes, gives, taken, result, through}
+use Rattle.rules.specs.Moves.{Move, keep, swap, leave, takes, gives, taken, result, through}
 use Rattle.rules.specs.Utf8.{utf8}
 use Rattle.rules.specs.Tables.{Row, rowAt, key, value, rows, replacedChars}
 use Rattle.rules.specs.Names.{names}
 use Rattle.rules.specs.declared.Context.{Context}
 use Rattle.rules.specs.declared.Context.the-variants.{InHtml, InScript, InStyle}
+use Rattle.rules.specs.declared.Reason.{Reason}
+use Rattle.rules.specs.declared.Reason.the-variants.{NoEnd}
 use Rattle.rules.specs.Encoding.{keepByte, closes, anyCase, terminators}
 use Rattle.rules.specs.Reading.{undo}
-use Rattle.rules.specs.References.{digit, hexDigitAt, number, onto, bodyOf, numberOf, scalar, decodeChar, renumbering, standsFor, browseChar, valueOf, lookup, meaning, refer, atAmp, referenceBy, referenceStep, browseStep}
+use Rattle.rules.specs.References.{digit, hexDigitAt, number, onto, bodyOf, numberOf, scalar, decodeChar, renumbering, standsFor, browseChar, valueOf, lookup, meaning, why, refer, atAmp, referenceBy, referenceStep, browseStep}
 use Rattle.rules.specs.Escapes.{afterLess, escapeBy}
 use Rattle.rules.specs.Operations.{decodeStep}
 use Rattle.rules.proofs.Tests.{and-left, and-right, or-false, all-in, first-sound, stands-split, same-bytes}
@@ -31,6 +33,9 @@ Fifth m = 5 * length (gives m) ≤ 6 * length (takes m)
 
 kept-fifth : (x : ℕ) → Fifth (keep (x ∷ []))
 kept-fifth x = leb→le 5 6 tt
+
+left-fifth : (w : Reason) → Fifth (leave w (ascii "&"))
+left-fifth w = leb→le 5 6 tt
 
 -- ---- what a body stands for
 
@@ -131,21 +136,21 @@ closes-split name (x ∷ y ∷ s) t =
 -- ---- the moves of the decoders are fair, and as good as what they keep and what they replace
 
 module _ (good : Move → Type 0) (kept : (x : ℕ) → good (keep (x ∷ []))) where
-  pub reference-fair : (char : ℕ → Option (List ℕ)) → ((body v : List ℕ) → meaning char body ≡ some v → good (swap (ascii "&" ++ body ++ ascii ";") v))
+  pub reference-fair : ((w : Reason) → good (leave w (ascii "&"))) → (char : ℕ → Option (List ℕ)) → ((body v : List ℕ) → meaning char body ≡ some v → good (swap (ascii "&" ++ body ++ ascii ";") v))
       → (p : ℕ) (s : List ℕ) → Fair good (referenceBy char p s) s
-  reference-fair char read p [] = tt
-  reference-fair char read p (x ∷ xs) = go (eqb x 38) refl (bodyOf xs) refl
+  reference-fair left char read p [] = tt
+  reference-fair left char read p (x ∷ xs) = go (eqb x 38) refl (bodyOf xs) refl
     where
-      amp : x ≡ 38 → Fair good (keep (ascii "&")) (x ∷ xs)
-      amp e = (kept 38, xs, (λ i. e i ∷ xs), 0, refl)
+      amp : (w : Reason) → x ≡ 38 → Fair good (leave w (ascii "&")) (x ∷ xs)
+      amp w e = (left w, xs, (λ i. e i ∷ xs), 0, refl)
 
       found : x ≡ 38 → (body r : List ℕ) → xs ≡ body ++ 59 ∷ r → (v : Option (List ℕ)) → meaning char body ≡ v → Fair good (refer body v) (x ∷ xs)
-      found a body r w none e = amp a
+      found a body r w none e = amp (why body) a
       found a body r w (some v) e = (read body v e, r, (λ i. a i ∷ (w ∙ sym (append-assoc body (59 ∷ []) r)) i), length (body ++ ascii ";"), refl)
 
       go : (b : Bool) → eqb x 38 ≡ b → (o : Option (List ℕ)) → bodyOf xs ≡ o → Fair good (cond b (atAmp char o) (keep (x ∷ []))) (x ∷ xs)
       go false h o f = (kept x, xs, refl, 0, refl)
-      go true h none f = amp (eqb→eq x 38 (subst T (sym h) tt))
+      go true h none f = amp NoEnd (eqb→eq x 38 (subst T (sym h) tt))
       go true h (some body) f = let (r, w) = body-split xs body f in found (eqb→eq x 38 (subst T (sym h) tt)) body r w (meaning char body) refl
 
   byte-fair : (s : List ℕ) → Fair good (keepByte s) s
@@ -224,7 +229,7 @@ row-fifth c row i = leb→le (5 * length (key row)) (6 * length (value row)) (al
 -- What decode takes at a place is there, and what it gives is at most a fifth longer.
 pub decode-fair : (c : Context) (p : ℕ) (s : List ℕ) → Fair Fifth (decodeStep c p s) s
 unfolding decodeStep referenceStep
-decode-fair (InHtml h) = reference-fair Fifth kept-fifth decodeChar (reference-fifth decodeChar decode-short)
+decode-fair (InHtml h) = reference-fair Fifth kept-fifth left-fifth decodeChar (reference-fifth decodeChar decode-short)
 decode-fair (InScript q) = escape-fair Fifth kept-fifth (leb→le 5 12 tt) (leb→le 5 12 tt) (InScript q) (row-fifth (InScript q)) (ascii "script")
 decode-fair (InStyle q) = escape-fair Fifth kept-fifth (leb→le 5 12 tt) (leb→le 5 12 tt) (InStyle q) (row-fifth (InStyle q)) (ascii "style")
 
@@ -240,7 +245,7 @@ decode-whole c = whole Fifth (decodeStep c) (decode-fair c) (decode-goes c)
 -- The same of browse.
 pub browse-fair : (p : ℕ) (s : List ℕ) → Fair Fifth (browseStep p s) s
 unfolding browseStep
-browse-fair = reference-fair Fifth kept-fifth browseChar (reference-fifth browseChar browse-short)
+browse-fair = reference-fair Fifth kept-fifth left-fifth browseChar (reference-fifth browseChar browse-short)
 
 pub browse-whole : (s : List ℕ) → taken (through browseStep s) ≡ s
 unfolding browseStep

@@ -8,7 +8,8 @@ use mathlib.Core.List.{List, [], _∷_}
 use Prim.Native.Nat.{ℕ, zero, suc, _-_, _/_, _%_}
 use lib.Dec.{eqb}
 use lib.ListN.{length as size, take, drop, getD}
-use Rattle.rules.specs.Moves.{Move, swap, result, replaced, place as placeOf}
+use Rattle.rules.specs.Bytes.{ascii}
+use Rattle.rules.specs.Moves.{Move, swap, leave, result, replaced, place as placeOf, firstLeft}
 use Rattle.rules.specs.Utf8.{utf8, substitute}
 use Rattle.rules.specs.Tables.{Row, key, value, slashed, hexRow, lineSeparator, paragraphSeparator}
 use Rattle.rules.specs.Encoding.{keepByte}
@@ -19,7 +20,7 @@ use Rattle.rules.specs.declared.DecodedEntityValue.the-variants.{Named, 
 use Rattle.rules.specs.declared.Meaning.{Meaning}
 use Rattle.rules.specs.declared.Meaning.the-variants.{Value, Nothing as NoMeaning}
 use Rattle.rules.specs.declared.Reference.{Reference}
-use Rattle.rules.specs.declared.Reference.the-variants.{Found, Nothing as NoReference}
+use Rattle.rules.specs.declared.Reference.the-variants.{Found, Left}
 use Rattle.rules.specs.declared.Escape.{Escape}
 use Rattle.rules.specs.declared.Escape.the-variants.{Taken, Nothing as NoEscape}
 use Rattle.rules.specs.declared.Replacement.{Replacement}
@@ -42,10 +43,10 @@ abbrev pub meaningBytes : Meaning → Option (List ℕ)
 meaningBytes (Value v) = some (valueBytes v)
 meaningBytes NoMeaning = none
 
--- The move at place i of a text, where the reference reader was asked: the reference gives way, or the byte is kept.
-abbrev pub referenceMove : List ℕ → ℕ → Reference → Move
-referenceMove t i (Found e) = swap (take (e .end - e .start) (drop (e .start) t)) (valueBytes (e .value))
-referenceMove t i NoReference = keepByte (drop i t)
+-- The move at an `&` of a text, where the reference reader was asked: the reference gives way, or it stays.
+abbrev pub referenceMove : List ℕ → Reference → Move
+referenceMove t (Found e) = swap (take (e .end - e .start) (drop (e .start) t)) (valueBytes (e .value))
+referenceMove t (Left r) = leave r (ascii "&")
 
 -- The move at the head of s, where the reader of escapes was asked.
 abbrev pub escapeMove : List ℕ → Escape → Move
@@ -74,3 +75,4 @@ pub record Measures (found : Measured) (ms : List Move) : Type 0 where
   pub long : found .length ≡ size (result ms)
   pub reach : found .place ≡ placeOf ms
   pub many : found .replaced ≡ replaced ms
+  pub first : (found .left ≡ firstLeft ms .0) × (found .reason ≡ firstLeft ms .1)

@@ -8,15 +8,15 @@ use Prim.Native.String.{String}
 use lib.Dec.{leb, eqb}
 use lib.ListN.{length as size}
 use Rattle.rules.specs.Bytes.{ascii, count, bytes, join, only, Range, inside, oneOf, sameBytes}
-use Rattle.rules.specs.Moves.{Move, keep, swap, stop}
+use Rattle.rules.specs.Moves.{Move, keep, swap, leave, stop, takes, gives, reasonNumber}
 use Rattle.rules.specs.Utf8.{validTo, utf8, substitute}
 use Rattle.rules.specs.Contexts.{contextOf}
 use Rattle.rules.specs.Tables.{Row, key, value}
 use Rattle.rules.specs.Encoding.{closes}
 use Rattle.rules.specs.Refusals.{refusal, success, checkOf}
 use Rattle.rules.specs.Answers.{referenceMove, escapeMove, replacedMove}
-use Rattle.rules.specs.Program.{printed, entityOf}
-use Rattle.rules.specs.Examples.{Example, passesIn, example, stays, refusedIn, refused, holds}
+use Rattle.rules.specs.Program.{printed, entityOf, reasonsOf}
+use Rattle.rules.specs.Examples.{Example, passesIn, example, stays, leaving, refusedIn, refused, holds}
 use Rattle.rules.specs.declared.Html.the-variants.{TextMinimal, Text, Quoted, Safe, Unquoted}
 use Rattle.rules.specs.declared.Quotes.the-variants.{Single, Double, Both}
 use Rattle.rules.specs.declared.Context.the-variants.{InHtml, InScript, InStyle}
@@ -25,7 +25,8 @@ use Rattle.rules.specs.declared.AnyContext.the-variants.{Units, ScriptRa
 use Rattle.rules.specs.declared.Operation.{Operation}
 use Rattle.rules.specs.declared.Operation.the-variants.{Encode, Decode, Read, Browse}
 use Rattle.rules.specs.declared.DecodedEntityValue.the-variants.{Named as NamedText, Character}
-use Rattle.rules.specs.declared.Reference.the-variants.{Found, Nothing as NoReference}
+use Rattle.rules.specs.declared.Reason.the-variants.{NoEnd, Empty, UnknownName, NoDigit, NotAllowed}
+use Rattle.rules.specs.declared.Reference.the-variants.{Found, Left}
 use Rattle.rules.specs.declared.Escape.the-variants.{Taken, Nothing as NoEscape}
 use Rattle.rules.specs.declared.Language.the-variants.{Script, Style}
 use Rattle.rules.specs.declared.Replacement.the-variants.{Slashed, Hex, Separator, Substitute}
@@ -211,7 +212,7 @@ request op context text = ascii "op=" ++ op ++ ascii "\ncontext=" ++ context ++ 
 
 -- A context writes these bytes with so many replaced, asked for by its number and by its name.
 abbrev pub writes : ℕ → List ℕ → ℕ → List ℕ → Bool
-writes n name k r = holds (example Encode (contextOf n) everyByte r k) && sameBytes (entityOf (request (ascii "encode") name everyByte)) (printed (success (size r) k) r)
+writes n name k r = holds (example Encode (contextOf n) everyByte r k) && sameBytes (entityOf (request (ascii "encode") name everyByte)) (printed (success (size r) k (0, 0)) r)
 
 -- The contexts from number n on do so.
 abbrev pub writeFrom : ℕ → List (List ℕ × ℕ × List ℕ) → Bool
@@ -312,18 +313,18 @@ references =
     example Decode (Units (InHtml Text)) (ascii "&#X41;&#x41;&#65;") (ascii "AAA") 3
     ∷ example Decode (Units (InHtml Text)) (ascii "&#000000000000000000000000000000000000000065;") (ascii "A") 1
     ∷ example Decode (Units (InHtml Text)) (ascii "&#x0000000000000000000000000000000000000000aF;") (0xC2 ∷ 0xAF ∷ []) 1
-    ∷ stays Decode (Units (InHtml Text)) (ascii "&#;")
-    ∷ stays Decode (Units (InHtml Text)) (ascii "&#x;")
-    ∷ stays Decode (Units (InHtml Text)) (ascii "&#X;")
-    ∷ stays Decode (Units (InHtml Text)) (ascii "&#-65;")
-    ∷ stays Decode (Units (InHtml Text)) (ascii "&#x+41;")
-    ∷ stays Decode (Units (InHtml Text)) (ascii "&# 65;")
-    ∷ stays Decode (Units (InHtml Text)) (ascii "&#8;")
+    ∷ leaving 0 2 (stays Decode (Units (InHtml Text)) (ascii "&#;"))
+    ∷ leaving 0 2 (stays Decode (Units (InHtml Text)) (ascii "&#x;"))
+    ∷ leaving 0 2 (stays Decode (Units (InHtml Text)) (ascii "&#X;"))
+    ∷ leaving 0 4 (stays Decode (Units (InHtml Text)) (ascii "&#-65;"))
+    ∷ leaving 0 4 (stays Decode (Units (InHtml Text)) (ascii "&#x+41;"))
+    ∷ leaving 0 4 (stays Decode (Units (InHtml Text)) (ascii "&# 65;"))
+    ∷ leaving 0 5 (stays Decode (Units (InHtml Text)) (ascii "&#8;"))
     ∷ example Decode (Units (InHtml Text)) (ascii "&#10;") (0x0A ∷ []) 1
     ∷ example Decode (Units (InHtml Text)) (ascii "&#12;") (0x0C ∷ []) 1
     ∷ example Decode (Units (InHtml Text)) (ascii "&#13;") (0x0D ∷ []) 1
-    ∷ stays Decode (Units (InHtml Text)) (ascii "&#14;")
-    ∷ stays Decode (Units (InHtml Text)) (ascii "&#31;")
+    ∷ leaving 0 5 (stays Decode (Units (InHtml Text)) (ascii "&#14;"))
+    ∷ leaving 0 5 (stays Decode (Units (InHtml Text)) (ascii "&#31;"))
     ∷ example Decode (Units (InHtml Text)) (ascii "&#32;") (ascii " ") 1
     ∷ example Decode (Units (InHtml Text)) (ascii "&#127;") (0x7F ∷ []) 1
     ∷ example Decode (Units (InHtml Text)) (ascii "&#128;") (0xC2 ∷ 0x80 ∷ []) 1
@@ -332,41 +333,41 @@ references =
     ∷ example Decode (Units (InHtml Text)) (ascii "&#xFFFF;") (0xEF ∷ 0xBF ∷ 0xBF ∷ []) 1
     ∷ example Decode (Units (InHtml Text)) (ascii "&#x10000;") (0xF0 ∷ 0x90 ∷ 0x80 ∷ 0x80 ∷ []) 1
     ∷ example Decode (Units (InHtml Text)) (ascii "&#xD7FF;") (0xED ∷ 0x9F ∷ 0xBF ∷ []) 1
-    ∷ stays Decode (Units (InHtml Text)) (ascii "&#xDFFF;")
+    ∷ leaving 0 5 (stays Decode (Units (InHtml Text)) (ascii "&#xDFFF;"))
     ∷ example Decode (Units (InHtml Text)) (ascii "&#xE000;") (0xEE ∷ 0x80 ∷ 0x80 ∷ []) 1
     ∷ example Decode (Units (InHtml Text)) (ascii "&#x10FFFF;") (0xF4 ∷ 0x8F ∷ 0xBF ∷ 0xBF ∷ []) 1
-    ∷ stays Decode (Units (InHtml Text)) (ascii "&#x110000;")
-    ∷ stays Decode (Units (InHtml Text)) (ascii "&#4294967361;")
-    ∷ stays Decode (Units (InHtml Text)) (ascii "&#x100000041;")
-    ∷ stays Decode (Units (InHtml Text)) (ascii "&#18446744073709551681;")
-    ∷ stays Decode (Units (InHtml Text)) (ascii "&#6/;")
-    ∷ stays Decode (Units (InHtml Text)) (ascii "&#6:;")
-    ∷ stays Decode (Units (InHtml Text)) (ascii "&#x4@;")
-    ∷ stays Decode (Units (InHtml Text)) (ascii "&#x4G;")
-    ∷ stays Decode (Units (InHtml Text)) (ascii "&#x4`;")
-    ∷ stays Decode (Units (InHtml Text)) (ascii "&#x4g;")
-    ∷ stays Decode (Units (InHtml Text)) (ascii "&#x4/;")
-    ∷ stays Decode (Units (InHtml Text)) (ascii "&#x4:;")
+    ∷ leaving 0 5 (stays Decode (Units (InHtml Text)) (ascii "&#x110000;"))
+    ∷ leaving 0 5 (stays Decode (Units (InHtml Text)) (ascii "&#4294967361;"))
+    ∷ leaving 0 5 (stays Decode (Units (InHtml Text)) (ascii "&#x100000041;"))
+    ∷ leaving 0 5 (stays Decode (Units (InHtml Text)) (ascii "&#18446744073709551681;"))
+    ∷ leaving 0 4 (stays Decode (Units (InHtml Text)) (ascii "&#6/;"))
+    ∷ leaving 0 4 (stays Decode (Units (InHtml Text)) (ascii "&#6:;"))
+    ∷ leaving 0 4 (stays Decode (Units (InHtml Text)) (ascii "&#x4@;"))
+    ∷ leaving 0 4 (stays Decode (Units (InHtml Text)) (ascii "&#x4G;"))
+    ∷ leaving 0 4 (stays Decode (Units (InHtml Text)) (ascii "&#x4`;"))
+    ∷ leaving 0 4 (stays Decode (Units (InHtml Text)) (ascii "&#x4g;"))
+    ∷ leaving 0 4 (stays Decode (Units (InHtml Text)) (ascii "&#x4/;"))
+    ∷ leaving 0 4 (stays Decode (Units (InHtml Text)) (ascii "&#x4:;"))
     ∷ example Decode (Units (InHtml Text)) (ascii "&#x09;") (0x09 ∷ []) 1
     ∷ example Decode (Units (InHtml Text)) (ascii "&#xA;&#xa;&#xF9;&#xf9;") (0x0A ∷ 0x0A ∷ 0xC3 ∷ 0xB9 ∷ 0xC3 ∷ 0xB9 ∷ []) 4
-    ∷ stays Decode (Units (InHtml Text)) (ascii "&#6x5;")
-    ∷ example Decode (Units (InHtml Text)) (ascii "&#65&#66;") (ascii "&#65B") 1
-    ∷ stays Decode (Units (InHtml Text)) (ascii "&#65")
-    ∷ stays Decode (Units (InHtml Text)) (ascii "&#x41")
-    ∷ stays Decode (Units (InHtml Text)) (ascii "&;")
-    ∷ stays Decode (Units (InHtml Text)) (ascii "&amp")
-    ∷ example Decode (Units (InHtml Text)) (ascii "&AMP;&Amp;") (ascii "&&Amp;") 1
-    ∷ stays Decode (Units (InHtml Text)) (ascii "& amp;")
-    ∷ example Decode (Units (InHtml Text)) (ascii "&amp&lt;") (ascii "&amp<") 1
+    ∷ leaving 0 4 (stays Decode (Units (InHtml Text)) (ascii "&#6x5;"))
+    ∷ leaving 0 1 (example Decode (Units (InHtml Text)) (ascii "&#65&#66;") (ascii "&#65B") 1)
+    ∷ leaving 0 1 (stays Decode (Units (InHtml Text)) (ascii "&#65"))
+    ∷ leaving 0 1 (stays Decode (Units (InHtml Text)) (ascii "&#x41"))
+    ∷ leaving 0 2 (stays Decode (Units (InHtml Text)) (ascii "&;"))
+    ∷ leaving 0 1 (stays Decode (Units (InHtml Text)) (ascii "&amp"))
+    ∷ leaving 5 3 (example Decode (Units (InHtml Text)) (ascii "&AMP;&Amp;") (ascii "&&Amp;") 1)
+    ∷ leaving 0 3 (stays Decode (Units (InHtml Text)) (ascii "& amp;"))
+    ∷ leaving 0 1 (example Decode (Units (InHtml Text)) (ascii "&amp&lt;") (ascii "&amp<") 1)
     ∷ example Decode (Units (InHtml Text)) (ascii "&amp;amp;") (ascii "&amp;") 1
-    ∷ example Decode (Units (InHtml Text)) (ascii "a&b;c&lt;d") (ascii "a&b;c<d") 1
-    ∷ example Decode (Units (InHtml Text)) (ascii "&&&gt;;") (ascii "&&>;") 1
+    ∷ leaving 1 3 (example Decode (Units (InHtml Text)) (ascii "a&b;c&lt;d") (ascii "a&b;c<d") 1)
+    ∷ leaving 0 1 (example Decode (Units (InHtml Text)) (ascii "&&&gt;;") (ascii "&&>;") 1)
     ∷ example Decode (Units (InHtml Text)) (ascii "&AElig;&zwnj;") (0xC3 ∷ 0x86 ∷ 0xE2 ∷ 0x80 ∷ 0x8C ∷ []) 2
     ∷ example Decode (Units (InHtml Text)) (ascii "&nLt;&nGt;") (0xE2 ∷ 0x89 ∷ 0xAA ∷ 0xE2 ∷ 0x83 ∷ 0x92 ∷ 0xE2 ∷ 0x89 ∷ 0xAB ∷ 0xE2 ∷ 0x83 ∷ 0x92 ∷ []) 2
     ∷ example Decode (Units (InHtml Text)) (ascii "&NewLine;&Tab;") (0x0A ∷ 0x09 ∷ []) 2
     ∷ example Decode (Units (InHtml TextMinimal)) (ascii "&quot;") (ascii "\"") 1
     ∷ example Decode (Units (InHtml Safe)) (ascii "&#x2F;") (ascii "/") 1
-    ∷ stays Decode (Units (InHtml Unquoted)) (ascii "&#x0B;")
+    ∷ leaving 0 5 (stays Decode (Units (InHtml Unquoted)) (ascii "&#x0B;"))
     ∷ []
 
 -- The same in browse, where it differs and where not.
@@ -378,8 +379,37 @@ browsed =
     ∷ example Browse (Units (InHtml Text)) (ascii "&#xD7FF;&#xD800;&#xDFFF;&#xE000;") (0xED ∷ 0x9F ∷ 0xBF ∷ substitute ++ substitute ++ 0xEE ∷ 0x80 ∷ 0x80 ∷ []) 4
     ∷ example Browse (Units (InHtml Text)) (ascii "&#x10FFFF;&#x110000;") (0xF4 ∷ 0x8F ∷ 0xBF ∷ 0xBF ∷ 0xEF ∷ 0xBF ∷ 0xBD ∷ []) 2
     ∷ example Browse (Units (InHtml Text)) (ascii "&#4294967296;&#4294967361;&#18446744073709551681;") (substitute ++ substitute ++ substitute) 3
-    ∷ stays Browse (Units (InHtml Text)) (ascii "&#;&#x;&#+65;&bogus;&amp")
+    ∷ leaving 0 2 (stays Browse (Units (InHtml Text)) (ascii "&#;&#x;&#+65;&bogus;&amp"))
     ∷ example Browse (Units (InHtml Text)) (ascii "&lt;&amp;lt;") (ascii "<&lt;") 2
+    ∷ []
+
+-- A text that begins with a reference that stays, for the same reason in decode and in browse.
+abbrev pub leavesIn : ℕ → List ℕ → List Example
+leavesIn r t = leaving 0 r (stays Decode (Units (InHtml Text)) t) ∷ leaving 0 r (stays Browse (Units (InHtml Safe)) t) ∷ []
+
+-- References that stay: each reason, and which of two goes first.
+abbrev pub leavings : List Example
+leavings =
+    join (
+    map (leavesIn 1) (ascii "&" ∷ ascii "&amp" ∷ ascii "&#" ∷ ascii "&#65" ∷ ascii "& b" ∷ ascii "&&;" ∷ ascii "&#x41&#0" ∷ [])
+    ++ map (leavesIn 2) (ascii "&;" ∷ ascii "&#;" ∷ ascii "&#x;" ∷ ascii "&#X;" ∷ ascii "&;&bogus;&" ∷ [])
+    ++ map (leavesIn 3) (ascii "& ;" ∷ ascii "&Amp;" ∷ ascii "&amp ;" ∷ ascii "&x41;" ∷ (0x26 ∷ 0xC3 ∷ 0xA9 ∷ 0x3B ∷ []) ∷ ascii "&nbps;&;" ∷ [])
+    ++ map (leavesIn 4)
+    (ascii "&#g;" ∷ ascii "&# ;" ∷ ascii "&#+65;" ∷ ascii "&#-0;" ∷ ascii "&##;" ∷ ascii "&#a;" ∷ ascii "&#xg;" ∷ ascii "&#xx1;" ∷ ascii "&#Xx;" ∷ ascii "&#6x5;"
+    ∷ ascii "&#0x;" ∷ ascii "&#99999999999x;" ∷ ascii "&#xD800g;" ∷ ascii "&#0 ;" ∷ []))
+    ++ map (λ (t : List ℕ). leaving 0 5 (stays Decode (Units (InHtml Text)) t))
+    (ascii "&#0;" ∷ ascii "&#00;" ∷ ascii "&#31;" ∷ ascii "&#xB;" ∷ ascii "&#xD800;" ∷ ascii "&#XDFFF;" ∷ ascii "&#x110000;" ∷ ascii "&#4294967296;" ∷ ascii "&#99999999999;" ∷ [])
+    ++ leaving 2 1 (stays Decode (Units (InHtml Text)) (ascii "a & b"))
+    ∷ leaving 1 1 (example Decode (Units (InHtml Text)) (ascii "a&&lt;&;") (ascii "a&<&;") 1)
+    ∷ leaving 4 2 (example Browse (Units (InHtml Text)) (ascii "&lt;&;&#0;&") (ascii "<&;" ++ substitute ++ ascii "&") 2)
+    ∷ leaving 8 3 (example Browse (Units (InHtml Text)) (ascii "&#0;&#1;&b;") (substitute ++ 0x01 ∷ ascii "&b;") 2)
+    ∷ leaving 5 5 (example Decode (Units (InHtml Text)) (ascii "&amp;&#0;&amp;&;") (ascii "&&#0;&&;") 2)
+    ∷ refusedIn 1 Decode (Units (InHtml Text)) (ascii "&&lt;") 3 2 0
+    ∷ refused Decode (Units (InHtml Text)) (ascii "&;" ++ 0x80 ∷ []) 2 2
+    ∷ stays Decode (Units (InScript Both)) (ascii "&;")
+    ∷ stays Read (Units (InScript Both)) (ascii "&;")
+    ∷ stays Encode (Units (InStyle Both)) (ascii "&;")
+    ∷ stays Encode ScriptRaw (ascii "&;")
     ∷ []
 
 -- One reference after the other to the same number: decimal, hex, and both with leading zeros.
@@ -454,17 +484,16 @@ renumberingDigest = 658272577
 
 -- ---- answers that are enums
 
+-- What kind of move it is: a reference that stays has the number of its reason.
+abbrev pub kind : Move → ℕ
+kind (keep a) = 0
+kind (leave r a) = reasonNumber r
+kind (swap a b) = 6
+kind stop = 7
+
 -- Two moves are the same.
 abbrev pub sameMove : Move → Move → Bool
-sameMove (keep a) (keep b) = sameBytes a b
-sameMove (keep a) (swap b y) = false
-sameMove (keep a) stop = false
-sameMove (swap a x) (keep b) = false
-sameMove (swap a x) (swap b y) = sameBytes a b && sameBytes x y
-sameMove (swap a x) stop = false
-sameMove stop (keep b) = false
-sameMove stop (swap b y) = false
-sameMove stop stop = true
+sameMove m n = eqb (kind m) (kind n) && sameBytes (takes m) (takes n) && sameBytes (gives m) (gives n)
 
 -- A case of an enum, read on paper, and the move that it is.
 abbrev pub papers : List (Move × Move)
@@ -479,11 +508,15 @@ papers =
     ∷ (escapeMove (ascii "\\u2028a") (Taken 6 0x2028), swap (ascii "\\u2028") (0xE2 ∷ 0x80 ∷ 0xA8 ∷ []))
     ∷ (escapeMove (ascii "\\a") NoEscape, keep (ascii "\\"))
     ∷ (
-      referenceMove (ascii "a&nGt;b") 1 (Found (record { start = 1; end = 6; value = NamedText 0x9283E2AB89E2 })),
+      referenceMove (ascii "a&nGt;b") (Found (record { start = 1; end = 6; value = NamedText 0x9283E2AB89E2 })),
       swap (ascii "&nGt;") (0xE2 ∷ 0x89 ∷ 0xAB ∷ 0xE2 ∷ 0x83 ∷ 0x92 ∷ []),
     )
-    ∷ (referenceMove (ascii "a&#65;b") 1 (Found (record { start = 1; end = 6; value = Character 65 })), swap (ascii "&#65;") (ascii "A"))
-    ∷ (referenceMove (ascii "a&;b") 1 NoReference, keep (ascii "&"))
+    ∷ (referenceMove (ascii "a&#65;b") (Found (record { start = 1; end = 6; value = Character 65 })), swap (ascii "&#65;") (ascii "A"))
+    ∷ (referenceMove (ascii "&") (Left NoEnd), leave NoEnd (ascii "&"))
+    ∷ (referenceMove (ascii "&;") (Left Empty), leave Empty (ascii "&"))
+    ∷ (referenceMove (ascii "&b;") (Left UnknownName), leave UnknownName (ascii "&"))
+    ∷ (referenceMove (ascii "&#b;") (Left NoDigit), leave NoDigit (ascii "&"))
+    ∷ (referenceMove (ascii "&#0;") (Left NotAllowed), leave NotAllowed (ascii "&"))
     ∷ []
 
 -- It is.
@@ -640,12 +673,12 @@ abbrev pub copying : List Example
 copying = refusedIn 2 Encode (Units (InHtml Text)) (ascii "abc") 3 3 0 ∷ passesIn 3 Encode (Units (InHtml Text)) (ascii "abc") (ascii "abc") 0 ∷ []
 
 abbrev pub borrowing : List Example
-borrowing = passesIn 2 Encode (Units (InHtml Text)) (ascii "abc") (ascii "abc") 0 ∷ passesIn 0 Decode (Units (InHtml Text)) (ascii "a&b;") (ascii "a&b;") 0 ∷ []
+borrowing = passesIn 2 Encode (Units (InHtml Text)) (ascii "abc") (ascii "abc") 0 ∷ leaving 1 3 (passesIn 0 Decode (Units (InHtml Text)) (ascii "a&b;") (ascii "a&b;") 0) ∷ []
 
 -- ---- all of these that are examples
 
 abbrev pub edges : List Example
-edges = closings ++ tags ++ escapes ++ references ++ browsed ++ highNumbers ++ readings ++ refusals ++ cuts
+edges = closings ++ tags ++ escapes ++ references ++ browsed ++ leavings ++ highNumbers ++ readings ++ refusals ++ cuts
 
 -- ---- check
 
@@ -718,3 +751,20 @@ requests =
 -- It does.
 abbrev pub answers : List ℕ × List ℕ → Bool
 answers e = sameBytes (entityOf (e .0)) (e .1)
+
+-- What `reasons` reads, and what it prints.
+abbrev pub reported : List (List ℕ × List ℕ)
+reported =
+    ([], [])
+    ∷ (ascii "Nan&amp;s &lt;3", [])
+    ∷ (ascii "&nbps;", ascii "place=0 reason=3\n")
+    ∷ (ascii "a & b &lt; &#; &bogus; &#+65; &#0;", ascii "place=2 reason=1\nplace=11 reason=2\nplace=15 reason=3\nplace=23 reason=4\nplace=30 reason=5\n")
+    ∷ (map (λ (b : ℕ). 0x61) (count 0 8190) ++ ascii "&;", ascii "place=8190 reason=2\n")
+    ∷ (0x80 ∷ map (λ (b : ℕ). 0x26) (count 0 8191), ascii "status=2\n")
+    ∷ (0x80 ∷ map (λ (b : ℕ). 0x26) (count 0 8192), ascii "status=1\n")
+    ∷ (ascii "&" ++ 0xE2 ∷ 0x82 ∷ [], ascii "status=7\n")
+    ∷ []
+
+-- It does.
+abbrev pub reports : List ℕ × List ℕ → Bool
+reports e = sameBytes (reasonsOf (e .0)) (e .1)

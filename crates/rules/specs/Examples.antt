@@ -27,7 +27,7 @@ pub record Example : Type 0 where
 
 -- A call in an output of so many bytes that passes, with its result and how many places are replaced.
 abbrev pub passesIn : ℕ → Operation → AnyContext → List ℕ → List ℕ → ℕ → Example
-passesIn room o n t r k = record { operation = o; context = n; text = t; room = room; says = success (size r) k; gives = r }
+passesIn room o n t r k = record { operation = o; context = n; text = t; room = room; says = success (size r) k (0, 0); gives = r }
 
 -- One in an output that is two bytes longer than the result.
 abbrev pub example : Operation → AnyContext → List ℕ → List ℕ → ℕ → Example
@@ -36,6 +36,25 @@ example o n t r k = passesIn (size r + 2) o n t r k
 -- The bytes stay as they are.
 abbrev pub stays : Operation → AnyContext → List ℕ → Example
 stays o n t = example o n t t 0
+
+-- The same example, where a reference stays: its place and the reason.
+abbrev pub leaving : ℕ → ℕ → Example → Example
+leaving i r e = record {
+  operation = e .operation;
+  context = e .context;
+  text = e .text;
+  room = e .room;
+  says = record {
+    status = e .says .status;
+    length = e .says .length;
+    same = e .says .same;
+    replaced = e .says .replaced;
+    place = e .says .place;
+    left = i;
+    reason = r;
+  };
+  gives = e .gives;
+}
 
 -- A call in an output of so many bytes that is refused, with status, length and place.
 abbrev pub refusedIn : ℕ → Operation → AnyContext → List ℕ → ℕ → ℕ → ℕ → Example
@@ -49,7 +68,7 @@ refused o n t s p = refusedIn 9 o n t s 0 p
 abbrev pub sameAnswer : Answer → Answer → Bool
 sameAnswer a b =
     eqb (a .status) (b .status) && eqb (a .length) (b .length) && eqb (a .same) (b .same) && eqb (a .replaced) (b .replaced)
-    && eqb (a .place) (b .place)
+    && eqb (a .place) (b .place) && eqb (a .left) (b .left) && eqb (a .reason) (b .reason)
 
 -- What a call leaves in the output: the result over what stood there, if it passes and does not lend the text.
 abbrev pub leaves : Bool → Example → List ℕ → List ℕ
@@ -87,15 +106,15 @@ starred =
     ∷ example Encode ScriptRaw (ascii "<</script") (ascii "<<\\/script") 1
     ∷ stays Encode ScriptRaw (ascii "</scripts>")
     -- 8
-    ∷ example Decode (Units (InHtml Text)) (ascii "&&lt;") (ascii "&<") 1
+    ∷ leaving 0 1 (example Decode (Units (InHtml Text)) (ascii "&&lt;") (ascii "&<") 1)
     ∷ example Decode (Units (InHtml Text)) (ascii "&amp;lt;") (ascii "&lt;") 1
     -- 9
     ∷ example Decode (Units (InHtml Text)) (ascii "&#9;") (0x09 ∷ []) 1
-    ∷ stays Decode (Units (InHtml Text)) (ascii "&#11;")
-    ∷ stays Decode (Units (InHtml Text)) (ascii "&#0;")
-    ∷ stays Decode (Units (InHtml Text)) (ascii "&#+65;")
-    ∷ stays Decode (Units (InHtml Text)) (ascii "&#xD800;")
-    ∷ stays Decode (Units (InHtml Text)) (ascii "&#4294967296;")
+    ∷ leaving 0 5 (stays Decode (Units (InHtml Text)) (ascii "&#11;"))
+    ∷ leaving 0 5 (stays Decode (Units (InHtml Text)) (ascii "&#0;"))
+    ∷ leaving 0 4 (stays Decode (Units (InHtml Text)) (ascii "&#+65;"))
+    ∷ leaving 0 5 (stays Decode (Units (InHtml Text)) (ascii "&#xD800;"))
+    ∷ leaving 0 5 (stays Decode (Units (InHtml Text)) (ascii "&#4294967296;"))
     -- 10
     ∷ example Decode (Units (InScript Both)) (ascii "\\\\x3C") (ascii "\\x3C") 1
     ∷ stays Decode (Units (InScript Both)) (ascii "\\x3c")

@@ -9,6 +9,7 @@ pub mod Encoding
 pub mod Reading
 pub mod Names
 pub mod References
+pub mod Reasons
 pub mod Escapes
 pub mod Operations
 pub mod Refusals

@@ -1,25 +1,30 @@
--- RULES 2. Steps through a text: the one machine of every operation. Result, place and replaced places are read off the moves.
+-- RULES 2. Steps through a text: the one machine of every operation. Result, place, replaced places and references that stay are read off the moves.
 -- Assumes nothing.
 use mathlib.Core.List.{List, [], _∷_, _++_}
 use Prim.Native.Nat.{ℕ, zero, suc, pred, _+_, _-_}
 use lib.ListN.{length, drop, getD}
+use Rattle.rules.specs.declared.Reason.{Reason}
+use Rattle.rules.specs.declared.Reason.the-variants.{NoEnd, Empty, UnknownName, NoDigit, NotAllowed}
 
--- One move: bytes are kept as they are; bytes give way to others; or nothing can be taken here.
+-- One move: bytes are kept as they are; bytes give way to others; a reference stays for a reason, and its `&` is kept; or nothing can be taken here.
 pub data Move : Type 0 where
   keep : List ℕ → Move
   swap : List ℕ → List ℕ → Move
+  leave : Reason → List ℕ → Move
   stop : Move
 
 -- The bytes of the text that a move takes.
 abbrev pub takes : Move → List ℕ
 takes (keep a) = a
 takes (swap a b) = a
+takes (leave r a) = a
 takes stop = []
 
 -- The bytes of the result that it gives.
 abbrev pub gives : Move → List ℕ
 gives (keep a) = a
 gives (swap a b) = b
+gives (leave r a) = a
 gives stop = []
 
 -- A rule says the move at a place from the byte before (0 at the start) and the text from there on.
@@ -30,6 +35,7 @@ Rule = ℕ → List ℕ → Move
 abbrev pub andThen : Move → List Move → List Move
 andThen (keep a) ms = keep a ∷ ms
 andThen (swap a b) ms = swap a b ∷ ms
+andThen (leave r a) ms = leave r a ∷ ms
 andThen stop ms = []
 
 -- The moves of a rule through a text: the rule's move here, and then the moves from behind what it takes.
@@ -62,13 +68,44 @@ abbrev pub replaced : List Move → ℕ
 replaced [] = 0
 replaced (keep a ∷ ms) = replaced ms
 replaced (swap a b ∷ ms) = suc (replaced ms)
+replaced (leave r a ∷ ms) = replaced ms
 replaced (stop ∷ ms) = replaced ms
+
+-- Place and reason of each reference that stays, in the order of the text, where the moves begin at place i.
+abbrev pub leftsAt : ℕ → List Move → List (ℕ × Reason)
+leftsAt i [] = []
+leftsAt i (keep a ∷ ms) = leftsAt (i + length a) ms
+leftsAt i (swap a b ∷ ms) = leftsAt (i + length a) ms
+leftsAt i (leave r a ∷ ms) = (i, r) ∷ leftsAt (i + length a) ms
+leftsAt i (stop ∷ ms) = leftsAt i ms
+
+-- Those of the moves through a text.
+abbrev pub lefts : List Move → List (ℕ × Reason)
+lefts ms = leftsAt 0 ms
+
+-- The number of each reason.
+abbrev pub reasonNumber : Reason → ℕ
+reasonNumber NoEnd = 1
+reasonNumber Empty = 2
+reasonNumber UnknownName = 3
+reasonNumber NoDigit = 4
+reasonNumber NotAllowed = 5
+
+-- Place and number of the first; 0 and 0 where there is none.
+abbrev pub firstOf : List (ℕ × Reason) → ℕ × ℕ
+firstOf [] = (0, 0)
+firstOf (l ∷ ls) = (l .0, reasonNumber (l .1))
+
+-- Place and reason of the first reference that stays.
+abbrev pub firstLeft : List Move → ℕ × ℕ
+firstLeft ms = firstOf (lefts ms)
 
 -- By how much the replaced places that grow do so.
 abbrev pub growth : List Move → ℕ
 growth [] = 0
 growth (keep a ∷ ms) = growth ms
 growth (swap a b ∷ ms) = (length b - length a) + growth ms
+growth (leave r a ∷ ms) = growth ms
 growth (stop ∷ ms) = growth ms
 
 -- By how much those that shrink do so.
@@ -76,6 +113,7 @@ abbrev pub shrinkage : List Move → ℕ
 shrinkage [] = 0
 shrinkage (keep a ∷ ms) = shrinkage ms
 shrinkage (swap a b ∷ ms) = (length a - length b) + shrinkage ms
+shrinkage (leave r a ∷ ms) = shrinkage ms
 shrinkage (stop ∷ ms) = shrinkage ms
 
 -- The byte before place i of the text, 0 at the start.

@@ -1,18 +1,23 @@
--- RULES 15. The program `entity`: what it prints for what it reads.
+-- RULES 15. The programs `entity` and `reasons`: what they print for what they read.
 -- Assumes nothing.
 use mathlib.Core.Bool.{false, cond}
 use mathlib.Core.Option.{Option, none, some}
-use mathlib.Core.List.{List, [], _∷_, _++_}
+use mathlib.Core.List.{List, [], _∷_, _++_, map}
 use Prim.Native.Nat.{ℕ, zero, suc, _+_, _*_, _/_, _%_}
 use lib.Dec.{ltb, eqb}
 use lib.ListN.{length as size, drop}
-use Rattle.rules.specs.Bytes.{ascii, first, stands}
-use Rattle.rules.specs.Moves.{result}
+use Rattle.rules.specs.Bytes.{ascii, join, first, stands}
+use Rattle.rules.specs.Moves.{result, lefts, reasonNumber}
 use Rattle.rules.specs.Contexts.{Label, contextNames, operationNames}
 use Rattle.rules.specs.Refusals.{Call, caseOf, movesIn, refusal, answerAt}
 use Rattle.rules.specs.declared.Answer.{Answer}
 use Rattle.rules.specs.declared.AnyContext.{AnyContext}
+use Rattle.rules.specs.declared.AnyContext.the-variants.{Units}
+use Rattle.rules.specs.declared.Context.the-variants.{InHtml}
+use Rattle.rules.specs.declared.Html.the-variants.{Text}
 use Rattle.rules.specs.declared.Operation.{Operation}
+use Rattle.rules.specs.declared.Operation.the-variants.{Decode}
+use Rattle.rules.specs.declared.Reason.{Reason}
 
 -- A line of the header: the field with its `=`, a name, and a line feed.
 abbrev pub line : {A : Type 0} → List ℕ → Label A → List ℕ
@@ -67,3 +72,23 @@ printedCall k = let a = answerAt (caseOf k) (k .text) (movesIn k) in printed a (
 -- What the program prints; BAD_REQUEST where the lines differ.
 unfoldable pub entityOf : List ℕ → List ℕ
 entityOf s = elim (requestOf s) [ none ↦ printed (refusal 6 0 0) [] | some k ↦ printedCall k ]
+
+-- ---- reasons
+
+-- The call that `reasons` makes of a text: decode in `text`, of at most 8,192 bytes, with room for every result.
+abbrev pub decoding : List ℕ → Call
+decoding t = record { operation = Decode; context = Units (InHtml Text); borrows = false; limit = 8192; text = t; room = 6 * 8192 }
+
+-- The line of a reference that stays.
+abbrev pub leftLine : ℕ × Reason → List ℕ
+leftLine l = ascii "place=" ++ decimal (l .0) ++ ascii " reason=" ++ decimal (reasonNumber (l .1)) ++ ascii "\n"
+
+-- A line for each of them.
+abbrev pub leftLines : List (ℕ × Reason) → List ℕ
+leftLines ls = join (map leftLine ls)
+
+-- What `reasons` prints: the references that decode leaves, or the status of a refusal.
+unfoldable pub reasonsOf : List ℕ → List ℕ
+reasonsOf t =
+    let s = answerAt (caseOf (decoding t)) t (movesIn (decoding t)) .status in
+    cond (eqb s 0) (leftLines (lefts (movesIn (decoding t)))) (ascii "status=" ++ decimal s ++ ascii "\n")

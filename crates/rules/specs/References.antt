@@ -7,10 +7,12 @@ use Prim.Native.Nat.{ℕ, _+_, _-_, _*_}
 use lib.Dec.{leb, eqb}
 use lib.ListN.{drop}
 use Rattle.rules.specs.Bytes.{ascii, is, first, stands, inside, between, oneOf, sameBytes}
-use Rattle.rules.specs.Moves.{Move, keep, swap, stop, Rule}
+use Rattle.rules.specs.Moves.{Move, keep, swap, leave, stop, Rule}
 use Rattle.rules.specs.Utf8.{utf8, substitute}
 use Rattle.rules.specs.Tables.{Row, key, value}
 use Rattle.rules.specs.Names.{names}
+use Rattle.rules.specs.declared.Reason.{Reason}
+use Rattle.rules.specs.declared.Reason.the-variants.{NoEnd, Empty, UnknownName, NoDigit, NotAllowed}
 
 -- ---- the body
 
@@ -118,16 +120,30 @@ lookup table body = valueOf (first (λ (row : Row). sameBytes (key row)) table b
 abbrev pub meaning : (ℕ → Option (List ℕ)) → List ℕ → Option (List ℕ)
 meaning char body = elim (numberOf body) [ some n ↦ char n | none ↦ lookup names body ]
 
+-- ---- why a reference stays
+
+-- Digits that stand for nothing: there is none; or one of the bytes is no digit of the base; or the number is not allowed.
+abbrev pub whyDigits : (ℕ → Option ℕ) → ℕ → List ℕ → Reason
+whyDigits d base [] = Empty
+whyDigits d base (b ∷ s) = elim (digits d base 0 (b ∷ s)) [ none ↦ NoDigit | some n ↦ NotAllowed ]
+
+-- A body that stands for nothing: it is empty, a number, or a name that is not in the table.
+abbrev pub why : List ℕ → Reason
+why [] = Empty
+why (b ∷ s) =
+    cond (stands (ascii "#x") (b ∷ s) || stands (ascii "#X") (b ∷ s)) (whyDigits hexDigitAt 16 (drop 1 s))
+    (cond (stands (ascii "#") (b ∷ s)) (whyDigits digit 10 s) UnknownName)
+
 -- ---- the rules
 
--- The reference gives way to what its body stands for; where that is nothing, its `&` is kept.
+-- The reference gives way to what its body stands for; where that is nothing, it stays for a reason, and its `&` is kept.
 abbrev pub refer : List ℕ → Option (List ℕ) → Move
-refer body none = keep (ascii "&")
+refer body none = leave (why body) (ascii "&")
 refer body (some v) = swap (ascii "&" ++ body ++ ascii ";") v
 
--- At an `&`: the reference is read where there is a body; otherwise the `&` is kept.
+-- At an `&`: the reference is read where there is a body; otherwise no `;` comes before the next `&` or the end, and it stays.
 abbrev pub atAmp : (ℕ → Option (List ℕ)) → Option (List ℕ) → Move
-atAmp char none = keep (ascii "&")
+atAmp char none = leave NoEnd (ascii "&")
 atAmp char (some body) = refer body (meaning char body)
 
 -- The rule: an `&` begins a reference; any other byte is kept.

@@ -8,7 +8,7 @@ use Prim.Native.Nat.{ℕ, _<_}
 use lib.Dec.{ltb, leb, eqb}
 use lib.ListN.{length as size, take, drop}
 use Rattle.rules.specs.Bytes.{All, over}
-use Rattle.rules.specs.Moves.{Move, Rule, through, result, place as placeOf, replaced}
+use Rattle.rules.specs.Moves.{Move, Rule, through, result, place as placeOf, replaced, firstLeft}
 use Rattle.rules.specs.Utf8.{IsText, IsCut, validTo, isCut}
 use Rattle.rules.specs.Units.{IsForm}
 use Rattle.rules.specs.Operations.{ruleOf}
@@ -21,11 +21,12 @@ use Rattle.rules.specs.declared.Operation.the-variants.{Encode, Decode, 
 
 -- The answer of a call that is refused, by its status, the length that it names and its place.
 abbrev pub refusal : ℕ → ℕ → ℕ → Answer
-refusal s l p = record { status = s; length = l; same = 0; replaced = 0; place = p }
+refusal s l p = record { status = s; length = l; same = 0; replaced = 0; place = p; left = 0; reason = 0 }
 
--- The answer of a call that passes, by the length of the result and how many places are replaced: same is 1 exactly if none is.
-abbrev pub success : ℕ → ℕ → Answer
-success l r = record { status = 0; length = l; same = cond (eqb r 0) 1 0; replaced = r; place = 0 }
+-- The answer of a call that passes, by the length of the result, how many places are replaced, and place and reason of the first reference that
+-- stays: same is 1 exactly if none is replaced.
+abbrev pub success : ℕ → ℕ → ℕ × ℕ → Answer
+success l r first = record { status = 0; length = l; same = cond (eqb r 0) 1 0; replaced = r; place = 0; left = first .0; reason = first .1 }
 
 -- A call: its operation and the context that it names, whether it borrows, the most bytes that it takes, the text, and the output's length.
 pub record Call : Type 0 where
@@ -121,9 +122,9 @@ answerAt too-long t ms = refusal 1 0 0
 answerAt not-utf8 t ms = refusal 2 0 (validTo t)
 answerAt cut-short t ms = refusal 7 0 (validTo t)
 answerAt not-a-form t ms = refusal 4 0 (placeOf ms)
-answerAt lent t ms = success (size (result ms)) 0
+answerAt lent t ms = success (size (result ms)) 0 (firstLeft ms)
 answerAt no-room t ms = refusal 3 (size (result ms)) 0
-answerAt written t ms = success (size (result ms)) (replaced ms)
+answerAt written t ms = success (size (result ms)) (replaced ms) (firstLeft ms)
 
 -- The whole output after the call: the result over what stood there, or all of it unchanged.
 abbrev pub outAt : Case → List Move → List ℕ → List ℕ

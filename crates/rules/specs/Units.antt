@@ -5,7 +5,7 @@ use mathlib.Core.Path.{_≡_}
 use mathlib.Core.List.{List, [], _∷_, map}
 use Prim.Native.Nat.{ℕ}
 use Rattle.rules.specs.Bytes.{In, All, bytes, only, oneOf}
-use Rattle.rules.specs.Moves.{Move, keep, swap, stop, taken}
+use Rattle.rules.specs.Moves.{Move, keep, swap, leave, stop, taken}
 use Rattle.rules.specs.Utf8.{IsChar}
 use Rattle.rules.specs.Tables.{Row, key, rows, lossy, replacedChars}
 use Rattle.rules.specs.declared.Html.{Html}
@@ -17,6 +17,7 @@ use Rattle.rules.specs.declared.Context.the-variants.{InHtml, InScript, 
 abbrev pub IsUnit : List Row → List (List ℕ) → Move → Type 0
 IsUnit rows bars (keep a) = IsChar a × (In a bars → ⊥)
 IsUnit rows bars (swap v k) = In (k, v) rows
+IsUnit rows bars (leave r a) = ⊥
 IsUnit rows bars stop = ⊥
 
 -- A run of the context's units: plain characters that the context copies, and replacements exactly as its table has them.

@@ -105,6 +105,8 @@ pub struct Answer {
     pub same: usize,
     pub replaced: usize,
     pub place: usize,
+    pub left: usize,
+    pub reason: usize,
 }
 
 // What `check` answers, laid out as C lays it out.
@@ -115,11 +117,14 @@ pub struct Checked {
     pub place: usize,
 }
 
-// What a pass over a text finds: the length of the result, how far the text is taken, and how many places are replaced.
+// What a pass over a text finds: the length of the result, how far the text is taken, how many places are replaced, and place and reason of the first
+// reference that stays, 0 and 0 where none does.
 pub struct Measured {
     pub length: usize,
     pub place: usize,
     pub replaced: usize,
+    pub left: usize,
+    pub reason: usize,
 }
 
 // What a reference stands for: a text of the table of names, its bytes packed into one number, or a character by its number.
@@ -141,10 +146,20 @@ pub struct DecodedEntity {
     pub value: DecodedEntityValue,
 }
 
-// What the reference reader finds at a place.
+// Why a reference stays: no `;` before the next `&` or the end, an empty body, an unknown name, a byte that is no digit of its base, or a number that is
+// not allowed.
+pub enum Reason {
+    NoEnd,
+    Empty,
+    UnknownName,
+    NoDigit,
+    NotAllowed,
+}
+
+// What the reference reader finds at an `&`: a reference, or why there is none.
 pub enum Reference {
     Found(DecodedEntity),
-    Nothing,
+    Left(Reason),
 }
 
 // What the reader of string escapes finds: how many bytes the escape takes, and the number of its character.

@@ -1,31 +1,34 @@
--- The bytes before place i are counted.
+-- The bytes before place i are counted, and the first reference that stays before it is noted.
 -- Assumes nothing.
 use Prim.Native.Nat.{_-_}
 use native.Mathlib.Omega.{arith}
 use borrow.Author.Needs.{needs}
 use lib.ListN.{length}
-use Rattle.rules.specs.declared.Reference.the-variants.{Found}
+use Rattle.rules.specs.declared.Reference.the-variants.{Found, Left}
 use Rattle.rules.proofs.Loops.{from-end}
 use Rattle.base.proofs.Places.{nearest-past}
-use Rattle.base.proofs.Counted.{Counted, counted-start, counted-quiet, counted-keep, counted-measures}
+use Rattle.base.proofs.Counted.{Counted, Noted, counted-start, counted-quiet, counted-leave, counted-measures, noted-start, noted-quiet, noted-leave, noted-end}
 use Rattle.decode_html.specs.Taking.{stepBy, Reads}
-use Rattle.decode_html.proofs.Turns.{quiet, alone, counted-found}
+use Rattle.decode_html.proofs.Turns.{quiet, stays, counted-found, noted-found}
 use Rattle.decode_html.proofs.measure.Statement.{statement}
 use Rattle.decode_html.proofs.measure.Tie as tie
 
 abbrev Inv-loop : tie.InvT-loop
-Inv-loop numbers text length₀ references₀ i₀ size references i = Counted (stepBy numbers) text i size references
+Inv-loop numbers text length₀ references₀ left₀ reason₀ i₀ size references left reason i =
+    Counted (stepBy numbers) text i size references × Noted (stepBy numbers) text i left reason
 
 abbrev μ-loop : tie.MeasureT-loop
-μ-loop numbers text length₀ references₀ i₀ size references i = length text - i
+μ-loop numbers text length₀ references₀ left₀ reason₀ i₀ size references left reason i = length text - i
 
--- The reference that was found.
-reads-here : (c : tie.After-known-told Inv-loop μ-loop)
-    → Reads (c .before .before .before .before .before .before .before .before .before .args .numbers) (c .before .before .before .before .before .before .before .before .before .args .text .now) (c .before .before .before .before .before .before .before .loop .i) (Found (c .before .found .given .0 .0))
-reads-here c = rw (c .before .found .given .1) at (c .before .before .before .find-decoded-entity .ensures)
+-- The reference that was found, or the reason why it stays.
+found-here : (c : tie.After-known-told Inv-loop μ-loop) → Reads (c .before .before .before .before .before .before .before .before .before .args .numbers) (c .before .before .before .before .before .before .before .before .before .args .text .now) (c .before .before .before .before .before .before .before .loop .i) (Found (c .before .reference .given .0 .0))
+found-here c = rw (c .before .reference .given .1) at (c .before .before .before .find-decoded-entity .ensures)
+
+left-here : (c : tie.After-enum-told Inv-loop μ-loop) → Reads (c .before .before .before .before .before .before .before .before .args .numbers) (c .before .before .before .before .before .before .before .before .args .text .now) (c .before .before .before .before .before .before .loop .i) (Left (c .enum-told .given .0 .0))
+left-here c = rw (c .enum-told .given .1) at (c .before .before .find-decoded-entity .ensures)
 
 loop-holds : tie.Need-loop-holds Inv-loop μ-loop
-loop-holds c = counted-start (stepBy (c .before .args .numbers)) (c .before .args .text .now)
+loop-holds c = let a = c .before .args in (counted-start (stepBy (a .numbers)) (a .text .now), noted-start (stepBy (a .numbers)) (a .text .now))
 
 shared-slice-read-if1 : tie.Need-shared-slice-read-if1 Inv-loop μ-loop
 shared-slice-read-if1 c = search needs
@@ -49,16 +52,26 @@ loop-again c =
     let a = c .before .before .before .before .before .before .args in
     let l = c .before .before .before .before .loop in
     let near = c .find-byte .ensures in
-    counted-quiet (l .inv) (c .find-byte .result) (near .after) (near .within) (quiet (a .numbers) (a .text .now) (l .i) (c .find-byte .result) near)
+    let q = quiet (a .numbers) (a .text .now) (l .i) (c .find-byte .result) near in
+    (counted-quiet (l .inv .0) (c .find-byte .result) (near .after) (near .within) q, noted-quiet (l .inv .1) (c .find-byte .result) (near .after) (near .within) q)
 
 find-decoded-entity-requires : tie.Need-find-decoded-entity-requires Inv-loop μ-loop
 find-decoded-entity-requires c κs = (search needs, c .if1 .left)
 
-enum-known-found : tie.Need-enum-known-found Inv-loop μ-loop
-enum-known-found c = search needs
+enum-known-reference : tie.Need-enum-known-reference Inv-loop μ-loop
+enum-known-reference c = search needs
 
 enum-told : tie.Need-enum-told Inv-loop μ-loop
 enum-told c = search needs
+
+kept-requires : tie.Need-kept-requires Inv-loop μ-loop
+kept-requires c κs = search needs
+
+number-of-requires : tie.Need-number-of-requires Inv-loop μ-loop
+number-of-requires c κs = search needs
+
+kept-requires-2 : tie.Need-kept-requires-2 Inv-loop μ-loop
+kept-requires-2 c κs = search needs
 
 add-length-2 : tie.Need-add-length-2 Inv-loop μ-loop
 add-length-2 c = search needs
@@ -71,8 +84,13 @@ loop-less-2 c = search needs
 
 loop-again-2 : tie.Need-loop-again-2 Inv-loop μ-loop
 loop-again-2 c =
-    let reads = rw (c .enum-told .given .1) at (c .before .before .find-decoded-entity .ensures) in
-    counted-keep (c .before .before .before .before .before .before .loop .inv) (search needs) (alone (c .before .before .before .before .before .before .before .before .args .numbers) (c .before .before .before .before .before .before .before .before .args .text .now) (c .before .before .before .before .before .before .loop .i) reads)
+    let t = c .before .before .before in
+    let a = t .before .before .before .before .before .before .before .before .args in
+    let l = t .before .before .before .before .before .before .loop in
+    let w = t .enum-told .given .0 .0 in
+    let step = stays (a .numbers) (a .text .now) (l .i) w (left-here t) in
+    let n = rw (t .enum-told .given .1) at (c .before .number-of .ensures) in
+    (counted-leave (l .inv .0) w (search needs) step, rw (c .before .before .kept .ensures, c .kept2 .ensures, n) (noted-leave (l .inv .1) w (search needs) step))
 
 value-length-requires : tie.Need-value-length-requires Inv-loop μ-loop
 value-length-requires c κs = search needs
@@ -84,16 +102,22 @@ add-references : tie.Need-add-references Inv-loop μ-loop
 add-references c = search needs
 
 loop-less-3 : tie.Need-loop-less-3 Inv-loop μ-loop
-loop-less-3 c = let reads = reads-here (c .before) in omega (arith, reads .lies .1, reads .lies .2)
+loop-less-3 c = let reads = found-here (c .before) in omega (arith, reads .lies .1, reads .lies .2)
 
 loop-again-3 : tie.Need-loop-again-3 Inv-loop μ-loop
 loop-again-3 c =
     let a = c .before .before .before .before .before .before .before .before .before .before .args in
     let l = c .before .before .before .before .before .before .before .before .loop in
-    rw (c .value-length .ensures .0) (counted-found (a .numbers) (a .text .now) (l .i) (c .before .before .found .given .0 .0) (reads-here (c .before)) (l .inv))
+    let reads = found-here (c .before) in
+    let e = c .before .before .reference .given .0 .0 in
+    (rw (c .value-length .ensures .0) (counted-found (a .numbers) (a .text .now) (l .i) e reads (l .inv .0)), noted-found (a .numbers) (a .text .now) (l .i) e reads (l .inv .1))
 
 returns : tie.Need-returns Inv-loop μ-loop
-returns c = counted-measures (c .before .loop .inv) (from-end (stepBy (c .before .before .before .args .numbers)) (c .before .before .before .args .text .now) (c .before .loop .i) (search needs))
+returns c =
+    let a = c .before .before .before .args in
+    let l = c .before .loop in
+    let none = from-end (stepBy (a .numbers)) (a .text .now) (l .i) (search needs) in
+    counted-measures (l .inv .0) _ _ none (noted-end (l .inv .1) none)
 
 pub measure-spec : {M : Type 1} → statement M
 measure-spec =
@@ -109,8 +133,11 @@ measure-spec =
     loop-less
     loop-again
     find-decoded-entity-requires
-    enum-known-found
+    enum-known-reference
     enum-told
+    kept-requires
+    number-of-requires
+    kept-requires-2
     add-length-2
     add-i
     loop-less-2

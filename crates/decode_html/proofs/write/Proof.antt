@@ -1,4 +1,4 @@
--- What the bytes before place i give is counted and written.
+-- What the bytes before place i give is counted and written, and the first reference that stays before it is noted.
 -- Assumes nothing.
 use Prim.Native.Nat.{_+_, _-_}
 use native.Mathlib.Omega.{arith}
@@ -8,36 +8,37 @@ use borrow.Author.Needs.{needs}
 use lib.ListN.{length, take, drop}
 use Rattle.rules.specs.Moves.{through, from, result}
 use Rattle.rules.specs.Answers.{valueBytes}
-use Rattle.rules.specs.declared.Reference.the-variants.{Found, Nothing}
+use Rattle.rules.specs.declared.Reference.the-variants.{Found, Left}
 use Rattle.rules.proofs.Loops.{from-end}
 use Rattle.base.proofs.Places.{nearest-past}
 use Rattle.base.proofs.Part.{part-length}
 use Rattle.base.proofs.Filled.{Filled, filled-start, filled-next, filled-room, filled-put}
-use Rattle.base.proofs.Counted.{Counted, counted-start, counted-quiet, counted-keep, counted-measures, filled-all}
+use Rattle.base.proofs.Counted.{Counted, Noted, counted-start, counted-quiet, counted-leave, counted-measures, noted-start, noted-quiet, noted-leave, noted-end, filled-all}
 use Rattle.decode_html.specs.Taking.{stepBy, Reads}
-use Rattle.decode_html.proofs.Turns.{quiet, quiet-next, alone, alone-next, counted-found, found-next}
+use Rattle.decode_html.proofs.Turns.{quiet, quiet-next, stays, stays-next, counted-found, noted-found, found-next}
 use Rattle.decode_html.proofs.write.Statement.{statement}
 use Rattle.decode_html.proofs.write.Tie as tie
 
 abbrev Inv-loop : tie.InvT-loop
-Inv-loop numbers text output₀ at₀ references₀ i₀ t10 output at references i =
+Inv-loop numbers text output₀ at₀ references₀ left₀ reason₀ i₀ t13 output at references left reason i =
     Counted (stepBy numbers) text i at references
     × Filled (result (through (stepBy numbers) text)) (result (from (stepBy numbers) text i)) output₀ output at
+    × Noted (stepBy numbers) text i left reason
 
 abbrev μ-loop : tie.MeasureT-loop
-μ-loop numbers text output₀ at₀ references₀ i₀ t10 output at references i = length text - i
+μ-loop numbers text output₀ at₀ references₀ left₀ reason₀ i₀ t13 output at references left reason i = length text - i
 
--- Nothing was found at the `&`, or a reference was.
-nothing-here : (c : tie.After-enum-told Inv-loop μ-loop)
-    → Reads (c .before .before .before .before .before .before .before .before .before .args .numbers) (c .before .before .before .before .before .before .before .before .before .args .text .now) (c .before .before .before .before .before .before .loop .i) Nothing
-nothing-here c = rw (c .enum-told .given .1) at (c .before .before .find-decoded-entity .ensures)
+-- The reference that was found, or the reason why it stays.
+found-here : (c : tie.After-known-told Inv-loop μ-loop) → Reads (c .before .before .before .before .before .before .before .before .before .before .args .numbers) (c .before .before .before .before .before .before .before .before .before .before .args .text .now) (c .before .before .before .before .before .before .before .loop .i) (Found (c .before .reference .given .0 .0))
+found-here c = rw (c .before .reference .given .1) at (c .before .before .before .find-decoded-entity .ensures)
 
-found-here : (c : tie.After-known-told Inv-loop μ-loop)
-    → Reads (c .before .before .before .before .before .before .before .before .before .before .args .numbers) (c .before .before .before .before .before .before .before .before .before .before .args .text .now) (c .before .before .before .before .before .before .before .loop .i) (Found (c .before .found .given .0 .0))
-found-here c = rw (c .before .found .given .1) at (c .before .before .before .find-decoded-entity .ensures)
+left-here : (c : tie.After-enum-told Inv-loop μ-loop) → Reads (c .before .before .before .before .before .before .before .before .before .args .numbers) (c .before .before .before .before .before .before .before .before .before .args .text .now) (c .before .before .before .before .before .before .loop .i) (Left (c .enum-told .given .0 .0))
+left-here c = rw (c .enum-told .given .1) at (c .before .before .find-decoded-entity .ensures)
 
 loop-holds : tie.Need-loop-holds Inv-loop μ-loop
-loop-holds c = (counted-start (stepBy (c .before .before .args .numbers)) (c .before .before .args .text .now), filled-start _ _ (c .before .before .pre))
+loop-holds c =
+    let a = c .before .before .args in
+    (counted-start (stepBy (a .numbers)) (a .text .now), filled-start _ _ (c .before .before .pre), noted-start (stepBy (a .numbers)) (a .text .now))
 
 shared-slice-read-if1 : tie.Need-shared-slice-read-if1 Inv-loop μ-loop
 shared-slice-read-if1 c = search needs
@@ -83,16 +84,26 @@ loop-again c =
     let size = part-length t (l .i) (w .result) (near .after) (near .within) in (
       counted-quiet (l .inv .0) (w .result) (near .after) (near .within) (quiet numbers t (l .i) (w .result) near),
       filled-put (l .inv .1) (quiet-next numbers t (l .i) (w .result) near) (w .last .1 .1 .1 .0) (w .result - l .i) (sym size) (w .ensures .1),
+      noted-quiet (l .inv .2) (w .result) (near .after) (near .within) (quiet numbers t (l .i) (w .result) near),
     )
 
 find-decoded-entity-requires : tie.Need-find-decoded-entity-requires Inv-loop μ-loop
 find-decoded-entity-requires c κs = (search needs, c .if1 .left)
 
-enum-known-found : tie.Need-enum-known-found Inv-loop μ-loop
-enum-known-found c = search needs
+enum-known-reference : tie.Need-enum-known-reference Inv-loop μ-loop
+enum-known-reference c = search needs
 
 enum-told : tie.Need-enum-told Inv-loop μ-loop
 enum-told c = search needs
+
+kept-requires : tie.Need-kept-requires Inv-loop μ-loop
+kept-requires c κs = search needs
+
+number-of-requires : tie.Need-number-of-requires Inv-loop μ-loop
+number-of-requires c κs = search needs
+
+kept-requires-2 : tie.Need-kept-requires-2 Inv-loop μ-loop
+kept-requires-2 c κs = search needs
 
 slice-aggregate-put : tie.Need-slice-aggregate-put Inv-loop μ-loop
 slice-aggregate-put c = search needs
@@ -108,15 +119,17 @@ part-put-end c = search needs
 
 put-requires : tie.Need-put-requires Inv-loop μ-loop
 put-requires c κs =
-    let a = c .before .before .before .before .before .before .before .before .before .before .before .args in
-    let l = c .before .before .before .before .before .before .before .before .loop in
-    filled-room (l .inv .1) (alone-next (a .numbers) (a .text .now) (l .i) (nothing-here (c .before .before)) (search needs) (c .before .before .before .before .before .if1 .left))
+    let a = c .before .before .before .before .before .before .before .before .before .before .before .before .before .before .args in
+    let l = c .before .before .before .before .before .before .before .before .before .before .before .loop in
+    let told = c .before .before .before .before .before in
+    filled-room (l .inv .1) (stays-next (a .numbers) (a .text .now) (l .i) (told .enum-told .given .0 .0) (left-here told) (search needs))
 
 add-at-2 : tie.Need-add-at-2 Inv-loop μ-loop
 add-at-2 c =
-    let a = c .before .before .before .before .before .before .before .before .before .before .before .before .before .before .args in
-    let l = c .before .before .before .before .before .before .before .before .before .before .before .loop in
-    omega (arith, c .before .before .put .ensures .0, filled-next (l .inv .1) (alone-next (a .numbers) (a .text .now) (l .i) (nothing-here (c .before .before .before .before .before)) (search needs) (c .before .before .before .before .before .before .before .before .if1 .left)))
+    let a = c .before .before .before .before .before .before .before .before .before .before .before .before .before .before .before .before .before .args in
+    let l = c .before .before .before .before .before .before .before .before .before .before .before .before .before .before .loop in
+    let told = c .before .before .before .before .before .before .before .before in
+    omega (arith, c .before .before .put .ensures .0, filled-next (l .inv .1) (stays-next (a .numbers) (a .text .now) (l .i) (told .enum-told .given .0 .0) (left-here told) (search needs)))
 
 add-i : tie.Need-add-i Inv-loop μ-loop
 add-i c = search needs
@@ -126,13 +139,16 @@ loop-less-2 c = search needs
 
 loop-again-2 : tie.Need-loop-again-2 Inv-loop μ-loop
 loop-again-2 c =
-    let numbers = c .before .before .before .before .before .before .before .before .before .before .before .before .before .before .args .numbers in
-    let t = c .before .before .before .before .before .before .before .before .before .before .before .before .before .before .args .text .now in
-    let l = c .before .before .before .before .before .before .before .before .before .before .before .loop in
+    let a = c .before .before .before .before .before .before .before .before .before .before .before .before .before .before .before .before .before .args in
+    let l = c .before .before .before .before .before .before .before .before .before .before .before .before .before .before .loop in
+    let told = c .before .before .before .before .before .before .before .before in
+    let w = told .enum-told .given .0 .0 in
     let p = c .before .before .put in
-    let reads = nothing-here (c .before .before .before .before .before) in (
-      rw (p .ensures .0) (counted-keep (l .inv .0) (search needs) (alone numbers t (l .i) reads)),
-      filled-put (l .inv .1) (alone-next numbers t (l .i) reads (search needs) (c .before .before .before .before .before .before .before .before .if1 .left)) (p .last .1 .0) (p .result) (p .ensures .0) (p .ensures .1),
+    let step = stays (a .numbers) (a .text .now) (l .i) w (left-here told) in
+    let n = rw (told .enum-told .given .1) at (c .before .before .before .before .before .before .number-of .ensures) in (
+      rw (p .ensures .0) (counted-leave (l .inv .0) w (search needs) step),
+      filled-put (l .inv .1) (stays-next (a .numbers) (a .text .now) (l .i) w (left-here told) (search needs)) (p .last .1 .0) (p .result) (p .ensures .0) (p .ensures .1),
+      rw (c .before .before .before .before .before .before .before .kept .ensures, c .before .before .before .before .before .kept2 .ensures, n) (noted-leave (l .inv .2) w (search needs) step),
     )
 
 sub-put-value : tie.Need-sub-put-value Inv-loop μ-loop
@@ -149,13 +165,13 @@ put-value-requires c κs =
     let a = c .before .before .before .before .before .before .before .before .before .before .before .args in
     let l = c .before .before .before .before .before .before .before .before .loop in
     let reads = found-here (c .before) in
-    (reads .lies .3, filled-room (l .inv .1) (found-next (a .numbers) (a .text .now) (l .i) (c .before .before .found .given .0 .0) reads))
+    (reads .lies .3, filled-room (l .inv .1) (found-next (a .numbers) (a .text .now) (l .i) (c .before .before .reference .given .0 .0) reads))
 
 add-at-3 : tie.Need-add-at-3 Inv-loop μ-loop
 add-at-3 c =
     let a = c .before .before .before .before .before .before .before .before .before .before .before .before .before .before .args in
     let l = c .before .before .before .before .before .before .before .before .before .before .before .loop in
-    let next = found-next (a .numbers) (a .text .now) (l .i) (c .before .before .before .before .before .found .given .0 .0) (found-here (c .before .before .before .before)) in
+    let next = found-next (a .numbers) (a .text .now) (l .i) (c .before .before .before .before .before .reference .given .0 .0) (found-here (c .before .before .before .before)) in
     omega (arith, c .before .before .put-value .ensures .0, filled-next (l .inv .1) next)
 
 add-references : tie.Need-add-references Inv-loop μ-loop
@@ -170,10 +186,11 @@ loop-again-3 c =
     let t = c .before .before .before .before .before .before .before .before .before .before .before .before .before .before .args .text .now in
     let l = c .before .before .before .before .before .before .before .before .before .before .before .loop in
     let p = c .before .before .put-value in
-    let e = c .before .before .before .before .before .found .given .0 .0 in
+    let e = c .before .before .before .before .before .reference .given .0 .0 in
     let reads = found-here (c .before .before .before .before) in (
       rw (p .ensures .0) (counted-found numbers t (l .i) e reads (l .inv .0)),
       filled-put (l .inv .1) (found-next numbers t (l .i) e reads) (p .last .1 .0) (p .result) (p .ensures .0) (p .ensures .1),
+      noted-found numbers t (l .i) e reads (l .inv .2),
     )
 
 same-length : tie.Need-same-length Inv-loop μ-loop
@@ -181,8 +198,10 @@ same-length c = search needs
 
 returns : tie.Need-returns Inv-loop μ-loop
 returns c =
-    let none = from-end (stepBy (c .before .before .before .before .args .numbers)) (c .before .before .before .before .args .text .now) (c .before .loop .i) (search needs) in
-    (counted-measures (c .before .loop .inv .0) none, filled-all (c .before .loop .inv .1) (ap result none) .1)
+    let a = c .before .before .before .before .args in
+    let l = c .before .loop in
+    let none = from-end (stepBy (a .numbers)) (a .text .now) (l .i) (search needs) in
+    (counted-measures (l .inv .0) _ _ none (noted-end (l .inv .2) none), filled-all (l .inv .1) (ap result none) .1)
 
 pub write-spec : {M : Type 1} → statement M
 write-spec =
@@ -201,8 +220,11 @@ write-spec =
     loop-less
     loop-again
     find-decoded-entity-requires
-    enum-known-found
+    enum-known-reference
     enum-told
+    kept-requires
+    number-of-requires
+    kept-requires-2
     slice-aggregate-put
     sub-put
     part-put-start

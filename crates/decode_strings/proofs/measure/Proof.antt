@@ -12,7 +12,7 @@ use Rattle.rules.specs.declared.Escape.the-variants.{Taken, Nothing}
 use Rattle.rules.specs.Contexts.{stringOf}
 use Rattle.rules.specs.Utf8.{utf8}
 use Rattle.base.proofs.Places.{nearest-past}
-use Rattle.decode_strings.proofs.Strings.{string-quiet, SlashedAt, slashed-here, Told, told-here, within-rest}
+use Rattle.decode_strings.proofs.Strings.{string-quiet, SlashedAt, slashed-here, Told, told-here, within-rest, none-left}
 use Prim.Native.Nat.{_+_, _-_, _≤_}
 use Rattle.rules.specs.Operations.{decodeStep}
 use Rattle.base.proofs.Counted.{Counted, counted-start, counted-quiet, counted-keep, counted-swap, counted-measures}
@@ -193,7 +193,7 @@ returns : tie.Need-returns Inv-loop μ-loop
 returns c =
     let l = c .before .loop in
     let a = c .before .before .before .args in
-    counted-measures (l .inv) (from-end (decodeStep (stringOf (a .language) (a .quotes))) (a .text .now) (l .i) (omega arith))
+    counted-measures (l .inv) 0 0 (from-end (decodeStep (stringOf (a .language) (a .quotes))) (a .text .now) (l .i) (omega arith)) (none-left (a .language) (a .quotes) (a .text .now))
 
 pub measure-spec : {M : Type 1} → statement M
 measure-spec =

@@ -12,7 +12,7 @@ use Rattle.rules.specs.declared.Escape.the-variants.{Taken, Nothing}
 use Rattle.rules.specs.Contexts.{stringOf}
 use Rattle.rules.specs.Utf8.{utf8}
 use Rattle.base.proofs.Places.{nearest-past}
-use Rattle.decode_strings.proofs.Strings.{string-quiet, SlashedAt, slashed-here, Told, told-here, within-rest}
+use Rattle.decode_strings.proofs.Strings.{string-quiet, SlashedAt, slashed-here, Told, told-here, within-rest, none-left}
 use Prim.Native.Nat.{ℕ, _+_, _-_, _≤_}
 use lib.ListN.{length, take, drop}
 use Rattle.rules.specs.declared.Language.{Language}
@@ -340,7 +340,7 @@ returns c =
     let a = c .before .before .before .before .args in
     let l = c .before .loop in
     let none = from-end (decodeStep (stringOf (a .language) (a .quotes))) (a .text .now) (l .i) (omega arith) in
-    (counted-measures (l .inv .0) none, filled-all (l .inv .1) (ap result none) .1)
+    (counted-measures (l .inv .0) 0 0 none (none-left (a .language) (a .quotes) (a .text .now)), filled-all (l .inv .1) (ap result none) .1)
 
 pub write-spec : {M : Type 1} → statement M
 write-spec =

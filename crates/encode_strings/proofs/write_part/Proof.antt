@@ -15,6 +15,7 @@ use Rattle.rules.specs.declared.Language.the-variants.{Script}
 use Rattle.rules.proofs.Growth.{encode-whole, encode-six}
 use Rattle.rules.proofs.Laws.{encode-same}
 use Rattle.encode_strings.specs.Strings.{placesBy}
+use Rattle.encode_strings.proofs.Parts.{none-left}
 use Rattle.encode_strings.proofs.Sums.{growth-tells, never-shorter}
 use Rattle.encode_strings.proofs.write_part.Statement.{statement}
 use Rattle.encode_strings.proofs.write_part.Tie as tie
@@ -58,7 +59,7 @@ returns c =
     let a = c .before .before .before .before .before .before .before .before .before .args in
     let t = c .before .before .before .before in
     let p = c .before .before .put in
-    (record { long = p .ensures .0 ∙ ap length (sym (stays t)); reach = ap length (sym (encode-whole (stringOf (a .language) (a .quotes)) (a .part .now))); many = sym (none t) }, rw (stays t) (p .ensures .1))
+    (record { long = p .ensures .0 ∙ ap length (sym (stays t)); reach = ap length (sym (encode-whole (stringOf (a .language) (a .quotes)) (a .part .now))); many = sym (none t); first = none-left (a .language) (a .quotes) (a .part .now) }, rw (stays t) (p .ensures .1))
 
 write-bytes-requires : tie.Need-write-bytes-requires
 write-bytes-requires c κs = c .before .before .before .before .before .before .pre .1
@@ -80,7 +81,7 @@ returns-2 : tie.Need-returns-2
 returns-2 c =
     let a = c .before .before .before .before .before .before .before .before .before .before .args in
     let w = c .before .before .before .write-bytes in
-    (record { long = w .ensures .0; reach = ap length (sym (encode-whole (stringOf (a .language) (a .quotes)) (a .part .now))); many = c .places .ensures ∙ tells (c .before) .1 }, w .ensures .1)
+    (record { long = w .ensures .0; reach = ap length (sym (encode-whole (stringOf (a .language) (a .quotes)) (a .part .now))); many = c .places .ensures ∙ tells (c .before) .1; first = none-left (a .language) (a .quotes) (a .part .now) }, w .ensures .1)
 
 pub write-part-spec : {M : Type 1} → statement M
 write-part-spec =

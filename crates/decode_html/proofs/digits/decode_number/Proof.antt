@@ -1,12 +1,16 @@
 -- A body that begins with `#` is no name, so what the digit reader finds is all that it can stand for.
 -- Assumes nothing.
-use mathlib.Core.List.{_∷_}
-use mathlib.Core.Path.{refl, sym, _∙_}
-use borrow.Author.Needs.{needs}
-use Rattle.rules.specs.References.{numberOf}
+use mathlib.Core.Option.{Option}
+use mathlib.Core.List.{List, _∷_}
+use mathlib.Core.Path.{refl, sym, _∙_, subst}
+use Prim.Native.Nat.{ℕ}
+use Rattle.rules.specs.References.{numberOf, meaning}
+use Rattle.rules.specs.declared.Reason.the-variants.{NotAllowed}
+use Rattle.decode_html.specs.Digits.{Means}
 use Rattle.decode_html.specs.Taking.{charBy}
 use Rattle.decode_html.proofs.Bodies.{hashed}
-use Rattle.decode_html.proofs.Ceiling.{found-char}
+use Rattle.decode_html.proofs.Ceiling.{found-char, why-number}
+use borrow.Author.Needs.{needs}
 use Rattle.decode_html.proofs.digits.decode_number.Statement.{statement}
 use Rattle.decode_html.proofs.digits.decode_number.Tie as tie
 
@@ -16,26 +20,31 @@ read-number-requires c κs = search needs
 enum-known-n : tie.Need-enum-known-n
 enum-known-n c = search needs
 
-enum-told : tie.Need-enum-told
-enum-told c = search needs
-
-returns : tie.Need-returns
-returns c =
-    let a = c .before .before .before .before .args in
-    let r = c .before .before .read-number in
-    let o = numberOf (35 ∷ a .body .now) in
-    (rw (c .enum-told .given .1) at (found-char (a .numbers) (r .result) o (r .ensures)) ∙ sym (hashed (charBy (a .numbers)) (a .body .now) o refl), tt)
-
 decode-character-requires : tie.Need-decode-character-requires
 decode-character-requires c κs = search needs
 
-returns-2 : tie.Need-returns-2
-returns-2 c =
+enum-known-reason : tie.Need-enum-known-reason
+enum-known-reason c = search needs
+
+returns : tie.Need-returns
+returns c =
     let a = c .before .before .before .before .before .before .args in
     let r = c .before .before .before .before .read-number in
+    let n = c .before .before .n .given in
     let o = numberOf (35 ∷ a .body .now) in
-    let e = rw (c .before .before .n .given .1) at (found-char (a .numbers) (r .result) o (r .ensures)) in
-    (c .decode-character .ensures .0 ∙ e ∙ sym (hashed (charBy (a .numbers)) (a .body .now) o refl), c .decode-character .ensures .1)
+    let e = rw (n .1) at (found-char (a .numbers) (r .result) o (r .ensures .0)) in
+    let w = why-number (35 ∷ a .body .now) (n .0 .0) (rw (n .1) at (r .ensures .0)) in
+    let m = e ∙ sym (hashed (charBy (a .numbers)) (a .body .now) o refl) in
+    subst (Means (c .decode-character .result) (meaning (charBy (a .numbers)) (35 ∷ a .body .now))) w
+    (subst (λ (o : Option (List ℕ)). Means (c .decode-character .result) o NotAllowed) m (c .decode-character .ensures))
+
+returns-2 : tie.Need-returns-2
+returns-2 c =
+    let a = c .before .before .before .before .before .args in
+    let r = c .before .before .before .read-number in
+    let o = numberOf (35 ∷ a .body .now) in
+    let told = c .before .reason .given .1 in
+    (rw told at (found-char (a .numbers) (r .result) o (r .ensures .0)) ∙ sym (hashed (charBy (a .numbers)) (a .body .now) o refl), rw told at (r .ensures .1))
 
 pub decode-number-spec : {M : Type 1} → statement M
 decode-number-spec =
@@ -43,7 +52,7 @@ decode-number-spec =
     (tie.spec
     read-number-requires
     enum-known-n
-    enum-told
-    returns
     decode-character-requires
+    enum-known-reason
+    returns
     returns-2)

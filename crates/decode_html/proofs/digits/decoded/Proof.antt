@@ -2,7 +2,7 @@
 -- Assumes nothing.
 use borrow.Author.Needs.{needs}
 use mathlib.Core.Bool.{_||_}
-use mathlib.Core.Path.{sym, _∙_, subst}
+use mathlib.Core.Path.{refl, sym, _∙_, subst}
 use mathlib.Core.List.{[], _∷_}
 use lib.Dec.{T, leb}
 use Rattle.rules.specs.Bytes.{oneOf}
@@ -22,7 +22,7 @@ returns c =
     (rw e, scalar-most n (and-left (scalar n) (leb 32 n || oneOf (9 ∷ 10 ∷ 12 ∷ 13 ∷ []) n) (subst T (sym e) tt)))
 
 returns-2 : tie.Need-returns-2
-returns-2 c = (rw (← c .before .is-decoded .ensures, c .if1 .left), tt)
+returns-2 c = (rw (← c .before .is-decoded .ensures, c .if1 .left), refl)
 
 pub decoded-spec : {M : Type 1} → statement M
 decoded-spec = tie.close (tie.spec is-decoded-requires returns returns-2)

@@ -39,20 +39,20 @@ decode-number-requires c κs = search needs
 enum-known-value : tie.Need-enum-known-value
 enum-known-value c = search needs
 
-enum-told : tie.Need-enum-told
-enum-told c = search needs
+add-t17 : tie.Need-add-t17
+add-t17 c = search needs
+
+enum-known-reason : tie.Need-enum-known-reason
+enum-known-reason c = search needs
 
 returns-2 : tie.Need-returns-2
 returns-2 c =
-    let o = c .before .before .before .before .before .before .before in
+    let o = c .before .before .before .before .before .before .before .before in
     let a = o .args in
-    let e = c .before .before .before .before .before .body-end in
-    let m = c .before .before .decode-number in
+    let e = c .before .before .before .before .before .before .body-end in
+    let m = c .before .before .before .decode-number in
     let r = begun-number (a .numbers) (a .text .now) (a .start) (e .result) (o .pre .0) (o .pre .1) (e .ensures) (o .pre .2) (search needs) in
-    rw (c .enum-told .given .1) at (r (m .result) (m .ensures .0) (m .ensures .1))
-
-add-t8 : tie.Need-add-t8
-add-t8 c = search needs
+    rw (c .before .value .given .1) at (r (m .result) (m .ensures))
 
 returns-3 : tie.Need-returns-3
 returns-3 c =
@@ -61,7 +61,7 @@ returns-3 c =
     let e = c .before .before .before .before .before .before .body-end in
     let m = c .before .before .before .decode-number in
     let r = begun-number (a .numbers) (a .text .now) (a .start) (e .result) (o .pre .0) (o .pre .1) (e .ensures) (o .pre .2) (search needs) in
-    rw (c .before .value .given .1) at (r (m .result) (m .ensures .0) (m .ensures .1))
+    rw (c .before .reason .given .1) at (r (m .result) (m .ensures))
 
 pub find-number-spec : {M : Type 1} → statement M
 find-number-spec =
@@ -77,7 +77,7 @@ find-number-spec =
     part-decode-number-end
     decode-number-requires
     enum-known-value
-    enum-told
+    add-t17
+    enum-known-reason
     returns-2
-    add-t8
     returns-3)
