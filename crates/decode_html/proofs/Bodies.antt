@@ -1,21 +1,24 @@
 -- Bodies: where one ends by the places of the text, and what follows its `#`.
 -- Assumes nothing.
-use mathlib.Core.Bool.{true, false, _||_, and-true}
+use mathlib.Core.Bool.{Bool, true, false, _||_, and-true}
 use mathlib.Core.Option.{Option, none, some}
-use mathlib.Core.Path.{_≡_, refl, ap, _∙_}
+use mathlib.Core.Path.{_≡_, refl, sym, ap, _∙_}
 use mathlib.Core.List.{List, [], _∷_, _++_, append-nil}
 use Prim.Native.Nat.{ℕ, zero, suc, _+_, _-_, _≤_, _<_}
 use native.Mathlib.Omega.{arith}
-use borrow.Author.Tests.{ne-eqb}
-use lib.Dec.{eqb}
+use borrow.Author.Tests.{ne-eqb, ltb-true, ltb-false}
+use lib.Dec.{eqb, ltb}
 use lib.ListN.{length, take, drop, getD, drop-of-length-le}
+use lib.Seq.{drop-drop, take-add}
 use Rattle.rules.specs.Names.{names}
 use Rattle.rules.specs.References.{onto, bodyOf, digit, hexDigitAt, number, numberOf, meaning, lookup, whyDigits, why}
 use Rattle.rules.specs.declared.Reason.the-variants.{Empty}
 use Rattle.rules.proofs.Below.{eqb-comm}
 use Rattle.rules.proofs.Loops.{drop-next}
 use Rattle.rules.proofs.Names.{hash-unnamed}
-use Rattle.base.specs.Places.{Absent}
+use Rattle.base.specs.Places.{Absent, Nearest}
+use Rattle.base.proofs.Part.{part-length}
+use Rattle.base.proofs.Places.{near-absent, near-part}
 use Rattle.decode_html.specs.Taking.{charOf}
 use Rattle.decode_html.specs.Bodies.{Ends}
 
@@ -69,6 +72,48 @@ module _ (t : List ℕ) where
     -- Nor at the end of the text.
     pub ends-none : length t ≤ r → Ends t a r
     ends-none k = record { after = h; within = l; body = λ m. absurd (omega arith); nobody = λ m. up-to ∙ rw (drop-of-length-le t k) }
+
+    -- Where a body ends from place r on, there it ends from place a on.
+    pub ends-after : (e : ℕ) → Ends t r e → Ends t a e
+    ends-after e end =
+        let n : e - a ≡ r - a + (e - r) = omega (arith, end .after) in
+        let s : a + (r - a) ≡ r = omega arith in
+        let d : drop (r - a) (drop a t) ≡ drop r t = drop-drop (r - a) a t ∙ ap (λ (m : ℕ). drop m t) s in
+        record {
+          after = omega (arith, end .after);
+          within = end .within;
+          body = λ m. (end .body m .0, up-to ∙ rw (end .body m .1, n) (ap some (sym (take-add (r - a) (e - r) (drop a t) ∙ rw d))));
+          nobody = λ m. up-to ∙ rw (end .nobody m);
+        }
+
+  -- The next `&` is at place e, and in the part before it the first `;` at its place n, if it has one.
+  module _ (a e n : ℕ) (amp : Nearest t a 38 e) (end : Nearest (take (e - a) (drop a t)) 0 59 n) where
+    inside : a + n ≤ e
+    inside = omega (arith, end .within, part-length t a e (amp .after) (amp .within), amp .after)
+
+    free : Absent t a (a + n) 59
+    free = near-absent t 59 a e n (amp .after) (amp .within) end
+
+    -- It has none, so there is no body.
+    pub far-none : a + n ≡ e → Ends t a (length t)
+    far-none z = go (ltb e (length t)) refl
+      where
+        f : Absent t a e 59
+        f = rw z at free
+
+        go : (b : Bool) → ltb e (length t) ≡ b → Ends t a (length t)
+        go true q = let l = ltb-true e (length t) q in ends-amp a e (amp .after) (amp .within) f (amp .none) l (amp .here l)
+        go false q =
+            let same : e ≡ length t = omega (arith, amp .within, ltb-false e (length t) q) in
+            rw same at (ends-none a e (amp .after) (amp .within) f (amp .none) (ltb-false e (length t) q))
+
+    -- It has one, and the body ends there.
+    pub far-some : (a + n ≡ e → ⊥) → Ends t a (a + n)
+    far-some z =
+        let l : a + n < e = omega (arith, inside, z) in
+        let m : a + n < length t = omega (arith, l, amp .within) in
+        ends-here a (a + n) (omega arith) (omega arith) free (λ k i j. amp .none k i (omega (arith, j, l))) m
+        (near-part t 59 a e n (amp .after) (amp .within) end l .here m)
 
 -- ---- what follows `#`
 

@@ -80,22 +80,37 @@ fn known_value(letter: u8) -> u64
     b'&' as u64
 }
 
-// Returns the offset of the `;` that ends a body, or the text's length if there is none or an `&` comes first.
+// Returns the offset of the `;` that ends a body, or the text's length if there is none or an `&` comes first. It skips sixteen bytes at a time.
+fn far_end(text: &[u8], from: usize) -> usize
+    requires { ⌜ from ≤ length (now text) ⌝ }
+    ensures { λ r. ⌜ Ends (now (text .entry)) from r ⌝ }
+{
+    let amp = base::find::find_byte(text, from, b'&');
+    let end = from + base::find::find_byte(&text[from..amp], 0, b';');
+    if end == amp {
+        return text.len();
+    }
+    end
+}
+
+// Returns the same as `far_end`: the first sixteen bytes are looked at one by one, since most references end there.
 fn body_end(text: &[u8], from: usize) -> usize
     requires { ⌜ from ≤ length (now text) ⌝ }
     ensures { λ r. ⌜ Ends (now (text .entry)) from r ⌝ }
 {
-    let mut i = from;
-    while i < text.len() {
-        if text[i] == b';' {
-            return i;
+    let most = base::min(16, text.len() - from);
+    let mut n: usize = 0;
+    while n < most {
+        let byte = text[from + n];
+        if byte == b';' {
+            return from + n;
         }
-        if text[i] == b'&' {
+        if byte == b'&' {
             return text.len();
         }
-        i += 1;
+        n += 1;
     }
-    i
+    far_end(text, from + n)
 }
 
 // Reads the reference of a number at `start`, which begins with `&#`.
