@@ -1,7 +1,7 @@
 //! Compares the library with the crate html-escape on random texts chosen to be difficult, ten million cases unless another number is given.
 //!   compare/run differential [--crate PATH] [--cases N] [--seed S]
 //! A case is a text in an operation and a context; it makes the copying and the borrowing call, each with one length of the output out of seven
-//! around the result's. The four numbers, every byte written and every byte that is to stay are compared with what compare/src/model.rs works out
+//! around the result's. The seven numbers, every byte written and every byte that is to stay are compared with what compare/src/model.rs works out
 //! from the crate. Beside each call of read the check is made and compared, whatever the output. A text that differs is made as short as it can be and printed. The exit status is 1 where anything differs.
 
 use compare::model::{has_context, Model, Outcome, CUT_SHORT, LONGEST, NOT_UTF8, PASSED};
