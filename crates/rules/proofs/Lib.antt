@@ -34,3 +34,5 @@ pub mod RawAgain
 pub mod RawCloses
 pub mod ScriptEdges
 pub mod Closings
+pub mod Pages
+pub mod PageEdges

@@ -20,3 +20,5 @@ pub mod Edges
 pub mod ScriptData
 pub mod ScriptEdges
 pub mod Closings
+pub mod Pages
+pub mod PageEdges

@@ -51,6 +51,11 @@ pub const BAD_REQUEST: usize = 6;
 
 pub const CUT_SHORT: usize = 7;
 
+pub const BAD_RANGE: usize = 8;
+
+// The most records that a page takes.
+pub const FIELD_LIMIT: usize = 256;
+
 // The HTML seven.
 pub enum Html {
     TextMinimal,
@@ -115,6 +120,23 @@ pub struct Checked {
     pub status: usize,
     pub length: usize,
     pub place: usize,
+}
+
+// A record of a page, laid out as C lays it out: the context and the part of the text that it asks for; where its result begins, and its answer.
+#[repr(C)]
+pub struct Field {
+    pub context: u32,
+    pub start: usize,
+    pub length: usize,
+    pub begins: usize,
+    pub answer: Answer,
+}
+
+// What the call on a page answers: the status of the refusal that stopped it, and how many records passed.
+#[repr(C)]
+pub struct Filled {
+    pub status: usize,
+    pub passed: usize,
 }
 
 // What a pass over a text finds: the length of the result, how far the text is taken, how many places are replaced, and place and reason of the first
