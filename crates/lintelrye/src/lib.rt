@@ -16,6 +16,7 @@
 //
 // The refusals, in the order in which they are checked; at most one of NOT_UTF8 and CUT_SHORT applies:
 //   BAD_CONTEXT  the operation has no such context: encode has all fourteen, decode and read have 0 to 12, browse has 0 to 6;
+//   BAD_RANGE    a record of a page only: the part that it names leaves the text;
 //   TOO_LONG     the text is longer than 65,536 bytes;
 //   NOT_UTF8     the text is not valid UTF-8, and not cut short; `place` is the length of its longest valid prefix;
 //   CUT_SHORT    the text ends within a character that more bytes could complete, and is valid up to there; `place` is where that character begins;
@@ -44,6 +45,14 @@ ghost use Rattle.lintelrye.specs.Viewed.{Viewed};
 // The call of an operation that is a value: `call(operation, context, borrows, text, output)`. Each call below is one of these.
 pub use frame::call;
 
+// A whole page in one call: `fill_page(fields, text, output)` takes a list of at most 256 records, each a context and a part of one text, and makes the
+// copying call of encode for each, in their order, into the part of the output that is still free. Each record receives its answer and where its result
+// begins. The first refusal stops the page and is its answer; later records and the bytes past the last result stay as they were. `fill_numbers` is the
+// same for records that are given as numbers. Both contracts cite `pageOf` (crates/rules/specs/Pages.antt).
+pub use page::FIELD_NUMBERS;
+pub use page::fill_numbers;
+pub use page::fill_page;
+
 // Where the text of a script element ends: `closing_tag(text)`. It judges text that others wrote; its contract is
 // `r ≡ closingOf (now (text .entry))` (crates/rules/specs/Closings.antt). `found` is 1 if an end tag in the text ends the element, and `place` is then
 // the offset of that tag's `<`. Beware: `found` 0 does not make a text safe to put between `<script>` and `</script>`, since `<!--<script>` hides the end
@@ -53,10 +62,14 @@ pub use scripts::closing_tag;
 // The operations, the answer records, the contexts and the statuses.
 pub use rules::Answer;
 pub use rules::BAD_CONTEXT;
+pub use rules::BAD_RANGE;
 pub use rules::CUT_SHORT;
 pub use rules::Checked;
 pub use rules::Closing;
 pub use rules::DOUBLE_QUOTED;
+pub use rules::FIELD_LIMIT;
+pub use rules::Field;
+pub use rules::Filled;
 pub use rules::NO_ROOM;
 pub use rules::NOT_A_FORM;
 pub use rules::NOT_UTF8;

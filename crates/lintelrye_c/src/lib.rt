@@ -6,10 +6,13 @@ ghost use mathlib.Core.Path.{_≡_};
 ghost use Rattle.rules.specs.Contexts.{contextOf};
 ghost use Rattle.rules.specs.Refusals.{Allowed, checkOf};
 ghost use Rattle.rules.specs.Closings.{closingOf};
+ghost use Rattle.rules.specs.Pages.{PageAllowed};
 ghost use Rattle.rules.specs.declared.Operation.the-variants.{Encode, Decode, Read, Browse};
 use lintelrye::Answer;
 use lintelrye::Checked;
 use lintelrye::Closing;
+use lintelrye::Field;
+use lintelrye::Filled;
 
 // Escapes `text` for `context`: `lintelrye::encode`.
 #[no_mangle]
@@ -93,6 +96,18 @@ pub extern "C" fn lintelrye_browse_borrowing_7(
     ensures { λ r. ⌜ Allowed Browse (contextOf context) true (now (text .entry)) (now (output .entry)) r (now (output .exit)) ⌝ }
 {
     lintelrye::browse_borrowing(context, text, output)
+}
+
+// Fills a page of records: `lintelrye::fill_page`.
+#[no_mangle]
+pub extern "C" fn lintelrye_fill_page_7(
+    fields: &mut [Field],
+    text: &[u8],
+    output: &mut [u8],
+) -> Filled
+    ensures { λ r. ⌜ PageAllowed (now (text .entry)) (now (fields .entry)) (now (output .entry)) r (now (fields .exit)) (now (output .exit)) ⌝ }
+{
+    lintelrye::fill_page(fields, text, output)
 }
 
 // Returns where the text of a script element ends: `lintelrye::closing_tag`.

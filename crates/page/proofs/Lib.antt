@@ -1,0 +1,4 @@
+pub mod Turns
+pub mod Loop
+pub mod Lent
+pub mod Numbers
