@@ -1,4 +1,4 @@
-/* Checks from C what the header says: all nine calls, every status, null pointers of length 0, what is left in the output, and lintelrye_view.
+/* Checks from C what the header says: all eleven calls, every status, null pointers of length 0, what is left in the output, and lintelrye_view.
  * Compiles as C99 and as C++. Prints each check that fails; ends with 0 where none does. */
 #include <stdio.h>
 #include <string.h>
@@ -202,12 +202,87 @@ static void check_view(void)
     check(lintelrye_view(NULL, 0, NULL, 0, answer, &n) == NULL && n == 0, "view of nothing", 0);
 }
 
+/* A record that asks for a part, and holds 9 throughout of what a call sets. */
+static lintelrye_field asks(uint32_t context, uint64_t start, uint64_t length)
+{
+    lintelrye_field field;
+    memset(&field, 9, sizeof field);
+    field.context = context;
+    field.start = start;
+    field.length = length;
+    return field;
+}
+
+/* Whether a record still holds what `asks` gave it. */
+static int untouched(lintelrye_field field)
+{
+    lintelrye_field fresh = asks(field.context, field.start, field.length);
+    return field.begins == fresh.begins && memcmp(&field.answer, &fresh.answer, sizeof fresh.answer) == 0;
+}
+
+/* Fills a page of a string, with the whole output freshly filled. */
+static lintelrye_filled page_of(lintelrye_field *fields, size_t count, const char *text, size_t room)
+{
+    memset(output, UNTOUCHED, OUTPUT);
+    return lintelrye_fill_page(fields, count, (const uint8_t *)text, strlen(text), output, room);
+}
+
+/* A page: results one behind the other, the first refusal stops, and what is behind it stays. */
+static void check_page(void)
+{
+    static lintelrye_field many[LINTELRYE_FIELD_LIMIT + 1];
+    lintelrye_field fields[4];
+    lintelrye_filled filled;
+    size_t i;
+    fields[0] = asks(LINTELRYE_TEXT, 1, 2);
+    fields[1] = asks(LINTELRYE_SCRIPT_RAW, 0, 4);
+    fields[2] = asks(LINTELRYE_QUOTED, 3, 1);
+    fields[3] = asks(LINTELRYE_TEXT, 1, 2);
+    filled = page_of(fields, 4, "a<b'", OUTPUT);
+    check(filled.status == LINTELRYE_PASSED && filled.passed == 4 && holds("&lt;ba<b'&#x27;&lt;b"), "a page", 0);
+    check(fields[0].begins == 0 && fields[1].begins == 5 && fields[2].begins == 9 && fields[3].begins == 15, "where results begin", 0);
+    check(is(fields[0].answer, LINTELRYE_PASSED, 5, 0, 1, 0) && is(fields[1].answer, LINTELRYE_PASSED, 4, 1, 0, 0), "the records' answers", 0);
+    fields[1] = asks(LINTELRYE_TEXT, 0, 2);
+    fields[2] = asks(LINTELRYE_TEXT, 0, 1);
+    filled = page_of(fields, 3, "a<b'", 9);
+    check(filled.status == LINTELRYE_NO_ROOM && filled.passed == 1 && holds("&lt;b"), "a page without room", 0);
+    check(is(fields[1].answer, LINTELRYE_NO_ROOM, 5, 0, 0, 0) && fields[1].begins == 0 && untouched(fields[2]), "the record without room", 0);
+    fields[0] = asks(LINTELRYE_TEXT, 4, 0);
+    fields[1] = asks(LINTELRYE_TEXT, 5, 0);
+    filled = page_of(fields, 2, "a<b'", OUTPUT);
+    check(filled.status == LINTELRYE_BAD_RANGE && filled.passed == 1 && holds(""), "the text's end", 0);
+    check(is(fields[1].answer, LINTELRYE_BAD_RANGE, 0, 0, 0, 0) && fields[1].begins == 0, "a part past it", 0);
+    fields[0] = asks(LINTELRYE_TEXT, UINT64_MAX, UINT64_MAX);
+    check(page_of(fields, 1, "a", OUTPUT).status == LINTELRYE_BAD_RANGE && holds(""), "the worst part", 0);
+    fields[0] = asks(UINT32_MAX, UINT64_MAX, 2);
+    check(page_of(fields, 1, "a", OUTPUT).status == LINTELRYE_BAD_CONTEXT && holds(""), "a bad context goes first", 0);
+    fields[0] = asks(LINTELRYE_TEXT, 1, 2);
+    filled = page_of(fields, 1, "a\xC3\xA9\xC3\xA9", OUTPUT);
+    check(filled.status == LINTELRYE_PASSED && holds("\xC3\xA9"), "a part with a character", 0);
+    fields[0] = asks(LINTELRYE_TEXT, 1, 3);
+    check(page_of(fields, 1, "a\xC3\xA9\xC3\xA9", OUTPUT).status == LINTELRYE_CUT_SHORT && fields[0].answer.place == 2, "a part that cuts one", 0);
+    filled = lintelrye_fill_page(NULL, 0, NULL, 0, NULL, 0);
+    check(filled.status == LINTELRYE_PASSED && filled.passed == 0, "no records", 0);
+    for (i = 0; i <= LINTELRYE_FIELD_LIMIT; i++) {
+        many[i] = asks(LINTELRYE_TEXT, 0, 0);
+    }
+    filled = page_of(many, LINTELRYE_FIELD_LIMIT + 1, "<", OUTPUT);
+    check(filled.status == LINTELRYE_TOO_LONG && filled.passed == 0 && holds(""), "too many records", 0);
+    for (i = 0; i <= LINTELRYE_FIELD_LIMIT; i++) {
+        check(untouched(many[i]), "records of too long a list", (uint32_t)i);
+    }
+    filled = page_of(many, LINTELRYE_FIELD_LIMIT, "<", OUTPUT);
+    check(filled.status == LINTELRYE_PASSED && filled.passed == LINTELRYE_FIELD_LIMIT && holds(""), "as many records as a page takes", 0);
+}
+
 int main(void)
 {
     uint32_t which;
     memset(letters, 'a', sizeof letters);
     check(sizeof(lintelrye_answer) == 56, "the answer's size", 0);
     check(sizeof(lintelrye_checked) == 24, "the size of what check returns", 0);
+    check(sizeof(lintelrye_field) == 32 + sizeof(lintelrye_answer) && sizeof(lintelrye_filled) == 16, "the sizes of a page's records", 0);
+    check(offsetof(lintelrye_field, start) == 8 && offsetof(lintelrye_field, answer) == 32, "the places in a page's record", 0);
     for (which = 0; which < 8; which++) {
         check_null(which);
         check_refusals(which);
@@ -224,6 +299,7 @@ int main(void)
     check_without_output();
     check_closing();
     check_left();
+    check_page();
     check_view();
     printf("c/check: %s\n", failed ? "FAILED" : "what the header says holds");
     return failed != 0;

@@ -1,6 +1,6 @@
 /* Fills one page of a lift's journey log into one fixed buffer and prints it. The names of the landings are typed by the people who live there, so
- * each is encoded for the context of its place: an attribute, element text, a script string. A line that no longer fits is left out
- * whole, and the page says so. */
+ * each is encoded for the context of its place: an attribute, element text, a script string. All forty fields of the page are encoded in one
+ * call, with one answer to look at. A line that no longer fits is left out whole, and the page says so. */
 #include <stdbool.h>
 #include <stdio.h>
 #include <string.h>
@@ -45,25 +45,62 @@ static bool put(struct page *page, const char *words)
     return true;
 }
 
-/* Appends text from outside, encoded for its place. Leaves the page as it was where the library refuses. */
-static bool put_text(struct page *page, uint32_t context, const char *text)
+/* The fields of a line in the order in which they stand in it, and all fields of the page: each names its part of the one text. */
+enum { TITLE, TIME, NAME, EVENT, SCRIPT, IN_LINE };
+enum { LINES = sizeof journeys / sizeof journeys[0], FIELDS = LINES * IN_LINE, TEXT = 512, RESULTS = 1024 };
+
+struct log {
+    uint8_t text[TEXT];
+    size_t text_length;
+    lintelrye_field fields[FIELDS];
+    size_t count;
+    uint8_t results[RESULTS];
+};
+
+/* Adds a field to the log: its text behind the others'. One that does not fit leaves the text, and the library refuses it. */
+static void add(struct log *log, uint32_t context, const char *text)
 {
-    lintelrye_answer answer = lintelrye_encode(context, (const uint8_t *)text, strlen(text), page->bytes + page->used, page->room - page->used);
-    if (answer.status != LINTELRYE_PASSED) {
+    size_t length = strlen(text);
+    lintelrye_field *field = &log->fields[log->count];
+    field->context = context;
+    field->start = log->text_length;
+    field->length = length;
+    log->count += 1;
+    if (length <= TEXT - log->text_length) {
+        memcpy(log->text + log->text_length, text, length);
+        log->text_length += length;
+    }
+}
+
+/* Adds the fields of a journey's line. */
+static void add_journey(struct log *log, const struct journey *journey)
+{
+    add(log, LINTELRYE_DOUBLE_QUOTED, journey->landing);
+    add(log, LINTELRYE_TEXT, journey->time);
+    add(log, LINTELRYE_TEXT, journey->landing);
+    add(log, LINTELRYE_TEXT, journey->event);
+    add(log, LINTELRYE_SCRIPT_SINGLE, journey->landing);
+}
+
+/* Appends the result of a field. Leaves the page as it was where it does not fit. */
+static bool put_field(struct page *page, const struct log *log, const lintelrye_field *field)
+{
+    size_t length = (size_t)field->answer.length;
+    if (length > page->room - page->used) {
         return false;
     }
-    page->used += answer.length;
+    memcpy(page->bytes + page->used, log->results + field->begins, length);
+    page->used += length;
     return true;
 }
 
-/* Appends a journey's line. Where a part of it is refused, the line is left out whole. */
-static bool put_journey(struct page *page, const struct journey *journey)
+/* Appends a journey's line, all of whose fields passed. Where it does not fit, it is left out whole. */
+static bool put_line(struct page *page, const struct log *log, const lintelrye_field *line)
 {
     size_t before = page->used;
-    bool whole = put(page, "<li title=\"") && put_text(page, LINTELRYE_DOUBLE_QUOTED, journey->landing) && put(page, "\">") &&
-                 put(page, journey->time) && put(page, " ") && put_text(page, LINTELRYE_TEXT, journey->landing) && put(page, ": ") &&
-                 put_text(page, LINTELRYE_TEXT, journey->event) && put(page, "<script>landing('") &&
-                 put_text(page, LINTELRYE_SCRIPT_SINGLE, journey->landing) && put(page, "')</script></li>\n");
+    bool whole = put(page, "<li title=\"") && put_field(page, log, &line[TITLE]) && put(page, "\">") && put_field(page, log, &line[TIME]) &&
+                 put(page, " ") && put_field(page, log, &line[NAME]) && put(page, ": ") && put_field(page, log, &line[EVENT]) &&
+                 put(page, "<script>landing('") && put_field(page, log, &line[SCRIPT]) && put(page, "')</script></li>\n");
     if (!whole) {
         page->used = before;
     }
@@ -73,16 +110,20 @@ static bool put_journey(struct page *page, const struct journey *journey)
 int main(void)
 {
     static struct page page;
-    size_t count = sizeof journeys / sizeof journeys[0];
+    static struct log log;
     size_t shown = 0;
     char end[END];
+    for (size_t i = 0; i < LINES; i += 1) {
+        add_journey(&log, &journeys[i]);
+    }
+    lintelrye_filled filled = lintelrye_fill_page(log.fields, log.count, log.text, log.text_length, log.results, RESULTS);
     page.room = PAGE - END;
     bool begun = put(&page, "<!DOCTYPE html>\n<meta charset=\"utf-8\">\n<title>Journey log</title>\n<ul>\n");
-    while (shown < count && put_journey(&page, &journeys[shown])) {
+    while (shown < filled.passed / IN_LINE && put_line(&page, &log, &log.fields[shown * IN_LINE])) {
         shown += 1;
     }
     page.room = PAGE;
-    snprintf(end, sizeof end, "</ul>\n<p>%zu lines; %zu did not fit and were left out</p>\n", shown, count - shown);
+    snprintf(end, sizeof end, "</ul>\n<p>%zu lines; %zu did not fit and were left out</p>\n", shown, (size_t)LINES - shown);
     if (!begun || !put(&page, end)) {
         fputs("journey_log: the page is too short for its beginning and end\n", stderr);
         return 1;

@@ -21,6 +21,8 @@
  * and in attributes with quotes, and nowhere else.
  * For a script string in an attribute, such as onclick="f('HERE')", encode by SCRIPT_SINGLE and then the result of that by DOUBLE_QUOTED.
  *
+ * lintelrye_fill_page fills a whole page: it makes the copying call of encode for each record of a list, and writes the results one behind the other.
+ *
  * Script text that others wrote is judged by lintelrye_closing_tag, at the end of this file. Its answer "none" does not make a text safe to put into a
  * page: judge the text together with the </script> that is to follow it.
  * docs/RULES.md has every rule.
@@ -61,8 +63,8 @@ enum lintelrye_context {
     LINTELRYE_SCRIPT_RAW = 13    /* the whole text of a script element, in one call; encode only; no JSON encoder (<!-- becomes <\!--) */
 };
 
-/* The statuses. Where several refusals apply, the first of this order is given: BAD_CONTEXT, TOO_LONG, NOT_UTF8 or CUT_SHORT (never both), NOT_A_FORM,
- * NO_ROOM. */
+/* The statuses. Where several refusals apply, the first of this order is given: BAD_CONTEXT, BAD_RANGE, TOO_LONG, NOT_UTF8 or CUT_SHORT (never both),
+ * NOT_A_FORM, NO_ROOM. */
 enum lintelrye_status {
     LINTELRYE_PASSED = 0,
     LINTELRYE_TOO_LONG = 1,    /* the text is longer than LINTELRYE_TEXT_LIMIT bytes */
@@ -70,7 +72,8 @@ enum lintelrye_status {
     LINTELRYE_NO_ROOM = 3,     /* the output is shorter than the result; `length` is the length needed; never from check */
     LINTELRYE_NOT_A_FORM = 4,  /* check and take only: encode writes no such text; `place` is the length of its longest prefix that encode writes */
     LINTELRYE_BAD_CONTEXT = 5, /* the call has no such context: encode has 0 to 13, decode, check and take 0 to 12, browse 0 to 6 */
-    LINTELRYE_CUT_SHORT = 7    /* the text ends within a character that more bytes could complete; `place` is where that character begins */
+    LINTELRYE_CUT_SHORT = 7,   /* the text ends within a character that more bytes could complete; `place` is where that character begins */
+    LINTELRYE_BAD_RANGE = 8    /* a record of a page only: the part that it names leaves the text */
 };
 
 /* The answer of a call. */
@@ -100,8 +103,8 @@ enum lintelrye_reason {
     LINTELRYE_NOT_ALLOWED = 5   /* decode does not allow its number */
 };
 
-/* The archive's names of the calls that return an answer end in how many numbers it has. A program that was compiled with a header of another record
- * does not link with this archive, nor one compiled with this header with another archive. */
+/* The archive's names of the calls that return or write an answer end in how many numbers it has. A program that was compiled with a header of another
+ * record does not link with this archive, nor one compiled with this header with another archive. */
 #define lintelrye_encode lintelrye_encode_7
 #define lintelrye_encode_borrowing lintelrye_encode_borrowing_7
 #define lintelrye_decode lintelrye_decode_7
@@ -110,6 +113,7 @@ enum lintelrye_reason {
 #define lintelrye_take_borrowing lintelrye_take_borrowing_7
 #define lintelrye_browse lintelrye_browse_7
 #define lintelrye_browse_borrowing lintelrye_browse_borrowing_7
+#define lintelrye_fill_page lintelrye_fill_page_7
 
 /* encode: escapes the text for the context. Every character that the context replaces is replaced, everything else is copied. */
 lintelrye_answer lintelrye_encode(uint32_t context, const uint8_t *text, size_t text_length, uint8_t *output, size_t output_length);
@@ -140,6 +144,35 @@ lintelrye_answer lintelrye_browse(uint32_t context, const uint8_t *text, size_t 
 
 /* browse as a borrowing call. */
 lintelrye_answer lintelrye_browse_borrowing(uint32_t context, const uint8_t *text, size_t text_length, uint8_t *output, size_t output_length);
+
+/* The most records that a page takes. */
+#define LINTELRYE_FIELD_LIMIT 256
+
+/* A record of a page. */
+typedef struct lintelrye_field {
+    uint32_t context;        /* set by the caller: the context of the place where the result goes */
+    uint64_t start;          /* set by the caller: where the record's part of the text begins */
+    uint64_t length;         /* set by the caller: how many bytes it has */
+    uint64_t begins;         /* set by the call: where the result begins in the output; after a refusal 0 */
+    lintelrye_answer answer; /* set by the call: the answer of lintelrye_encode for the part, or BAD_RANGE */
+} lintelrye_field;
+
+/* What fill_page answers. */
+typedef struct lintelrye_filled {
+    uint64_t status; /* LINTELRYE_PASSED, or the refusal of the record that stopped the page, or LINTELRYE_TOO_LONG for a list that is too long */
+    uint64_t passed; /* how many records passed; the refused one has this index */
+} lintelrye_filled;
+
+/* fill_page: encodes the parts of one text that the records name, in their order, each into the part of the output that is still free: what forty calls
+ * of lintelrye_encode would leave, with one answer to look at. Two records can name the same part. The limit of the text is that of each part.
+ *
+ * The first refusal stops the page: that record holds it, the results before it stand, and the later records and the bytes past the last result keep
+ * their values. After NO_ROOM the record's `length` is what that record needs. A part that leaves the text is BAD_RANGE (place and length 0), whatever its
+ * start and length are; it goes after BAD_CONTEXT and before the other refusals. A list of more than LINTELRYE_FIELD_LIMIT records is TOO_LONG, with
+ * `passed` 0, and nothing is touched.
+ *
+ * Beside what every caller owes: `fields` can be read and written for `count` records during the call, and overlaps neither text nor output. */
+lintelrye_filled lintelrye_fill_page(lintelrye_field *fields, size_t count, const uint8_t *text, size_t text_length, uint8_t *output, size_t output_length);
 
 /* The answer about a script element's text. */
 typedef struct lintelrye_closing {

@@ -65,6 +65,40 @@ extern "C" {
     fn lintelrye_check(a: *mut Checked, c: u32, t: *const u8, n: usize) -> *mut Checked;
 }
 
+/// A record of a page, as include/lintelrye.h lays it out.
+#[repr(C)]
+#[derive(Clone, Copy, Debug, PartialEq, Eq)]
+pub struct Field {
+    pub context: u32,
+    pub start: u64,
+    pub length: u64,
+    pub begins: u64,
+    pub answer: Answer,
+}
+
+/// What the call on a page answers, as include/lintelrye.h lays it out.
+#[repr(C)]
+#[derive(Clone, Copy, Debug, PartialEq, Eq)]
+pub struct Filled {
+    pub status: u64,
+    pub passed: u64,
+}
+
+// Two numbers come back in registers, on x86-64 and on others.
+#[cfg(feature = "archive")]
+#[link(name = "lintelrye_c", kind = "static")]
+extern "C" {
+    fn lintelrye_fill_page_7(f: *mut Field, count: usize, t: *const u8, n: usize, o: *mut u8, m: usize) -> Filled;
+}
+
+/// Fills a page of records.
+#[cfg(feature = "archive")]
+#[inline]
+pub fn fill_page(fields: &mut [Field], text: &[u8], output: &mut [u8]) -> Filled {
+    // SAFETY: the three slices are valid for their lengths, and mutable borrows overlap no other.
+    unsafe { lintelrye_fill_page_7(fields.as_mut_ptr(), fields.len(), text.as_ptr(), text.len(), output.as_mut_ptr(), output.len()) }
+}
+
 /// The answer about a script element's text, as include/lintelrye.h lays it out.
 #[repr(C)]
 #[derive(Clone, Copy, Debug, PartialEq, Eq)]

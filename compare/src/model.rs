@@ -1,7 +1,7 @@
 //! What each call is to answer, worked out from the crate html-escape, from `std::str::from_utf8` and from docs/RULES.md. The crate gives no count of
 //! replaced places: that is counted here, by the rules' own division of the text. Nothing here calls the library.
 
-use crate::{Answer, Checked, Operation, CRATE_DECODERS, CRATE_ENCODERS, CRATE_LENDING_DECODERS, CRATE_LENDING_ENCODERS};
+use crate::{Answer, Checked, Field, Filled, Operation, CRATE_DECODERS, CRATE_ENCODERS, CRATE_LENDING_DECODERS, CRATE_LENDING_ENCODERS};
 use std::borrow::Cow;
 
 /// The longest text that a call takes.
@@ -14,6 +14,10 @@ pub const NO_ROOM: u64 = 3;
 pub const NOT_A_FORM: u64 = 4;
 pub const BAD_CONTEXT: u64 = 5;
 pub const CUT_SHORT: u64 = 7;
+pub const BAD_RANGE: u64 = 8;
+
+/// The most records that a page takes.
+pub const FIELD_LIMIT: usize = 256;
 
 /// What an operation makes of a text, before any output is looked at. After a refusal the result is empty.
 #[derive(Clone, Debug, PartialEq, Eq)]
@@ -74,6 +78,33 @@ pub struct Model {
 impl Model {
     pub fn new() -> Model {
         Model { units: (0..13).map(Units::of_context).collect() }
+    }
+
+    /// What the call on a page leaves, by single calls: each record with its answer, the bytes of the output, and what the call answers.
+    pub fn page(&self, fields: &[Field], text: &[u8], output: &[u8]) -> (Vec<Field>, Vec<u8>, Filled) {
+        let (mut fields, mut output) = (fields.to_vec(), output.to_vec());
+        if fields.len() > FIELD_LIMIT {
+            return (fields, output, Filled { status: TOO_LONG, passed: 0 });
+        }
+        let mut end = 0;
+        for i in 0..fields.len() {
+            let Field { context, start, length, .. } = fields[i];
+            let part = start.checked_add(length).filter(|&stop| stop <= text.len() as u64).map(|stop| &text[start as usize..stop as usize]);
+            let outcome = match part {
+                None if has_context(Operation::Encode, context) => Outcome::refused(BAD_RANGE, 0),
+                part => self.outcome(Operation::Encode, context, part.unwrap_or_default()),
+            };
+            let (answer, written) = outcome.answer(false, output.len() - end);
+            fields[i].answer = answer;
+            fields[i].begins = if answer.status == PASSED { end as u64 } else { 0 };
+            if answer.status != PASSED {
+                return (fields, output, Filled { status: answer.status, passed: i as u64 });
+            }
+            output[end..end + written].copy_from_slice(&outcome.result);
+            end += written;
+        }
+        let passed = fields.len() as u64;
+        (fields, output, Filled { status: PASSED, passed })
     }
 
     /// What an operation makes of a text in a context.

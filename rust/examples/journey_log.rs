@@ -1,7 +1,7 @@
 //! Fills one page of a lift's journey log into one fixed buffer and prints it. The names of the landings are typed by the people who live there, so
-//! each is encoded by the function for its place: an attribute, element text, a script string. A line that no longer fits is left
-//! out whole, and the page says so. c/journey_log.c prints the same page.
-use lintelrye::{Refusal, Written};
+//! each is encoded for the context of its place: an attribute, element text, a script string. All forty fields of the page are encoded in one
+//! call, with one answer to look at. A line that no longer fits is left out whole, and the page says so. c/journey_log.c prints the same page.
+use lintelrye::{Context, Field, Refusal};
 use std::io::Write;
 
 struct Journey {
@@ -29,8 +29,19 @@ const JOURNEYS: [Journey; 8] = [
 const PAGE: usize = 832;
 const END: usize = 72;
 
-/// An encoder of the library that puts its result at the front of a buffer.
-type Encoder = for<'a> fn(&str, &'a mut [u8]) -> Result<Written<'a>, Refusal>;
+/// The fields of a line in the order in which they stand in it: the landing as a title, the time, the landing as text, the event, and the landing in a
+/// script string.
+const IN_LINE: usize = 5;
+const CONTEXTS: [Context; IN_LINE] = [Context::DoubleQuoted, Context::Text, Context::Text, Context::Text, Context::ScriptSingle];
+
+/// The fields of a journey's line, their texts behind those that stand in `text` already.
+fn add_journey(journey: &Journey, text: &mut String, fields: &mut Vec<Field>) {
+    let texts = [journey.landing, journey.time, journey.landing, journey.event, journey.landing];
+    for (context, part) in CONTEXTS.into_iter().zip(texts) {
+        fields.push(Field::new(context, text.len(), part.len()));
+        text.push_str(part);
+    }
+}
 
 /// The page, and how much of it is written and may be written.
 struct Page {
@@ -51,42 +62,43 @@ impl Page {
         Ok(())
     }
 
-    /// Appends text from outside by the encoder for its place. Leaves the page as it was where the library refuses.
-    fn put_text(&mut self, encoder: Encoder, text: &str) -> Result<(), Refusal> {
-        self.used += encoder(text, &mut self.bytes[self.used..self.room])?.len();
-        Ok(())
-    }
-
-    /// Appends the parts of a journey's line, up to the first that is refused.
-    fn put_parts(&mut self, journey: &Journey) -> Result<(), Refusal> {
+    /// Appends the parts of a line, up to the first that does not fit or was refused.
+    fn put_parts(&mut self, line: &[Field], results: &[u8]) -> Result<(), Refusal> {
         self.put("<li title=\"")?;
-        self.put_text(lintelrye::encode_double_quoted_attribute_to_slice, journey.landing)?;
+        self.put(&line[0].result(results)?)?;
         self.put("\">")?;
-        self.put(journey.time)?;
+        self.put(&line[1].result(results)?)?;
         self.put(" ")?;
-        self.put_text(lintelrye::encode_text_to_slice, journey.landing)?;
+        self.put(&line[2].result(results)?)?;
         self.put(": ")?;
-        self.put_text(lintelrye::encode_text_to_slice, journey.event)?;
+        self.put(&line[3].result(results)?)?;
         self.put("<script>landing('")?;
-        self.put_text(lintelrye::encode_script_single_quoted_text_to_slice, journey.landing)?;
+        self.put(&line[4].result(results)?)?;
         self.put("')</script></li>\n")
     }
 
-    /// Appends a journey's line. Where a part of it is refused, the line is left out whole.
-    fn put_journey(&mut self, journey: &Journey) -> Result<(), Refusal> {
+    /// Appends a line. Where a part of it does not fit or was refused, the line is left out whole.
+    fn put_line(&mut self, line: &[Field], results: &[u8]) -> Result<(), Refusal> {
         let before = self.used;
-        let line = self.put_parts(journey);
-        if line.is_err() {
+        let put = self.put_parts(line, results);
+        if put.is_err() {
             self.used = before;
         }
-        line
+        put
     }
 }
 
 fn main() {
+    let (mut text, mut fields, mut results) = (String::new(), Vec::new(), [0; 1024]);
+    for journey in &JOURNEYS {
+        add_journey(journey, &mut text, &mut fields);
+    }
+    if let Err(stopped) = lintelrye::fill_page(&mut fields, &text, &mut results) {
+        eprintln!("journey_log: {}", stopped);
+    }
     let mut page = Page { bytes: [0; PAGE], used: 0, room: PAGE - END };
     let begun = page.put("<!DOCTYPE html>\n<meta charset=\"utf-8\">\n<title>Journey log</title>\n<ul>\n");
-    let shown = JOURNEYS.iter().take_while(|journey| page.put_journey(journey).is_ok()).count();
+    let shown = fields.chunks(IN_LINE).take_while(|line| page.put_line(line, &results).is_ok()).count();
     page.room = PAGE;
     let end = format!("</ul>\n<p>{} lines; {} did not fit and were left out</p>\n", shown, JOURNEYS.len() - shown);
     if let Err(refusal) = begun.and_then(|_| page.put(&end)) {

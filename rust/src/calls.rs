@@ -1,10 +1,14 @@
-//! The four operations in a context, copying and borrowing, the check, their results and their refusals; and where a script element's text ends.
+//! The four operations in a context, copying and borrowing, the check, their results and their refusals; a whole page in one call; and where a script
+//! element's text ends.
 use crate::raw::{self, Answer};
 use crate::Context;
 use core::{fmt, ops, str};
 
 /// The longest text that a call takes, in bytes.
 pub const TEXT_LIMIT: usize = 65_536;
+
+/// The most fields that a page takes.
+pub const FIELD_LIMIT: usize = 256;
 
 /// The length of an output that is enough to encode every text of `n` bytes, in every context.
 ///
@@ -36,7 +40,9 @@ pub const fn decoded_at_most(n: usize) -> usize {
 pub enum Refusal {
     /// The operation has no such context: [`decode`], [`check`] and [`take`] have all but [`Context::ScriptRaw`], [`browse`] has the first seven.
     BadContext,
-    /// The text is longer than [`TEXT_LIMIT`].
+    /// [`fill_page`] only: the part that a field names leaves the text.
+    BadRange,
+    /// The text is longer than [`TEXT_LIMIT`]; or a page has more than [`FIELD_LIMIT`] fields.
     TooLong,
     /// The text is not valid UTF-8, and not cut short.
     NotUtf8 {
@@ -58,6 +64,8 @@ pub enum Refusal {
         /// The length needed.
         needed: usize,
     },
+    /// No refusal of the library: the field has no result yet, since no page was filled with it, or the page was stopped before it.
+    NotFilled,
     /// No refusal of the library: the answer is one that this version never gives, so another archive is linked. Nothing is known of the buffer then.
     WrongArchive,
 }
@@ -66,11 +74,13 @@ impl fmt::Display for Refusal {
     fn fmt(&self, f: &mut fmt::Formatter<'_>) -> fmt::Result {
         match self {
             Refusal::BadContext => write!(f, "the operation has no such context"),
-            Refusal::TooLong => write!(f, "the text is longer than {} bytes", TEXT_LIMIT),
+            Refusal::BadRange => write!(f, "the part leaves the text"),
+            Refusal::TooLong => write!(f, "the text is longer than {} bytes, or the list than {} fields", TEXT_LIMIT, FIELD_LIMIT),
             Refusal::NotUtf8 { place } => write!(f, "the text is not valid UTF-8 from byte {} on", place),
             Refusal::CutShort { place } => write!(f, "the text ends within the character that begins at byte {}", place),
             Refusal::NotAForm { place } => write!(f, "the text is not what encode writes from byte {} on", place),
             Refusal::NoRoom { needed } => write!(f, "the result needs {} bytes of room", needed),
+            Refusal::NotFilled => write!(f, "the field is not filled"),
             Refusal::WrongArchive => write!(f, "another archive than this version's is linked"),
         }
     }
@@ -213,11 +223,13 @@ impl PartialEq<&str> for Written<'_> {
 fn refusal(status: u64, length: u64, place: u64) -> Refusal {
     match status {
         raw::BAD_CONTEXT => Refusal::BadContext,
+        raw::BAD_RANGE => Refusal::BadRange,
         raw::TOO_LONG => Refusal::TooLong,
         raw::NOT_UTF8 => Refusal::NotUtf8 { place: place as usize },
         raw::CUT_SHORT => Refusal::CutShort { place: place as usize },
         raw::NOT_A_FORM => Refusal::NotAForm { place: place as usize },
         raw::NO_ROOM => Refusal::NoRoom { needed: length as usize },
+        raw::NOT_FILLED => Refusal::NotFilled,
         _ => Refusal::WrongArchive,
     }
 }
@@ -322,6 +334,75 @@ operation! {
     /// # Ok::<(), lintelrye::Refusal>(())
     /// ```
     browse browse_borrowing
+}
+
+pub use raw::Field;
+
+impl Field {
+    /// A field that asks for the context of its place and for a part of the text, and has no result yet.
+    pub const fn new(context: Context, start: usize, length: usize) -> Field {
+        let answer = Answer { status: raw::NOT_FILLED, length: 0, same: 0, replaced: 0, place: 0, left: 0, reason: 0 };
+        Field { context: context as u32, start: start as u64, length: length as u64, begins: 0, answer }
+    }
+
+    /// The field's result, in the output that the page was filled into; or its refusal.
+    pub fn result<'a>(&self, output: &'a [u8]) -> Result<Written<'a>, Refusal> {
+        let rest = if self.begins <= output.len() as u64 { output.get(self.begins as usize..) } else { None };
+        written(rest.and_then(|rest| raw::front(rest, self.answer.length)), self.answer)
+    }
+}
+
+/// Why a page was not filled: a field was refused, or the list is too long.
+#[derive(Clone, Copy, Debug, PartialEq, Eq)]
+pub struct Stopped {
+    /// How many fields passed. The one with this index was refused, unless the list is longer than [`FIELD_LIMIT`].
+    pub passed: usize,
+    /// The refusal.
+    pub refusal: Refusal,
+}
+
+impl fmt::Display for Stopped {
+    fn fmt(&self, f: &mut fmt::Formatter<'_>) -> fmt::Result {
+        write!(f, "the page stops at field {}: {}", self.passed, self.refusal)
+    }
+}
+
+#[cfg(feature = "std")]
+impl std::error::Error for Stopped {}
+
+/// Fills a whole page: encodes the parts of one text that the fields name, in their order, each into the part of the output that is still free, as that many
+/// calls of [`encode`] would. Two fields can name the same part, and [`TEXT_LIMIT`] is that of each part. [`Field::result`] gives each result.
+///
+/// The first refusal stops the page: that field holds it, the results before it stand, and later fields and the bytes past the last result stay as they
+/// were. With more than [`FIELD_LIMIT`] fields nothing is touched.
+///
+/// ```
+/// use lintelrye::{fill_page, Context, Field, Refusal, Stopped};
+/// let text = "Mum & Dad's";
+/// let mut fields = [Field::new(Context::DoubleQuoted, 0, 11), Field::new(Context::ScriptSingle, 6, 5)];
+/// let mut page = [0; 32];
+/// assert_eq!(fill_page(&mut fields, text, &mut page), Ok(()));
+/// assert_eq!(fields[0].result(&page)?, "Mum &amp; Dad's");
+/// assert_eq!(fields[1].result(&page)?, r"Dad\'s");
+/// assert_eq!(&page[..21], br"Mum &amp; Dad'sDad\'s" as &[u8]);
+///
+/// let mut fields = [Field::new(Context::Text, 0, 3), Field::new(Context::Text, 6, 6)];
+/// assert_eq!(fill_page(&mut fields, text, &mut page), Err(Stopped { passed: 1, refusal: Refusal::BadRange }));
+/// # Ok::<(), Refusal>(())
+/// ```
+pub fn fill_page<T: ?Sized + AsRef<[u8]>>(fields: &mut [Field], text: &T, output: &mut [u8]) -> Result<(), Stopped> {
+    let filled = raw::fill_page(fields, text.as_ref(), output);
+    let passed = filled.passed as usize;
+    match filled.status {
+        raw::PASSED if passed == fields.len() => Ok(()),
+        raw::TOO_LONG if fields.len() > FIELD_LIMIT => Err(Stopped { passed, refusal: Refusal::TooLong }),
+        status => match fields.get(passed).map(|field| field.answer) {
+            Some(answer) if answer.status == status && status != raw::PASSED => {
+                Err(Stopped { passed, refusal: refusal(status, answer.length, answer.place) })
+            }
+            _ => Err(Stopped { passed, refusal: Refusal::WrongArchive }),
+        },
+    }
 }
 
 /// Returns where the text of a script element ends: at the `<` of the first end tag that a browser takes for the element's own, by the HTML Standard's script

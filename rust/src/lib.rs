@@ -16,6 +16,7 @@
 //! | `encode_text_to_vec(text, vec)` | `encode_text_to_slice(text, output)` | copying: the result is always written to the front of the buffer |
 //! | | [`encode`], [`decode`], [`take`], [`browse`] with a [`Context`] | copying; `_borrowing` for the other kind |
 //! | | [`check`] with a [`Context`] | whether [`take`] would take a text: no buffer at all |
+//! | | [`fill_page`] with a list of [`Field`]s | copying: a whole page in one call, each field by the context of its place |
 //!
 //! # Which context goes where
 //!

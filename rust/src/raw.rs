@@ -1,5 +1,5 @@
-//! The calls as the archive exports them: they take any context number and return the seven numbers of the answer, or the three of a check. The other
-//! calls of this crate are made of these.
+//! The calls as the archive exports them: they take any context number and return the seven numbers of the answer, or the three of a check, or fill the
+//! fields of a page. The other calls of this crate are made of these.
 
 /// The answer of a call, as include/lintelrye.h lays it out.
 #[repr(C)]
@@ -33,6 +33,33 @@ pub struct Checked {
     pub place: u64,
 }
 
+/// A field of a page, as include/lintelrye.h lays it out: the context and the part of the text that it asks for, and what [`fill_page`] tells of it.
+/// [`Field::new`](crate::Field::new) makes one, [`Field::result`](crate::Field::result) gives its result.
+#[repr(C)]
+#[derive(Clone, Copy, Debug, PartialEq, Eq)]
+pub struct Field {
+    /// The number of the context.
+    pub context: u32,
+    /// Where the field's part of the text begins.
+    pub start: u64,
+    /// How many bytes it has.
+    pub length: u64,
+    /// Where the result begins in the output; after a refusal 0.
+    pub begins: u64,
+    /// The answer of [`encode`] for the part, or [`BAD_RANGE`].
+    pub answer: Answer,
+}
+
+/// What [`fill_page`] answers, as include/lintelrye.h lays it out.
+#[repr(C)]
+#[derive(Clone, Copy, Debug, PartialEq, Eq)]
+pub struct Filled {
+    /// [`PASSED`], or the refusal of the field that stopped the page, or [`TOO_LONG`] for a list that is too long.
+    pub status: u64,
+    /// How many fields passed; the refused one has this index.
+    pub passed: u64,
+}
+
 /// The answer about a script element's text, as include/lintelrye.h lays it out.
 #[repr(C)]
 #[derive(Clone, Copy, Debug, PartialEq, Eq)]
@@ -59,6 +86,10 @@ pub const NOT_A_FORM: u64 = 4;
 pub const BAD_CONTEXT: u64 = 5;
 /// The text ends within a character that more bytes could complete, and is valid up to there.
 pub const CUT_SHORT: u64 = 7;
+/// A field of a page only: the part that it names leaves the text.
+pub const BAD_RANGE: u64 = 8;
+/// No status of a call: what a field holds that no call has filled yet.
+pub const NOT_FILLED: u64 = u64::MAX;
 
 // The archive's names end in how many numbers an answer has: with an archive of another record the crate does not link.
 macro_rules! exported {
@@ -98,6 +129,18 @@ extern "C" {
 pub fn check(context: u32, text: &[u8]) -> Checked {
     // SAFETY: the text can be read for its length. That is all that the call requires.
     unsafe { lintelrye_check(context, text.as_ptr(), text.len()) }
+}
+
+#[link(name = "lintelrye_c", kind = "static")]
+extern "C" {
+    fn lintelrye_fill_page_7(fields: *mut Field, count: usize, text: *const u8, text_length: usize, output: *mut u8, output_length: usize) -> Filled;
+}
+
+/// `lintelrye_fill_page`, see [`crate::fill_page`].
+pub fn fill_page(fields: &mut [Field], text: &[u8], output: &mut [u8]) -> Filled {
+    // SAFETY: the text can be read, and the fields and the output read and written, for their lengths, and a mutable borrow overlaps no other borrow. Every
+    // number is a value of each field's type. That is all that the call requires.
+    unsafe { lintelrye_fill_page_7(fields.as_mut_ptr(), fields.len(), text.as_ptr(), text.len(), output.as_mut_ptr(), output.len()) }
 }
 
 #[link(name = "lintelrye_c", kind = "static")]

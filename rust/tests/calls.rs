@@ -1,7 +1,7 @@
 //! What this crate makes of the archive's answers: results that borrow the text or the buffer, refusals with an untouched buffer, texts of several
 //! types, and the names of html-escape.
 use lintelrye::raw::{self, Answer, Checked};
-use lintelrye::{Context, Left, Reason, Refusal, Written};
+use lintelrye::{Context, Field, Left, Reason, Refusal, Stopped, Written};
 
 type Operation = for<'a> fn(Context, &'a [u8], &'a mut [u8]) -> Result<Written<'a>, Refusal>;
 
@@ -290,4 +290,57 @@ fn the_first_reference_that_stays_is_told() {
     }
     assert_eq!(lintelrye::decode(Context::ScriptQuoted, "&;", &mut [0; 64]).unwrap().left(), None);
     assert_eq!(lintelrye::decode(Context::Text, "&lt;", &mut [0; 64]).unwrap().left(), None);
+}
+
+#[test]
+fn a_page_is_its_single_calls_one_behind_the_other() {
+    let text = "Mum & Dad's";
+    let parts =
+        [(Context::DoubleQuoted, 0, 11), (Context::ScriptSingle, 6, 5), (Context::Text, 0, 5), (Context::ScriptSingle, 6, 5), (Context::Text, 11, 0)];
+    let mut fields = parts.map(|(context, start, length)| Field::new(context, start, length));
+    let (mut page, mut singly) = ([0xEE; 64], [0xEE; 64]);
+    assert_eq!(lintelrye::fill_page(&mut fields, text, &mut page), Ok(()));
+    let mut end = 0;
+    for (field, (context, start, length)) in fields.iter().zip(parts) {
+        let single = lintelrye::encode(context, &text[start..start + length], &mut singly[end..]).unwrap();
+        assert_eq!(field.result(&page), Ok(single));
+        assert_eq!(field.begins, end as u64);
+        end += single.len();
+    }
+    assert_eq!(page, singly);
+}
+
+#[test]
+fn a_refusal_stops_a_page() {
+    let text = b"a<\xC3\xA9";
+    let stops = |refused: Field, room: usize, refusal: Refusal| {
+        let mut fields = [Field::new(Context::Text, 0, 2), refused, Field::new(Context::Text, 0, 1)];
+        let last = fields[2];
+        let mut page = [0xEE; 16];
+        assert_eq!(lintelrye::fill_page(&mut fields, text, &mut page[..room]), Err(Stopped { passed: 1, refusal }));
+        assert_eq!(fields[0].result(&page).unwrap(), "a&lt;");
+        assert_eq!(fields[1].result(&page), Err(refusal));
+        assert_eq!(fields[1].begins, 0);
+        assert_eq!((fields[2], fields[2].result(&page)), (last, Err(Refusal::NotFilled)));
+        assert_eq!(&page, b"a&lt;\xEE\xEE\xEE\xEE\xEE\xEE\xEE\xEE\xEE\xEE\xEE");
+    };
+    stops(Field::new(Context::Text, 0, 2), 8, Refusal::NoRoom { needed: 5 });
+    stops(Field::new(Context::Text, 1, 2), 16, Refusal::CutShort { place: 1 });
+    stops(Field::new(Context::Text, 3, 1), 16, Refusal::NotUtf8 { place: 0 });
+    for (start, length) in [(5, 0), (0, 5), (4, 1), (usize::MAX, 0), (1, usize::MAX), (usize::MAX, usize::MAX)] {
+        stops(Field::new(Context::Text, start, length), 16, Refusal::BadRange);
+    }
+    stops(Field { context: 99, ..Field::new(Context::Text, 9, 9) }, 16, Refusal::BadContext);
+}
+
+#[test]
+fn a_list_too_long_touches_nothing() {
+    let mut fields = [Field::new(Context::Text, 0, 1); lintelrye::FIELD_LIMIT + 1];
+    let before = fields;
+    let mut page = [0xEE; 512];
+    assert_eq!(lintelrye::fill_page(&mut fields, "a", &mut page), Err(Stopped { passed: 0, refusal: Refusal::TooLong }));
+    assert_eq!((fields, page), (before, [0xEE; 512]));
+    assert_eq!(lintelrye::fill_page(&mut fields[1..], "a", &mut page), Ok(()));
+    assert_eq!(page.iter().filter(|&&b| b == b'a').count(), lintelrye::FIELD_LIMIT);
+    assert_eq!(lintelrye::fill_page(&mut [], "", &mut []), Ok(()));
 }

@@ -1,7 +1,7 @@
 //! Measuring: four passes over the same texts, in rounds that interleave them, and the median of each.
 
-use crate::texts::{Case, Kind};
-use compare::{check, closing_tag, Call, Closing};
+use crate::texts::{Case, Kind, FORTY};
+use compare::{check, closing_tag, fill_page, Answer, Call, Closing, Field, Filled, ToVec};
 use std::arch::asm;
 use std::str::from_utf8;
 use std::time::Duration;
@@ -65,6 +65,41 @@ fn keep<T: ?Sized>(value: &T) -> &T {
     value
 }
 
+/// A page of forty texts of a case: the texts joined, and a record for each.
+struct Page {
+    text: String,
+    fields: Vec<Field>,
+}
+
+fn pages(case: &Case) -> Vec<Page> {
+    let page = |texts: &[(usize, &String)]| {
+        let mut page = Page { text: String::new(), fields: Vec::new() };
+        for (i, text) in texts {
+            let answer = Answer { status: 0, length: 0, same: 0, replaced: 0, place: 0, left: 0, reason: 0 };
+            page.fields.push(Field { context: case.context_of(*i) as u32, start: page.text.len() as u64, length: text.len() as u64, begins: 0, answer });
+            page.text += text;
+        }
+        page
+    };
+    case.texts.iter().enumerate().collect::<Vec<_>>().chunks(FORTY).map(page).collect()
+}
+
+/// Whether every page holds what the crate gives for its texts, one behind the other.
+fn compare_pages(case: &Case, rooms: &mut Rooms) -> Result<(), String> {
+    for (i, (page, texts)) in pages(case).iter_mut().zip(case.texts.chunks(FORTY)).enumerate() {
+        let filled = fill_page(&mut page.fields, page.text.as_bytes(), &mut rooms.ours);
+        rooms.alone.clear();
+        for (j, text) in texts.iter().enumerate() {
+            case.theirs(FORTY * i + j)(text, &mut rooms.alone);
+        }
+        let length = rooms.alone.len();
+        if filled != (Filled { status: 0, passed: texts.len() as u64 }) || rooms.ours[..length] != rooms.alone[..] {
+            return Err(format!("{}, page {}: {:?}, or its bytes are not the crate's", case.name(), i, filled));
+        }
+    }
+    Ok(())
+}
+
 /// Whether both sides give the same bytes for every text of the case; the words say where they do not. closing_tag, which the crate does not have, has to
 /// read every text to its end.
 pub fn compare(case: &Case, rooms: &mut Rooms) -> Result<(), String> {
@@ -72,11 +107,14 @@ pub fn compare(case: &Case, rooms: &mut Rooms) -> Result<(), String> {
         let ended = case.texts.iter().position(|text| closing_tag(text.as_bytes()) != Closing { status: 0, found: 0, place: 0 });
         return ended.map_or(Ok(()), |i| Err(format!("{}, text {} ends before its own end", case.name(), i)));
     }
+    if case.kind == Kind::Page {
+        return compare_pages(case, rooms);
+    }
     let call = Call::find(case.operation, case.kind == Kind::Borrowing);
     for (i, text) in case.texts.iter().enumerate() {
         // No result has this byte: what an earlier text left cannot pass for this one's result.
         rooms.ours[..6 * text.len()].fill(0xFF);
-        let answer = call.make(case.context as u32, text.as_bytes(), &mut rooms.ours);
+        let answer = call.make(case.context_of(i) as u32, text.as_bytes(), &mut rooms.ours);
         if answer.status != 0 || answer.length as usize > ROOM {
             return Err(format!("{}, text {}: {:?}", case.name(), i, answer));
         }
@@ -89,7 +127,7 @@ pub fn compare(case: &Case, rooms: &mut Rooms) -> Result<(), String> {
         let borrowed = case.kind == Kind::Borrowing && answer.same == 1;
         let ours = if borrowed { text.as_bytes() } else { &rooms.ours[..answer.length as usize] };
         rooms.alone.clear();
-        let theirs = case.theirs()(text, &mut rooms.alone);
+        let theirs = case.theirs(i)(text, &mut rooms.alone);
         if ours != theirs {
             let place = ours.iter().zip(theirs).take_while(|(one, other)| one == other).count();
             return Err(format!("{}, text {}: from byte {} of the result on it is not the crate's", case.name(), i, place));
@@ -127,9 +165,12 @@ pub type Pass<'a> = Box<dyn FnMut() + 'a>;
 
 /// The four passes over the texts of a case: ours, the crate alone, the crate after from_utf8, a copy.
 pub fn passes<'a>(case: &'a Case, rooms: &'a mut Rooms) -> [Pass<'a>; 4] {
-    let Rooms { ours, alone, checked, copied } = rooms;
-    let (call, theirs) = (Call::find(case.operation, case.kind == Kind::Borrowing), case.theirs());
+    let (call, theirs) = (Call::find(case.operation, case.kind == Kind::Borrowing), case.theirs(0));
     let each = move || case.texts.iter().map(|text| keep(text.as_str()));
+    if let Kind::Page | Kind::Singly = case.kind {
+        return page_passes(case, rooms);
+    }
+    let Rooms { ours, alone, checked, copied } = rooms;
     let calls: Pass = match case.kind {
         Kind::Check => Box::new(move || {
             each().for_each(|text| {
@@ -165,6 +206,59 @@ pub fn passes<'a>(case: &'a Case, rooms: &'a mut Rooms) -> [Pass<'a>; 4] {
         Box::new(move || {
             each().for_each(|text| {
                 copied[..text.len()].copy_from_slice(text.as_bytes());
+                keep(&copied[..]);
+            })
+        }),
+    ]
+}
+
+/// The four passes over pages: in one call or singly, one result behind the other; the crate's forty calls, alone and after from_utf8, likewise; a copy.
+/// Contexts, functions and records are there beforehand, on every side.
+fn page_passes<'a>(case: &'a Case, rooms: &'a mut Rooms) -> [Pass<'a>; 4] {
+    let Rooms { ours, alone, checked, copied } = rooms;
+    let call = Call::find(case.operation, false);
+    let name = |(i, text): (usize, &'a String)| (case.context_of(i) as u32, case.theirs(i), text.as_str());
+    let names: Vec<(u32, ToVec, &str)> = case.texts.iter().enumerate().map(name).collect();
+    let (singly, again, copies) = (names.clone(), names.clone(), names.clone());
+    let mut pages = pages(case);
+    let calls: Pass = if case.kind == Kind::Page {
+        Box::new(move || {
+            pages.iter_mut().for_each(|page| {
+                keep(&fill_page(&mut page.fields, keep(page.text.as_str()).as_bytes(), ours));
+            })
+        })
+    } else {
+        Box::new(move || {
+            singly.chunks(FORTY).for_each(|page| {
+                let mut end = 0;
+                for &(context, _, text) in page {
+                    end += keep(&call.make(context, keep(text).as_bytes(), &mut ours[end..])).length as usize;
+                }
+            })
+        })
+    };
+    [
+        calls,
+        Box::new(move || {
+            names.chunks(FORTY).for_each(|page| {
+                alone.clear();
+                for &(_, theirs, text) in page {
+                    keep(theirs(keep(text), alone));
+                }
+            })
+        }),
+        Box::new(move || {
+            again.chunks(FORTY).for_each(|page| {
+                checked.clear();
+                for &(_, theirs, text) in page {
+                    let text = from_utf8(keep(text).as_bytes()).expect("the texts are valid");
+                    keep(theirs(text, checked));
+                }
+            })
+        }),
+        Box::new(move || {
+            copies.iter().for_each(|&(_, _, text)| {
+                copied[..text.len()].copy_from_slice(keep(text).as_bytes());
                 keep(&copied[..]);
             })
         }),

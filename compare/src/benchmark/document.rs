@@ -2,8 +2,7 @@
 
 use crate::clock::{Effort, Row};
 use crate::machine::machine;
-use crate::report::{above, checks, classes, each_once, escaped, families, highest, worst, worst_check};
-use compare::CONTEXTS;
+use crate::report::{above, checks, classes, each_once, escaped, families, highest, pages, worst, worst_beside, Beside};
 
 /// The document of the times.
 pub fn times(rows: &[Row], facts: &[(&str, String)], effort: &Effort) -> String {
@@ -16,7 +15,7 @@ pub fn times(rows: &[Row], facts: &[(&str, String)], effort: &Effort) -> String 
     text += &method(effort);
     text += &limits(rows);
     text += &format!("\n## Worst ratio by class\n\nOurs over crate + utf8. Bold is above the limit; `take` and `check` have none.\n\n{}", matrix(rows));
-    text += &beside_take(rows);
+    text += &beside_calls(rows);
     text += "\n![The worst ratio of each family of contexts, by class](benchmarks.svg)\n";
     text + &lines(rows)
 }
@@ -24,7 +23,7 @@ pub fn times(rows: &[Row], facts: &[(&str, String)], effort: &Effort) -> String 
 /// The document of the counts.
 pub fn counts(rows: &[Row], facts: &[(&str, String)]) -> String {
     let compiler = if machine() == "x86_64" { "" } else { DEBIAN };
-    format!("{}{}{}{}{}{}{}", COUNTS, table(facts), COUNTED, compiler, WORST_COUNTS, matrix(rows), beside_take(rows))
+    format!("{}{}{}{}{}{}{}", COUNTS, table(facts), COUNTED, compiler, WORST_COUNTS, matrix(rows), beside_calls(rows))
 }
 
 /// The facts as a table.
@@ -97,7 +96,8 @@ The limits are about ours over crate + utf8: below 1 the library is faster. The 
 beside the same function of the crate as the copying one. `take`, `check` and `browse` have no counterpart in the crate: `take` and `check` are held
 beside the crate's decoder of the same context on the same written form, though they also refuse what is no such form; `browse` is held beside
 `decode_html_entities`. The HTML seven share one decoder, so that decode and browse are measured in one of them. `closing_tag` has no counterpart either:
-it is held beside `encode_script` on the same text, of which none ends before its own end, so that all of it is read.
+it is held beside `encode_script` on the same text, of which none ends before its own end, so that all of it is read. `fill_page` fills forty names in one
+call, and is held beside forty calls of the crate, and beside forty of our own (\"encode for a page\").
 
 ";
 
@@ -107,6 +107,7 @@ const CLASSES: &str = "\
 | plain | 64 KiB of English words in which nothing is replaced (for `unquoted`, which replaces spaces, letters and digits alone) |
 | 1 %, 10 %, 50 %, all | 64 KiB, of whose characters so many are special, at random places: what encode replaces in the context; for take, check, decode and browse the references or escapes that they undo (HTML decode: half common names, a quarter numbers, a quarter any names) |
 | short names | 2,000 names of 5 to 40 bytes, one call for each; about one in ten has something special |
+| forty names | the same, forty for a page, which go through the HTML seven in turn |
 | Cyrillic, CJK, emoji | 64 KiB of characters of two, three, four bytes, nothing special |
 | English | `unquoted` alone: 64 KiB of English words with the spaces between them |
 | only `<!--`, only `</script>`, only `<` | script_raw alone: 64 KiB of that piece |
@@ -124,7 +125,7 @@ fn limits(rows: &[Row]) -> String {
             let under = || of_family().filter(|row| row.limit == Some(limit));
             let classes = each_once(under().map(|row| row.case.class)).join(", ");
             if let Some(row) = highest(under()) {
-                let place = format!("{}, {}", CONTEXTS[row.case.context], row.case.class);
+                let place = format!("{}, {}", row.case.place(), row.case.class);
                 let verdict = if row.above() { "**above**" } else { "holds" };
                 text += &format!("| {} | {} | {:.2} | {:.2} | {} | {} |\n", family, escaped(&classes), limit, row.ratio(), escaped(&place), verdict);
             }
@@ -148,18 +149,24 @@ fn matrix(rows: &[Row]) -> String {
     text
 }
 
-/// The check beside `take`, on the same texts in the same run: the worst ratio of each class.
-fn beside_take(rows: &[Row]) -> String {
-    let checks = checks(rows);
-    let mut text = String::from("\n## check over take\n\nOurs over ours, on the same texts, in the worst of the thirteen contexts.\n\n");
+/// The check beside `take`, and a page beside its single calls, on the same texts in the same run: the worst ratio of each class.
+fn beside_calls(rows: &[Row]) -> String {
+    let take = "\n## check over take\n\nOurs over ours, on the same texts, in the worst of the thirteen contexts.\n\n";
+    let page = "\n## fill_page over single calls\n\nForty names in one call over forty copying calls of encode.\n\n";
+    beside(take, rows, &checks(rows)) + &beside(page, rows, &pages(rows))
+}
+
+/// One of these tables under its heading.
+fn beside(heading: &str, rows: &[Row], all: &[Beside]) -> String {
+    let mut text = String::from(heading);
     text += "| class | at most | worst | in | |\n|---|---|---|---|---|\n";
-    for beside in classes(rows).into_iter().filter_map(|class| worst_check(&checks, class)) {
-        let case = &beside.check.case;
-        let (limit, verdict) = match case.check_limit() {
+    for beside in classes(rows).into_iter().filter_map(|class| worst_beside(all, class)) {
+        let case = &beside.row.case;
+        let (limit, verdict) = match case.beside_limit() {
             Some(limit) => (format!("{:.2}", limit), if beside.above() { "**above**" } else { "holds" }),
             None => (String::new(), ""),
         };
-        text += &format!("| {} | {} | {:.2} | {} | {} |\n", escaped(case.class), limit, beside.ratio(), CONTEXTS[case.context], verdict);
+        text += &format!("| {} | {} | {:.2} | {} | {} |\n", escaped(case.class), limit, beside.ratio(), case.place(), verdict);
     }
     text
 }
@@ -176,7 +183,7 @@ fn lines(rows: &[Row]) -> String {
     text += "| | context | class | ours | crate | crate + utf8 | memcpy | over crate | over crate + utf8 | over memcpy |\n";
     text += "|---|---|---|---|---|---|---|---|---|---|\n";
     for row in rows {
-        let place = format!("{} | {} | {}", row.case.family(), CONTEXTS[row.case.context], escaped(row.case.class));
+        let place = format!("{} | {} | {}", row.case.family(), row.case.place(), escaped(row.case.class));
         let medians = format!("{:.3} | {:.3} | {:.3} | {:.3}", row.ours, row.alone, row.checked, row.copied);
         let ratios = format!("{:.2} | {} | {:.1}", row.ours / row.alone, marked(row), row.ours / row.copied);
         text += &format!("| {} | {} | {} |\n", place, medians, ratios);

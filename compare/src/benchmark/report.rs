@@ -2,7 +2,7 @@
 
 use crate::clock::Row;
 use crate::texts::Kind;
-use compare::{call, Operation, CONTEXTS};
+use compare::{call, Operation};
 
 /// The head of the table that is printed. `unit` is what is measured.
 pub fn head(unit: &str) -> String {
@@ -13,7 +13,7 @@ pub fn head(unit: &str) -> String {
 /// One line of the table.
 pub fn line(row: &Row) -> String {
     let case = &row.case;
-    let place = format!("{} {}", case.family(), CONTEXTS[case.context]);
+    let place = format!("{} {}", case.family(), case.place());
     let mark = match row.limit {
         Some(limit) if row.above() => format!("  above {:.2}", limit),
         _ => String::new(),
@@ -31,46 +31,64 @@ pub fn summary(rows: &[Row]) -> String {
         let cell = |row: &Row| format!("{} {:.2}{}", row.case.class, row.ratio(), if row.above() { "*" } else { "" });
         text += &format!("{:24} {}\n", family, worst.map(cell).collect::<Vec<_>>().join(", "));
     }
-    let beside = beside_take(rows);
+    let beside = beside_take(rows) + &beside_singles(rows);
     match rows.iter().any(|row| row.limit.is_some()) {
         true => text + &beside + &above(rows),
         false => text.replace(" (* above the limit)", "") + &beside,
     }
 }
 
-/// A row of check beside that of `take` on the same texts.
+/// A row of check beside that of `take` on the same texts, or one of fill_page beside that of its single calls.
 pub struct Beside<'a> {
-    pub check: &'a Row,
-    pub take: &'a Row,
+    pub row: &'a Row,
+    pub call: &'a Row,
 }
 
 impl Beside<'_> {
     /// Ours over ours, to the two digits that are printed.
     pub fn ratio(&self) -> f64 {
-        (100.0 * self.check.ours / self.take.ours).round() / 100.0
+        (100.0 * self.row.ours / self.call.ours).round() / 100.0
     }
 
     pub fn above(&self) -> bool {
-        self.check.case.check_limit().map_or(false, |limit| self.ratio() > limit)
+        self.row.case.beside_limit().map_or(false, |limit| self.ratio() > limit)
     }
 }
 
 /// Every check with its `take`.
 pub fn checks(rows: &[Row]) -> Vec<Beside<'_>> {
-    let take = |check: &Row| rows.iter().find(|row| row.case.is_take_beside(&check.case));
-    rows.iter().filter(|row| row.case.kind == Kind::Check).filter_map(|check| take(check).map(|take| Beside { check, take })).collect()
+    beside(rows, Kind::Check)
+}
+
+/// Every page with its single calls.
+pub fn pages(rows: &[Row]) -> Vec<Beside<'_>> {
+    beside(rows, Kind::Page)
+}
+
+/// The rows of a kind, each with the copying calls on the same texts.
+fn beside(rows: &[Row], kind: Kind) -> Vec<Beside<'_>> {
+    let call = |row: &Row| rows.iter().find(|call| call.case.is_beside(&row.case));
+    rows.iter().filter(|row| row.case.kind == kind).filter_map(|row| call(row).map(|call| Beside { row, call })).collect()
 }
 
 /// The highest ratio of a class among them.
-pub fn worst_check<'a, 'b>(checks: &'b [Beside<'a>], class: &str) -> Option<&'b Beside<'a>> {
-    checks.iter().filter(|beside| beside.check.case.class == class).max_by(|one, other| one.ratio().total_cmp(&other.ratio()))
+pub fn worst_beside<'a, 'b>(all: &'b [Beside<'a>], class: &str) -> Option<&'b Beside<'a>> {
+    all.iter().filter(|beside| beside.row.case.class == class).max_by(|one, other| one.ratio().total_cmp(&other.ratio()))
+}
+
+/// The page over its single calls, as a line of text.
+fn beside_singles(rows: &[Row]) -> String {
+    let pages = pages(rows);
+    worst_beside(&pages, "forty names").map_or(String::new(), |page| {
+        format!("fill_page over single calls (* above 1.05): {} {:.2}{}\n", page.row.case.class, page.ratio(), if page.above() { "*" } else { "" })
+    })
 }
 
 /// The worst of them in each class, as a line of text.
 fn beside_take(rows: &[Row]) -> String {
     let checks = checks(rows);
-    let cell = |beside: &Beside| format!("{} {:.2}{}", beside.check.case.class, beside.ratio(), if beside.above() { "*" } else { "" });
-    let cells: Vec<String> = classes(rows).into_iter().filter_map(|class| worst_check(&checks, class)).map(cell).collect();
+    let cell = |beside: &Beside| format!("{} {:.2}{}", beside.row.case.class, beside.ratio(), if beside.above() { "*" } else { "" });
+    let cells: Vec<String> = classes(rows).into_iter().filter_map(|class| worst_beside(&checks, class)).map(cell).collect();
     if cells.is_empty() {
         return String::new();
     }

@@ -14,12 +14,18 @@ const CYRILLIC: &str = "насос в северном зале был откр�
 const CJK: &str = "北側 の 水泵 早上 七點 開 中午 前 又 關閉 工程師 會 檢查 閥門 ポンプ 明日";
 const EMOJI: &str = "😀 🚰 🔧 🏭 👩\u{200D}🔧 🌡\u{FE0F} 🚪 🔔 🔒 🧯 🪛 🛠\u{FE0F} 🕖 🙈 🎉 👍🏽";
 
-/// Which call of an operation is made; the check is read's, and closing_tag, which judges a script element's text, goes with encode in script_raw.
+/// How many names are filled in one call of fill_page.
+pub const FORTY: usize = 40;
+
+/// Which call of an operation is made; the check is read's, fill_page makes forty copying calls of encode in one, which are also made singly beside it,
+/// and closing_tag, which judges a script element's text, goes with encode in script_raw.
 #[derive(Clone, Copy, PartialEq, Eq)]
 pub enum Kind {
     Copying,
     Borrowing,
     Check,
+    Page,
+    Singly,
     Closing,
 }
 
@@ -33,17 +39,26 @@ pub struct Case {
 }
 
 impl Case {
-    /// The crate's counterpart: its encoder or decoder of the context. For `take`, `check` and `browse`, which the crate does not have, its decoder.
-    pub fn theirs(&self) -> ToVec {
+    /// The context of a text: on a page the names go through the HTML seven in turn.
+    pub fn context_of(&self, i: usize) -> usize {
+        match self.kind {
+            Kind::Page | Kind::Singly => i % 7,
+            _ => self.context,
+        }
+    }
+
+    /// The crate's counterpart: its encoder or decoder of the text's context. For `take`, `check` and `browse`, which the crate does not have, its decoder.
+    pub fn theirs(&self, i: usize) -> ToVec {
         match self.operation {
-            Operation::Encode => CRATE_ENCODERS[self.context],
+            Operation::Encode => CRATE_ENCODERS[self.context_of(i)],
             _ => CRATE_DECODERS[self.context],
         }
     }
 
-    /// Whether this is the copying call on the texts of a check.
-    pub fn is_take_beside(&self, check: &Case) -> bool {
-        self.operation == Operation::Read && self.kind == Kind::Copying && (self.context, self.class) == (check.context, check.class)
+    /// Whether these are the copying calls on the texts of a check or of a page.
+    pub fn is_beside(&self, other: &Case) -> bool {
+        let kind = if other.kind == Kind::Page { Kind::Singly } else { Kind::Copying };
+        self.operation == other.operation && self.kind == kind && (self.context, self.class) == (other.context, other.class)
     }
 
     /// The number of bytes that one pass over the texts takes.
@@ -55,6 +70,8 @@ impl Case {
     pub fn family(&self) -> &'static str {
         match (self.operation, self.context, self.kind) {
             (_, _, Kind::Closing) => "closing_tag",
+            (_, _, Kind::Page) => "fill_page",
+            (_, _, Kind::Singly) => "encode for a page",
             (Operation::Encode, 0..=6, Kind::Borrowing) => "encode HTML, borrowing",
             (Operation::Encode, 0..=6, _) => "encode HTML",
             (Operation::Encode, 7..=9, _) => "encode script strings",
@@ -73,13 +90,22 @@ impl Case {
         }
     }
 
-    pub fn name(&self) -> String {
-        format!("{} | {} | {}", self.family(), CONTEXTS[self.context], self.class)
+    /// The name of the context; a page has more than one.
+    pub fn place(&self) -> &'static str {
+        match self.kind {
+            Kind::Page | Kind::Singly => "the HTML seven",
+            _ => CONTEXTS[self.context],
+        }
     }
 
-    /// The most that a check may take of what `take` does on the same texts.
-    pub fn check_limit(&self) -> Option<f64> {
+    pub fn name(&self) -> String {
+        format!("{} | {} | {}", self.family(), self.place(), self.class)
+    }
+
+    /// The most that a check may take of what `take` does on the same texts, and a page of what its single calls do.
+    pub fn beside_limit(&self) -> Option<f64> {
         match (self.kind, self.class) {
+            (Kind::Page, _) => Some(1.05),
             (Kind::Check, "plain") => Some(1.0),
             (Kind::Check, "10 %" | "50 %" | "all") => Some(0.65),
             _ => None,
@@ -90,6 +116,12 @@ impl Case {
     pub fn limit(&self) -> Option<f64> {
         if self.kind == Kind::Closing {
             return Some(if ["plain", "Cyrillic", "CJK", "emoji", "escaped plain"].contains(&self.class) { 1.5 } else { 3.0 });
+        }
+        if self.kind == Kind::Page {
+            return Some(0.6);
+        }
+        if self.kind == Kind::Singly {
+            return None;
         }
         match (self.operation, self.context, self.class) {
             (Operation::Encode, 0..=6, "plain") => Some(if self.kind == Kind::Borrowing { 0.15 } else { 0.3 }),
@@ -119,8 +151,17 @@ pub fn cases() -> Vec<Case> {
     add(Operation::Read, Kind::Copying, &[0, 1, 2, 3, 4, 5, 6, 7, 8, 9, 10, 11, 12]);
     add(Operation::Read, Kind::Check, &[0, 1, 2, 3, 4, 5, 6, 7, 8, 9, 10, 11, 12]);
     add(Operation::Browse, Kind::Copying, &[1]);
+    all.extend([page_case(Kind::Singly), page_case(Kind::Page)]);
     all.extend(closing_cases());
     all
+}
+
+/// Pages of forty short names, which go through the HTML seven in turn.
+fn page_case(kind: Kind) -> Case {
+    let numbers = &mut Numbers(40);
+    let english = words(numbers, ENGLISH, &[" ", " ", " ", " ", ", ", ". "]);
+    let texts = names(numbers, &english, &special(4));
+    Case { operation: Operation::Encode, kind, context: 4, class: "forty names", texts }
 }
 
 /// The classes of closing_tag: texts that are read to their end, as none of them has an end tag that ends the element.

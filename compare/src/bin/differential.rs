@@ -1,11 +1,13 @@
 //! Compares the library with the crate html-escape on random texts chosen to be difficult, ten million cases unless another number is given.
-//!   compare/run differential [--crate PATH] [--cases N] [--seed S]
+//!   compare/run differential [--crate PATH] [--cases N] [--pages N] [--seed S]
 //! A case is a text in an operation and a context; it makes the copying and the borrowing call, each with one length of the output out of seven
 //! around the result's. The seven numbers, every byte written and every byte that is to stay are compared with what compare/src/model.rs works out
-//! from the crate. Beside each call of read the check is made and compared, whatever the output. A text that differs is made as short as it can be and printed. The exit status is 1 where anything differs.
+//! from the crate. Beside each call of read the check is made and compared, whatever the output. A text that differs is made as short as it can be and
+//! printed. Then pages of such texts, a hundred thousand unless another number is given: the call on the whole list against single calls that the model
+//! makes, in every number of every record and every byte of the output and behind it. The exit status is 1 where anything differs.
 
 use compare::model::{has_context, Model, Outcome, CUT_SHORT, LONGEST, NOT_UTF8, PASSED};
-use compare::{call, check, Answer, Checked, Numbers, Operation, CONTEXTS, CRATE_LENDING_DECODERS, CRATE_LENDING_ENCODERS, OPERATIONS};
+use compare::{call, check, fill_page, Answer, Checked, Field, Filled, Numbers, Operation, CONTEXTS, CRATE_LENDING_DECODERS, CRATE_LENDING_ENCODERS, OPERATIONS};
 use std::time::{Duration, Instant};
 
 /// How many differences are made short and printed; the others are counted.
@@ -205,6 +207,86 @@ impl Texts {
     }
 }
 
+/// A page: a text, the records of its parts, and the length of the output.
+struct Page {
+    text: Vec<u8>,
+    fields: Vec<Field>,
+    room: usize,
+}
+
+/// What a record holds before a call.
+const STALE: Answer = Answer { status: 9, length: 9, same: 9, replaced: 9, place: 9, left: 9, reason: 9 };
+
+impl Texts {
+    /// A page of texts one behind the other. Most records name one of them; some any part, a part outside, or no context. The output is long enough, or any.
+    fn page(&mut self) -> Page {
+        let count = if self.numbers.below(200) == 0 { 250 + self.numbers.below(12) } else { self.numbers.below(48) };
+        let (mut text, mut fields) = (Vec::new(), Vec::new());
+        for _ in 0..count {
+            let context = self.numbers.below(14) as u32;
+            let part = if self.numbers.below(8) == 0 { self.text(context) } else { self.pieces(context).into_bytes() };
+            fields.push(Field { context, start: text.len() as u64, length: part.len() as u64, begins: 9, answer: STALE });
+            text.extend(part);
+        }
+        for field in &mut fields {
+            match self.numbers.below(400) {
+                0 => field.context = self.numbers.below(40) as u32,
+                1 => field.start = self.numbers.below(text.len() + 3) as u64,
+                2 => field.length = self.numbers.below(text.len() + 3) as u64,
+                3 => field.start = text.len() as u64 + self.numbers.below(3) as u64,
+                4 => field.start = u64::MAX - self.numbers.below(3) as u64,
+                5 => field.length = u64::MAX - self.numbers.below(3) as u64,
+                6..=9 => (field.start, field.length) = (self.numbers.below(text.len() + 1) as u64, self.numbers.below(6) as u64),
+                _ => {}
+            }
+        }
+        let most = 6 * text.len();
+        let room = if self.numbers.below(4) == 0 { self.numbers.below(most + 1) } else { most + self.numbers.below(64) };
+        Page { text, fields, room }
+    }
+}
+
+/// The page filled by the library and by the model; the words say where they differ.
+fn one_page(model: &Model, page: &Page) -> (Filled, Option<String>) {
+    let mut output: Vec<u8> = (0..page.room + 8).map(pattern).collect();
+    let (fields, bytes, filled) = model.page(&page.fields, &page.text, &output[..page.room]);
+    let mut ours = page.fields.clone();
+    let answer = fill_page(&mut ours, &page.text, &mut output[..page.room]);
+    let what = if answer != filled {
+        Some(format!("answers {:?}, not {:?}", answer, filled))
+    } else if let Some(i) = (0..fields.len()).find(|&i| ours[i] != fields[i]) {
+        Some(format!("record {} is {:?}, not {:?}", i, ours[i], fields[i]))
+    } else if let Some(at) = (0..page.room).find(|&at| output[at] != bytes[at]) {
+        Some(format!("byte {} of the output is {:02X}, not {:02X}", at, output[at], bytes[at]))
+    } else {
+        (page.room..page.room + 8).find(|&at| output[at] != pattern(at)).map(|at| format!("changes byte {}, behind the output", at))
+    };
+    (filled, what)
+}
+
+/// Compares so many pages, prints the first that differ, and says how many do.
+fn pages(model: &Model, texts: &mut Texts, count: u64) -> u64 {
+    let (mut records, mut whole, mut differ) = (0, 0, 0);
+    let mut stopped = [0u64; 9];
+    for _ in 0..count {
+        let page = texts.page();
+        let (filled, what) = one_page(model, &page);
+        records += page.fields.len();
+        whole += (filled.status == PASSED) as u64;
+        stopped[filled.status as usize] += 1;
+        if let Some(what) = what {
+            differ += 1;
+            if differ <= SHOWN as u64 {
+                println!("differs: a page of {} records, output of {} bytes, text \"{}\": {}", page.fields.len(), page.room, readable(&page.text), what);
+            }
+        }
+    }
+    println!("{} pages of {} records, {} differ; {} were filled whole", count, records, differ, whole);
+    let reasons: Vec<String> = (1..9).filter(|&status| stopped[status] > 0).map(|status| format!("{} by status {}", stopped[status], status)).collect();
+    println!("the others were stopped, {}; each was compared with single calls of the model", reasons.join(", "));
+    differ
+}
+
 /// The run and its counts.
 struct Run {
     model: Model,
@@ -354,7 +436,8 @@ fn main() {
     eprintln!();
     println!("seed {}", seed);
     run.report();
-    if run.differing() > 0 {
+    let differ = pages(&run.model, &mut run.texts, option("--pages", 100_000));
+    if run.differing() + differ > 0 {
         std::process::exit(1);
     }
 }
