@@ -22,7 +22,7 @@ pub fn starts(pattern: &[u8], rest: &[u8]) -> bool
 }
 
 // Whether `b` is the byte `a`, or the upper case of the lower-case letter `a`, which is 32 less.
-fn is_either_case(a: u8, b: u8) -> bool
+pub fn is_either_case(a: u8, b: u8) -> bool
     ensures { λ r. ⌜ r ≡ oneOf (anyCase a) b ⌝ }
 {
     if b == a {

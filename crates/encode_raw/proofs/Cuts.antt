@@ -3,17 +3,20 @@
 -- Assumes nothing.
 use mathlib.Core.Bool.{Bool, true, false, _&&_, _||_, cond}
 use mathlib.Core.Path.{_≡_, refl, sym, ap, _∙_}
-use mathlib.Core.List.{List, [], _∷_, map}
-use Prim.Native.Nat.{ℕ, _+_, _-_, _≤_, _<_}
+use mathlib.Core.List.{List, [], _∷_, _++_, map}
+use Prim.Native.Nat.{ℕ, suc, _+_, _-_, _≤_, _<_}
 use native.Mathlib.Omega.{arith}
 use borrow.Author.Tests.{ne-eqb, eqb-true, eqb-false}
 use lib.Dec.{eqb}
 use lib.ListN.{length, take, drop, getD, length-append}
+use lib.Seq.{take-all, take-append-add}
 use Rattle.rules.specs.Bytes.{ascii, fits, stands, oneOf}
-use Rattle.rules.specs.Moves.{Move, keep, swap, result, before, from}
+use Rattle.rules.specs.Moves.{Move, keep, swap, result, before, from, through}
 use Rattle.rules.specs.Encoding.{parted, anyCase, closes, rawStep}
-use Rattle.rules.proofs.Loops.{from-next, from-end, drop-next}
-use Rattle.rules.proofs.Quiet.{Keeps, quiet-result}
+use Rattle.rules.proofs.Machine.{singly, result-singly}
+use Rattle.rules.proofs.Loops.{from-next, drop-next}
+use Rattle.rules.proofs.Quiet.{Keeps, quiet}
+use Rattle.rules.proofs.Stream.{raw-count}
 use Rattle.base.specs.First.{Free, First}
 use Rattle.base.proofs.Filled.{Next, lent-rest}
 use Rattle.base.proofs.Firsts.{free-step}
@@ -81,27 +84,74 @@ cut-less t k e = eqb-true (getD t k 0) 60 (left (eqb (getD t k 0) 60) e)
     left true z = refl
     left false z = z
 
-module _ (t : List ℕ) (i e : ℕ) (cut : First (cutAt t) (length t) i e) where
+-- The moves from place i on, up to the end that is asked for.
+abbrev pub left : List ℕ → ℕ → ℕ → List Move
+left t end i = take (end - i) (from rawStep t i)
+
+-- At the start they are the first `end` moves.
+pub start-left : (t : List ℕ) (end : ℕ) → left t end 0 ≡ take end (through rawStep t)
+start-left t end = let z : end - 0 ≡ end = omega arith in ap (λ (n : ℕ). take n (through rawStep t)) z
+
+-- At the end there is none.
+pub end-left : (t : List ℕ) (end i : ℕ) → end ≤ i → left t end i ≡ []
+end-left t end i h = let z : end - i ≡ 0 = omega arith in ap (λ (n : ℕ). take n (from rawStep t i)) z
+
+-- All moves are as many as the bytes.
+pub whole-moves : (t : List ℕ) (end : ℕ) → end ≡ length t → take end (through rawStep t) ≡ through rawStep t
+whole-moves t end e = let n = raw-count t in take-all end (through rawStep t) (omega (arith, n, e))
+
+singly-length : (a : List ℕ) → length (singly a) ≡ length a
+singly-length [] = refl
+singly-length (x ∷ a) = ap suc (singly-length a)
+
+module _ (t : List ℕ) (end i e : ℕ) (inside : end ≤ length t) (cut : First (cutAt t) end i e) where
+  abbrev stretch : List ℕ
+  stretch = take (e - i) (drop i t)
+
+  within : e ≤ length t
+  within = let w = cut .within in omega (arith, w, inside)
+
+  stretch-length : length stretch ≡ e - i
+  stretch-length = part-length t i e (cut .after) within
+
   -- What lies before the next cut.
-  pub next-quiet : Next (result (from rawStep t i)) (take (e - i) (drop i t)) (result (from rawStep t e))
-  next-quiet = record { next = quiet-result rawStep t i e (cut .after) (cut .within) (raw-keeps t i e (cut .within) (cut .none)) }
+  pub next-quiet : Next (result (left t end i)) stretch (result (left t end e))
+  next-quiet =
+      let a = cut .after in
+      let w = cut .within in
+      let l = singly-length stretch in
+      let m = stretch-length in
+      let n : end - i ≡ length (singly stretch) + (end - e) = omega (arith, a, w, l, m) in
+      record {
+        next =
+            ap (λ (ms : List Move). result (take (end - i) ms)) (quiet rawStep t i e a within (raw-keeps t i e within (cut .none)))
+            ∙ ap (λ (k : ℕ). result (take k (singly stretch ++ from rawStep t e))) n
+            ∙ ap result (take-append-add (singly stretch) (from rawStep t e) (end - e))
+            ∙ result-singly stretch (left t end e);
+      }
 
   -- What is written there, and what comes after.
-  pub next-less : e < length t → Next (result (from rawStep t e)) (ascii "<\\") (result (from rawStep t (e + 1)))
+  pub next-less : e < end → Next (result (left t end e)) (ascii "<\\") (result (left t end (e + 1)))
   next-less h =
-      let m : rawStep (before t e) (drop e t) ≡ swap (60 ∷ []) (ascii "<\\") = raw-move t e h ∙ rw (cut .here h, cut-less t e (cut .here h)) in
-      record { next = ap result (from-next rawStep t e 0 (swap (60 ∷ []) (ascii "<\\")) h m refl) }
+      let l : e < length t = omega (arith, h, inside) in
+      let m : rawStep (before t e) (drop e t) ≡ swap (60 ∷ []) (ascii "<\\") = raw-move t e l ∙ rw (cut .here h, cut-less t e (cut .here h)) in
+      let n : end - e ≡ suc (end - (e + 1)) = omega arith in
+      record {
+        next =
+            ap (λ (ms : List Move). result (take (end - e) ms)) (from-next rawStep t e 0 (swap (60 ∷ []) (ascii "<\\")) l m refl)
+            ∙ ap (λ (k : ℕ). result (take k (swap (60 ∷ []) (ascii "<\\") ∷ from rawStep t (e + 1)))) n;
+      }
 
   -- The same of lengths.
-  pub quiet-length : length (result (from rawStep t i)) ≡ (e - i) + length (result (from rawStep t e))
+  pub quiet-length : length (result (left t end i)) ≡ (e - i) + length (result (left t end e))
   quiet-length =
       ap length (next-quiet .next)
-      ∙ length-append (take (e - i) (drop i t)) (result (from rawStep t e))
-      ∙ ap (λ (n : ℕ). n + length (result (from rawStep t e))) (part-length t i e (cut .after) (cut .within))
+      ∙ length-append stretch (result (left t end e))
+      ∙ ap (λ (n : ℕ). n + length (result (left t end e))) stretch-length
 
-  pub less-length : e < length t → length (result (from rawStep t e)) ≡ 2 + length (result (from rawStep t (e + 1)))
-  less-length h = ap length (next-less h .next) ∙ length-append (ascii "<\\") (result (from rawStep t (e + 1)))
+  pub less-length : e < end → length (result (left t end e)) ≡ 2 + length (result (left t end (e + 1)))
+  less-length h = ap length (next-less h .next) ∙ length-append (ascii "<\\") (result (left t end (e + 1)))
 
 -- Nothing is left at the end.
-pub end-length : (t : List ℕ) (i : ℕ) → length t ≤ i → length (result (from rawStep t i)) ≡ 0
-end-length t i h = ap (λ (ms : List Move). length (result ms)) (from-end rawStep t i h)
+pub end-length : (t : List ℕ) (end i : ℕ) → end ≤ i → length (result (left t end i)) ≡ 0
+end-length t end i h = ap (λ (ms : List Move). length (result ms)) (end-left t end i h)

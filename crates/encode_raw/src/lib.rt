@@ -3,9 +3,10 @@
 ghost use mathlib.Core.Bool.{false};
 ghost use mathlib.Core.Path.{_≡_};
 ghost use Prim.Native.Nat.{_+_, _≤_};
-ghost use lib.ListN.{length};
+ghost use lib.ListN.{length, take};
 ghost use Rattle.rules.specs.Bytes.{over};
-ghost use Rattle.rules.specs.Encoding.{parted};
+ghost use Rattle.rules.specs.Encoding.{parted, rawStep};
+ghost use Rattle.rules.specs.Moves.{through, result};
 ghost use Rattle.rules.specs.Operations.{rawOf};
 ghost use Rattle.base.specs.First.{Free, First};
 ghost use Rattle.encode_raw.specs.Cuts.{suspect, cutAt};
@@ -44,14 +45,14 @@ fn has_suspect(text: &[u8], at: usize) -> bool
     hit
 }
 
-// Skips blocks from `from` on and returns the start of the first that has a `<!` or `</`, or of what is left after the last block. The byte after a
-// block is read as well.
-fn skip_blocks(text: &[u8], from: usize) -> usize
-    requires { ⌜ from ≤ length (now text) ⌝ }
-    ensures { λ r. ⌜ (from ≤ r) × (r ≤ length (now (text .entry))) × Free (cutAt (now (text .entry))) from r ⌝ }
+// Skips blocks from `from` on and returns the start of the first that has a `<!` or `</`, or of what is left before `end` after the last block. The
+// byte after a block is read as well.
+fn skip_blocks(text: &[u8], from: usize, end: usize) -> usize
+    requires { ⌜ (from ≤ end) × (end ≤ length (now text)) ⌝ }
+    ensures { λ r. ⌜ (from ≤ r) × (r ≤ end) × Free (cutAt (now (text .entry))) from r ⌝ }
 {
     let mut i = from;
-    while BLOCK < text.len() - i {
+    while BLOCK < end - i {
         if has_suspect(text, i) {
             return i;
         }
@@ -60,13 +61,13 @@ fn skip_blocks(text: &[u8], from: usize) -> usize
     i
 }
 
-// Returns the first offset at or after `from` of a `<` that a backslash goes in after, or the text's length.
-fn next_cut(text: &[u8], from: usize) -> usize
-    requires { ⌜ from ≤ length (now text) ⌝ }
-    ensures { λ r. ⌜ First (cutAt (now (text .entry))) (length (now (text .entry))) from r ⌝ }
+// Returns the first offset from `from` on and before `end` of a `<` that a backslash goes in after, or `end`. What follows `end` counts.
+fn next_cut(text: &[u8], from: usize, end: usize) -> usize
+    requires { ⌜ (from ≤ end) × (end ≤ length (now text)) ⌝ }
+    ensures { λ r. ⌜ First (cutAt (now (text .entry))) end from r ⌝ }
 {
-    let mut i = skip_blocks(text, from);
-    while i < text.len() {
+    let mut i = skip_blocks(text, from, end);
+    while i < end {
         if text[i] != b'<' {
             i += 1;
             continue;
@@ -74,22 +75,22 @@ fn next_cut(text: &[u8], from: usize) -> usize
         if is_parted(&text[i + 1..]) {
             return i;
         }
-        i = skip_blocks(text, i + 1);
+        i = skip_blocks(text, i + 1, end);
     }
     i
 }
 
-// Returns the length of the encoding of a text.
-pub fn measure(text: &[u8]) -> usize
-    requires { ⌜ length (now text) ≤ 65536 ⌝ }
-    ensures { λ r. ⌜ r ≡ length (rawOf (now (text .entry))) ⌝ }
+// Returns the length of what is written for the first `end` bytes of a text: what follows them counts.
+pub fn measure_to(text: &[u8], end: usize) -> usize
+    requires { ⌜ (length (now text) ≤ 65536) × (end ≤ length (now text)) ⌝ }
+    ensures { λ r. ⌜ r ≡ length (result (take end (through rawStep (now (text .entry))))) ⌝ }
 {
     let mut n: usize = 0;
     let mut i: usize = 0;
-    while i < text.len() {
-        let e = next_cut(text, i);
+    while i < end {
+        let e = next_cut(text, i, end);
         n += e - i;
-        if e == text.len() {
+        if e == end {
             return n;
         }
         n += 2;
@@ -98,21 +99,37 @@ pub fn measure(text: &[u8]) -> usize
     n
 }
 
-// Writes the encoding of a text to the start of `output` and returns its length; what lies past it keeps its values.
-pub fn write(text: &[u8], output: &mut [u8]) -> usize
-    requires { ⌜ length (rawOf (now text)) ≤ length (now output) ⌝ }
-    ensures { λ r. ⌜ (r ≡ length (rawOf (now (text .entry)))) × (now (output .exit) ≡ over (rawOf (now (text .entry))) (now (output .entry))) ⌝ }
+// Returns the length of the encoding of a text.
+pub fn measure(text: &[u8]) -> usize
+    requires { ⌜ length (now text) ≤ 65536 ⌝ }
+    ensures { λ r. ⌜ r ≡ length (rawOf (now (text .entry))) ⌝ }
+{
+    measure_to(text, text.len())
+}
+
+// Writes what is written for the first `end` bytes of a text to the start of `output` and returns its length; what lies past it keeps its values.
+pub fn write_to(text: &[u8], end: usize, output: &mut [u8]) -> usize
+    requires { ⌜ (end ≤ length (now text)) × (length (result (take end (through rawStep (now text)))) ≤ length (now output)) ⌝ }
+    ensures { λ r. ⌜ (r ≡ length (result (take end (through rawStep (now (text .entry)))))) × (now (output .exit) ≡ over (result (take end (through rawStep (now (text .entry))))) (now (output .entry))) ⌝ }
 {
     let mut at: usize = 0;
     let mut i: usize = 0;
-    while i < text.len() {
-        let e = next_cut(text, i);
+    while i < end {
+        let e = next_cut(text, i, end);
         at += base::put(&text[i..e], &mut output[at..]);
-        if e == text.len() {
+        if e == end {
             return at;
         }
         at += base::put(b"<\\", &mut output[at..]);
         i = e + 1;
     }
     at
+}
+
+// Writes the encoding of a text to the start of `output` and returns its length; what lies past it keeps its values.
+pub fn write(text: &[u8], output: &mut [u8]) -> usize
+    requires { ⌜ length (rawOf (now text)) ≤ length (now output) ⌝ }
+    ensures { λ r. ⌜ (r ≡ length (rawOf (now (text .entry)))) × (now (output .exit) ≡ over (rawOf (now (text .entry))) (now (output .entry))) ⌝ }
+{
+    write_to(text, text.len(), output)
 }

@@ -28,8 +28,8 @@
 //     in scripts, styles, URLs, comments, or names of tags and attributes. No context is for those.
 //   - the script and style string contexts are for text between quotes, inside a script or style element. In an event handler or style attribute the
 //     result has to be escaped once more, for the attribute.
-//   - `script_raw` is for the whole text of a script element, in one call: parts that are escaped one by one can still close the element. It is no JSON
-//     encoder: it keeps the text from closing the element, and does not make a string or a value of it.
+//   - `script_raw` is for the whole text of a script element, in one call or by the calls for parts below: parts that are escaped one by one by
+//     `encode` can still close the element. It is no JSON encoder: it keeps the text from closing the element, and does not make a string or a value of it.
 //
 // The contracts cite the definitions of crates/rules/specs: `Allowed` (Refusals.antt) fixes the seven numbers and every byte of the output,
 // by the rule of the operation in the context (Operations.antt); `checkOf` (Refusals.antt) fixes what `check` answers.
@@ -59,6 +59,14 @@ pub use page::fill_page;
 // tag that follows it. Hand over the text with `</script>` after it: it is right exactly if `place` is the length of the text alone.
 pub use scripts::closing_tag;
 
+// A raw script that is longer than a buffer: `script_raw_start()`, then `script_raw_part(state, text, output)` for each part, then
+// `script_raw_finish(state, output)`. Each gives an answer and the next state (`RawPart`). The outputs of the passed calls, joined, are one encode in
+// `script_raw` of the passed parts joined, wherever they are cut; their contract is `PartAllowed` (crates/rules/specs/Stream.antt). A part call holds back at
+// most eight bytes, so a part can need ten bytes more than it has. A refused call gives the state back as it was.
+pub use stream::script_raw_finish;
+pub use stream::script_raw_part;
+pub use stream::script_raw_start;
+
 // The operations, the answer records, the contexts and the statuses.
 pub use rules::Answer;
 pub use rules::BAD_CONTEXT;
@@ -68,6 +76,7 @@ pub use rules::Checked;
 pub use rules::Closing;
 pub use rules::DOUBLE_QUOTED;
 pub use rules::FIELD_LIMIT;
+pub use rules::FINISHED;
 pub use rules::Field;
 pub use rules::Filled;
 pub use rules::NO_ROOM;
@@ -76,6 +85,8 @@ pub use rules::NOT_UTF8;
 pub use rules::Operation;
 pub use rules::PASSED;
 pub use rules::QUOTED;
+pub use rules::RawPart;
+pub use rules::RawState;
 pub use rules::SAFE;
 pub use rules::SCRIPT_DOUBLE;
 pub use rules::SCRIPT_QUOTED;

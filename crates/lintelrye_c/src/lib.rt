@@ -2,11 +2,13 @@
 // include/lintelrye.h documents each function for a C caller. A text or an output is a pointer and a length. The names end in how many numbers an
 // answer has, so that a program which expects another record does not link.
 ghost use mathlib.Core.Bool.{true, false};
+ghost use mathlib.Core.List.{[]};
 ghost use mathlib.Core.Path.{_≡_};
 ghost use Rattle.rules.specs.Contexts.{contextOf};
 ghost use Rattle.rules.specs.Refusals.{Allowed, checkOf};
 ghost use Rattle.rules.specs.Closings.{closingOf};
 ghost use Rattle.rules.specs.Pages.{PageAllowed};
+ghost use Rattle.lent.specs.Lent.{PartLent};
 ghost use Rattle.rules.specs.declared.Operation.the-variants.{Encode, Decode, Read, Browse};
 use lintelrye::Answer;
 use lintelrye::Checked;
@@ -116,4 +118,30 @@ pub extern "C" fn lintelrye_closing_tag(text: &[u8]) -> Closing
     ensures { λ r. ⌜ r ≡ closingOf (now (text .entry)) ⌝ }
 {
     lintelrye::closing_tag(text)
+}
+
+// Encodes a part of a raw script: `lent::script_raw_part`. The state is lent as two arrays: the held bytes; and how many of them are held, how many bytes
+// were taken before them, and whether a finish has passed (not 0).
+#[no_mangle]
+pub extern "C" fn lintelrye_script_raw_part_7(
+    held: &mut [u8; 8],
+    numbers: &mut [usize; 3],
+    text: &[u8],
+    output: &mut [u8],
+) -> Answer
+    ensures { λ r. ⌜ PartLent false (now (held .entry)) (now (numbers .entry)) (now (text .entry)) (now (output .entry)) r (now (held .exit)) (now (numbers .exit)) (now (output .exit)) ⌝ }
+{
+    lent::script_raw_part(held, numbers, text, output)
+}
+
+// Ends a raw script: `lent::script_raw_finish`. The state is lent in the same way.
+#[no_mangle]
+pub extern "C" fn lintelrye_script_raw_finish_7(
+    held: &mut [u8; 8],
+    numbers: &mut [usize; 3],
+    output: &mut [u8],
+) -> Answer
+    ensures { λ r. ⌜ PartLent true (now (held .entry)) (now (numbers .entry)) [] (now (output .entry)) r (now (held .exit)) (now (numbers .exit)) (now (output .exit)) ⌝ }
+{
+    lent::script_raw_finish(held, numbers, output)
 }

@@ -12,9 +12,9 @@ use native.Mathlib.Omega.{arith}
 use lib.Dec.{T}
 use lib.ListN.{length, take, drop, take-append-drop, length-append, length-drop}
 use lib.Seq.{drop-at}
-use Rattle.rules.specs.Bytes.{all, fits, Range, inside}
+use Rattle.rules.specs.Bytes.{all, fits, opens, Range, inside}
 use Rattle.rules.specs.Moves.{Move, takes, moves, taken, place, andThen}
-use Rattle.rules.specs.Utf8.{sequences, IsText, IsStart, IsCut, sequenceAt, keepChar, charStep, validTo, opens, isCut}
+use Rattle.rules.specs.Utf8.{sequences, IsText, IsStart, IsCut, sequenceAt, keepChar, charStep, validTo, isCut}
 use Rattle.rules.proofs.Tests.{and-left, and-right, and-both, all-in, any-in, any-intro, first-none, fits-take, fits-length}
 use Rattle.rules.proofs.Machine.{retrace}
 use Rattle.rules.proofs.Codes.{follows}
@@ -56,12 +56,12 @@ valid-there t a text h =
 
 -- ---- a start begins a sequence
 
-opens-start : (q : List Range) (a r : List ℕ) → T (fits inside q (a ++ r)) → length (a ++ r) ≡ length q → 0 < length r → T (opens q a)
+opens-start : (q : List Range) (a r : List ℕ) → T (fits inside q (a ++ r)) → length (a ++ r) ≡ length q → 0 < length r → T (opens inside q a)
 opens-start [] [] r t e h = absurd (omega arith)
 opens-start [] (x ∷ a) r t e h = absurd (suc-ne-zero (length (a ++ r)) e)
 opens-start (p ∷ q) [] r t e h = tt
 opens-start (p ∷ q) (x ∷ a) r t e h =
-    and-both (inside p x) (opens q a) (and-left (inside p x) (fits inside q (a ++ r)) t)
+    and-both (inside p x) (opens inside q a) (and-left (inside p x) (fits inside q (a ++ r)) t)
     (opens-start q a r (and-right (inside p x) (fits inside q (a ++ r)) t) (suc-inj e) h)
 
 start-cut : (a : List ℕ) → IsStart a → T (isCut a)
@@ -69,7 +69,7 @@ unfolding isCut
 start-cut a h =
     let (r, c, pa, pr) = h in
     let (q, i, f, e) = c in
-    any-intro (λ (q : List Range). opens q a) sequences q i (opens-start q a r f e pr)
+    any-intro (λ (q : List Range). opens inside q a) sequences q i (opens-start q a r f e pr)
 
 -- ---- what begins a sequence can be completed
 
@@ -89,18 +89,18 @@ least-fits (p ∷ q) s =
     let (f, e) = least-fits q (and-right (inside p (p .0)) (ordered q) s) in
     (and-both (inside p (p .0)) (fits inside q (least q)) (and-left (inside p (p .0)) (ordered q) s) f, ap suc e)
 
-completed : (q : List Range) (a : List ℕ) → T (ordered q) → T (opens q a)
+completed : (q : List Range) (a : List ℕ) → T (ordered q) → T (opens inside q a)
     → (r : List ℕ) × T (fits inside q (a ++ r)) × (length (a ++ r) ≡ length q) × (0 < length r)
 completed [] a s t = absurd t
 completed (p ∷ q) [] s t = let (f, e) = least-fits (p ∷ q) s in (least (p ∷ q), f, e, omega arith)
 completed (p ∷ q) (x ∷ a) s t =
-    let (r, f, e, h) = completed q a (and-right (inside p (p .0)) (ordered q) s) (and-right (inside p x) (opens q a) t) in
-    (r, and-both (inside p x) (fits inside q (a ++ r)) (and-left (inside p x) (opens q a) t) f, ap suc e, h)
+    let (r, f, e, h) = completed q a (and-right (inside p (p .0)) (ordered q) s) (and-right (inside p x) (opens inside q a) t) in
+    (r, and-both (inside p x) (fits inside q (a ++ r)) (and-left (inside p x) (opens inside q a) t) f, ap suc e, h)
 
 cut-start : (a : List ℕ) → 0 < length a → T (isCut a) → IsStart a
 unfolding isCut
 cut-start a h t =
-    let (q, i, o) = any-in (λ (q : List Range). opens q a) sequences t in
+    let (q, i, o) = any-in (λ (q : List Range). opens inside q a) sequences t in
     let (r, f, e, l) = completed q a (all-in ordered sequences all-ordered q i) o in
     (r, (q, i, f, e), h, l)
 

@@ -34,5 +34,10 @@ pub mod RawAgain
 pub mod RawCloses
 pub mod ScriptEdges
 pub mod Closings
+pub mod Stream
+pub mod Released
+pub mod Quarter
+pub mod Parts
+pub mod StreamEdges
 pub mod Pages
 pub mod PageEdges

@@ -31,7 +31,8 @@ replaced-singly [] ms = refl
 replaced-singly (x ∷ a) ms = replaced-singly a ms
 
 module _ (rule : Rule) (t : List ℕ) (i r : ℕ) (h : i ≤ r) (l : r ≤ length t) (q : Keeps rule t i r) where
-  quiet : from rule t i ≡ singly (take (r - i) (drop i t)) ++ from rule t r
+  -- The moves through the stretch, and those behind it.
+  pub quiet : from rule t i ≡ singly (take (r - i) (drop i t)) ++ from rule t r
   quiet =
       let s : i + (r - i) ≡ r = omega arith in
       rw s at (singles rule t (r - i) i (omega arith) (rw s q))

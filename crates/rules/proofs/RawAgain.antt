@@ -28,7 +28,7 @@ marked-less b s m = eqb-true b 60 (go (is "<" b) m)
     go true z = refl
     go false z = z
 
-abbrev rawMove : Bool → ℕ → Move
+abbrev pub rawMove : Bool → ℕ → Move
 rawMove x b = cond x (swap (b ∷ []) (b ∷ ascii "\\")) (keep (b ∷ []))
 
 raw-moves : (p b : ℕ) (s : List ℕ) → moves rawStep p 0 (b ∷ s) ≡ rawMove (marked b s) b ∷ moves rawStep b 0 s
@@ -39,7 +39,7 @@ raw-moves p b s = go (marked b s)
     go true = refl
     go false = refl
 
-raw-through : (b : ℕ) (s : List ℕ) → through rawStep (b ∷ s) ≡ rawMove (marked b s) b ∷ through rawStep s
+pub raw-through : (b : ℕ) (s : List ℕ) → through rawStep (b ∷ s) ≡ rawMove (marked b s) b ∷ through rawStep s
 raw-through b s = raw-moves 0 b s ∙ ap (λ (ms : List Move). rawMove (marked b s) b ∷ ms) (go s)
   where
     go : (s : List ℕ) → moves rawStep b 0 s ≡ through rawStep s
@@ -47,11 +47,11 @@ raw-through b s = raw-moves 0 b s ∙ ap (λ (ms : List Move). rawMove (marked b
     go (c ∷ s) = raw-moves b c s ∙ sym (raw-moves 0 c s)
 
 -- What is written for a byte.
-abbrev piece : Bool → ℕ → List ℕ
+abbrev pub piece : Bool → ℕ → List ℕ
 piece true b = b ∷ ascii "\\"
 piece false b = b ∷ []
 
-raw-cons : (b : ℕ) (s : List ℕ) → rawOf (b ∷ s) ≡ piece (marked b s) b ++ rawOf s
+pub raw-cons : (b : ℕ) (s : List ℕ) → rawOf (b ∷ s) ≡ piece (marked b s) b ++ rawOf s
 raw-cons b s = ap result (raw-through b s) ∙ go (marked b s)
   where
     go : (x : Bool) → gives (rawMove x b) ++ rawOf s ≡ piece x b ++ rawOf s

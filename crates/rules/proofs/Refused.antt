@@ -34,11 +34,11 @@ use Rattle.rules.proofs.Laws.{form-iff, form-within}
 true-false : true ≡ false → ⊥
 true-false e = subst (λ (b : Bool). cond b (Unit {0}) ⊥) e tt
 
-off : {P : Type 0} (b : Bool) → (b ≡ true) ↔ P → (P → ⊥) → b ≡ false
+pub off : {P : Type 0} (b : Bool) → (b ≡ true) ↔ P → (P → ⊥) → b ≡ false
 off true i n = absurd (n (i .0 refl))
 off false i n = refl
 
-refuted : {P : Type 0} → (false ≡ true) ↔ P → P → ⊥
+pub refuted : {P : Type 0} → (false ≡ true) ↔ P → P → ⊥
 refuted i p = true-false (sym (i .1 p))
 
 -- A test b, and a further one x that parts what b finds.
@@ -95,7 +95,7 @@ module _ (says : Case → Type 0) (known : says bad-context → ⊥) (sure : say
 
 -- ---- each test holds exactly if the words of its row do
 
-below-iff : (a b : ℕ) → (ltb a b ≡ true) ↔ (a < b)
+pub below-iff : (a b : ℕ) → (ltb a b ≡ true) ↔ (a < b)
 below-iff a b = (ltb-true a b, lt-ltb a b)
 
 is-true : (b : Bool) → T b → b ≡ true
@@ -126,13 +126,13 @@ utf8-iff : (t : List ℕ) → (ltb (validTo t) (size t) ≡ true) ↔ (IsText t 
 utf8-iff t = less-iff (validTo t) (size t) (valid-within t) (valid-iff t)
 
 -- The two rows of a text that is not valid.
-cut-says : (t : List ℕ) → (ltb (validTo t) (size t) && isCut (drop (validTo t) t) ≡ true) ↔ IsCut t
+pub cut-says : (t : List ℕ) → (ltb (validTo t) (size t) && isCut (drop (validTo t) t) ≡ true) ↔ IsCut t
 cut-says t = (
   λ e. let (f, g) = both (ltb (validTo t) (size t)) (isCut (drop (validTo t) t)) e in cut-iff t .1 (ltb-true (validTo t) (size t) f, subst T (sym g) tt),
   λ c. let (l, u) = cut-iff t .0 c in λ i. lt-ltb (validTo t) (size t) l i && is-true (isCut (drop (validTo t) t)) u i,
 )
 
-broken-says : (t : List ℕ) → (ltb (validTo t) (size t) && not (isCut (drop (validTo t) t)) ≡ true) ↔ ((IsText t → ⊥) × (IsCut t → ⊥))
+pub broken-says : (t : List ℕ) → (ltb (validTo t) (size t) && not (isCut (drop (validTo t) t)) ≡ true) ↔ ((IsText t → ⊥) × (IsCut t → ⊥))
 broken-says t = others (ltb (validTo t) (size t)) (isCut (drop (validTo t) t)) (utf8-iff t) (cut-says t)
 
 whole-iff : (ms : List Move) (t : List ℕ) → taken ms ≡ t → (ltb (place ms) (size t) ≡ true) ↔ ⊥

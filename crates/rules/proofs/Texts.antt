@@ -231,7 +231,7 @@ browse-regroups : (p : ℕ) (s : List ℕ) → Fair Regroups (browseStep p s) s
 unfolding browseStep
 browse-regroups = reference-fair Regroups (λ x. tt) left-regroups browseChar (reference-regroups browseChar browse-char)
 
-raw-regroups : (p : ℕ) (s : List ℕ) → Fair Regroups (rawStep p s) s
+pub raw-regroups : (p : ℕ) (s : List ℕ) → Fair Regroups (rawStep p s) s
 unfolding rawStep
 raw-regroups p [] = tt
 raw-regroups p (b ∷ s) = go (eqb b 60 && parted s) refl

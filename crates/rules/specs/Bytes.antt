@@ -74,6 +74,12 @@ fits m [] s = true
 fits m (p ∷ ps) [] = false
 fits m (p ∷ ps) (x ∷ xs) = m p x && fits m ps xs
 
+-- The bytes s fit the first items of a pattern, and at least one item is left.
+abbrev pub opens : {B : Type 0} → (B → ℕ → Bool) → List B → List ℕ → Bool
+opens m [] s = false
+opens m (p ∷ ps) [] = true
+opens m (p ∷ ps) (x ∷ xs) = m p x && opens m ps xs
+
 -- The bytes v stand at the head of s.
 abbrev pub stands : List ℕ → List ℕ → Bool
 stands v s = fits eqb v s

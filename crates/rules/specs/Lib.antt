@@ -20,5 +20,7 @@ pub mod Edges
 pub mod ScriptData
 pub mod ScriptEdges
 pub mod Closings
+pub mod Stream
+pub mod StreamEdges
 pub mod Pages
 pub mod PageEdges

@@ -28,6 +28,10 @@ refusal s l p = record { status = s; length = l; same = 0; replaced = 0; place =
 abbrev pub success : ℕ → ℕ → ℕ × ℕ → Answer
 success l r first = record { status = 0; length = l; same = cond (eqb r 0) 1 0; replaced = r; place = 0; left = first .0; reason = first .1 }
 
+-- The answer of a passed call of a raw script by parts, by how many bytes it writes and how many backslashes are among them: same is always 0.
+abbrev pub partSuccess : ℕ → ℕ → Answer
+partSuccess l r = record { status = 0; length = l; same = 0; replaced = r; place = 0; left = 0; reason = 0 }
+
 -- A call: its operation and the context that it names, whether it borrows, the most bytes that it takes, the text, and the output's length.
 pub record Call : Type 0 where
   pub operation : Operation

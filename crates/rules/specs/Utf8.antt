@@ -7,7 +7,7 @@ use mathlib.Core.List.{List, [], _∷_, _++_}
 use Prim.Native.Nat.{ℕ, _+_, _/_, _%_, _<_}
 use lib.Dec.{T, ltb}
 use lib.ListN.{length, take}
-use Rattle.rules.specs.Bytes.{join, In, All, any, first, fits, Range, inside}
+use Rattle.rules.specs.Bytes.{join, In, All, any, first, fits, opens, Range, inside}
 use Rattle.rules.specs.Moves.{Move, keep, stop, Rule, place, through}
 
 -- RFC 3629, section 4: UTF8-1, UTF8-2, and the lines of UTF8-3 and UTF8-4.
@@ -61,15 +61,9 @@ charStep prev s = keepChar (sequenceAt s) s
 abbrev pub validTo : List ℕ → ℕ
 validTo s = place (through charStep s)
 
--- The bytes s are in the first ranges of a sequence, and at least one range is left.
-abbrev pub opens : List Range → List ℕ → Bool
-opens [] s = false
-opens (p ∷ q) [] = true
-opens (p ∷ q) (x ∷ s) = inside p x && opens q s
-
--- The same with some sequence: the test of the bytes, at least one, that follow the longest valid prefix of a text.
+-- The bytes s open some sequence: the test of the bytes, at least one, that follow the longest valid prefix of a text.
 unfoldable pub isCut : List ℕ → Bool
-isCut s = any (λ (q : List Range). opens q s) sequences
+isCut s = any (λ (q : List Range). opens inside q s) sequences
 
 -- A number up to 10FFFF as the bytes of its character: RFC 3629, section 3.
 abbrev pub utf8 : ℕ → List ℕ

@@ -53,6 +53,8 @@ pub const CUT_SHORT: usize = 7;
 
 pub const BAD_RANGE: usize = 8;
 
+pub const FINISHED: usize = 9;
+
 // The most records that a page takes.
 pub const FIELD_LIMIT: usize = 256;
 
@@ -147,6 +149,21 @@ pub struct Measured {
     pub replaced: usize,
     pub left: usize,
     pub reason: usize,
+}
+
+// How far a raw script by parts has come: the first `count` bytes of `held` are held back (all eight where `count` is more), `done` bytes of the text
+// came before them, and `finished` says that a finish has passed. Every value has a meaning.
+pub struct RawState {
+    pub held: [u8; 8],
+    pub count: usize,
+    pub done: usize,
+    pub finished: bool,
+}
+
+// What a call of a raw script by parts gives: its answer, and the state after it.
+pub struct RawPart {
+    pub answer: Answer,
+    pub state: RawState,
 }
 
 // What a reference stands for: a text of the table of names, its bytes packed into one number, or a character by its number.

@@ -2,19 +2,16 @@
 // the text is escaped, dash) to the next, and looks at what stands there.
 ghost use mathlib.Core.Bool.{false, _&&_, cond};
 ghost use mathlib.Core.Path.{_≡_};
-ghost use Prim.Native.Nat.{_+_, _≤_, _<_};
+ghost use Prim.Native.Nat.{_+_, _≤_};
 ghost use lib.ListN.{length};
 ghost use Rattle.rules.specs.Bytes.{is};
-ghost use Rattle.rules.specs.Utf8.{isCut};
 ghost use Rattle.rules.specs.ScriptData.{lower, endsName, spells, ends, dashed, turn, closingTag};
 ghost use Rattle.rules.specs.Closings.{closingAt, closingOf};
 ghost use Rattle.rules.specs.declared.ScriptMode.the-variants.{Plain};
 ghost use Rattle.base.specs.First.{Free};
 ghost use Rattle.scripts.specs.Marks.{letterOf, dashOf, mark, markAt, Passed, foundAt};
-use rules::CUT_SHORT;
 use rules::Closing;
 use rules::ClosingTag;
-use rules::NOT_UTF8;
 use rules::PASSED;
 use rules::ScriptMode;
 use rules::TEXT_LIMIT;
@@ -248,17 +245,6 @@ fn answer(found: ClosingTag) -> Closing
     }
 }
 
-// Returns the status of a text that is not valid UTF-8, by the bytes that follow its longest valid prefix.
-fn broken(rest: &[u8]) -> usize
-    requires { ⌜ 0 < length (now rest) ⌝ }
-    ensures { λ r. ⌜ r ≡ cond (isCut (now (rest .entry))) 7 2 ⌝ }
-{
-    if utf8::is_cut(rest) {
-        return CUT_SHORT;
-    }
-    NOT_UTF8
-}
-
 // Returns where the text of a script element ends: the offset of the `<` of the first end tag that leaves the HTML Standard's script data states.
 pub fn closing_tag(text: &[u8]) -> Closing
     ensures { λ r. ⌜ r ≡ closingOf (now (text .entry)) ⌝ }
@@ -273,7 +259,7 @@ pub fn closing_tag(text: &[u8]) -> Closing
     let valid = utf8::valid_to(text);
     if valid < text.len() {
         return Closing {
-            status: broken(&text[valid..]),
+            status: utf8::status(&text[valid..]),
             found: 0,
             place: valid,
         };

@@ -13,9 +13,9 @@ use lib.Count.{leadingZeros}
 use lib.Dec.{T, eqb, leb, ltb, eqb→eq, leb→le}
 use lib.ListN.{length, take, drop, getD, replicate, length-drop, length-replicate}
 use lib.Seq.{drop-cons, take-all, take-length}
-use Rattle.rules.specs.Bytes.{all, any, first, fits, Range, inside}
+use Rattle.rules.specs.Bytes.{all, any, first, fits, opens, Range, inside}
 use Rattle.rules.specs.Moves.{takes}
-use Rattle.rules.specs.Utf8.{sequences, sequenceAt, keepChar, charStep, opens, isCut, IsChar}
+use Rattle.rules.specs.Utf8.{sequences, sequenceAt, keepChar, charStep, isCut, IsChar}
 use Rattle.rules.proofs.Tests.{and-left, and-right, first-sound, fits-take, fits-length}
 use Rattle.rules.proofs.EveryByte.{every-byte}
 use Rattle.utf8.specs.Check.{isStart, onward, tailsOf}
@@ -79,23 +79,23 @@ fits-short (p ∷ q) [] h = refl
 fits-short (p ∷ q) (x ∷ w) h = rw (fits-short q w (le-of-suc-le-suc h)) (and-false (inside p x))
 
 -- What begins a sequence begins, after the first byte, what may follow that byte.
-opens-first : (d : ℕ) (w : List ℕ) (qs : List (List Range)) → any (λ (q : List Range). opens q (d ∷ w)) qs ≡ any (λ (q : List Range). opens q w) (follow d qs)
+opens-first : (d : ℕ) (w : List ℕ) (qs : List (List Range)) → any (λ (q : List Range). opens inside q (d ∷ w)) qs ≡ any (λ (q : List Range). opens inside q w) (follow d qs)
 opens-first d w [] = refl
 opens-first d w ([] ∷ qs) = opens-first d w qs
 opens-first d w ((p ∷ q) ∷ qs) = go (inside p d) refl (opens-first d w qs)
   where
-    go : (b : Bool) → inside p d ≡ b → any (λ (q : List Range). opens q (d ∷ w)) qs ≡ any (λ (q : List Range). opens q w) (follow d qs)
-        → any (λ (q : List Range). opens q (d ∷ w)) ((p ∷ q) ∷ qs) ≡ any (λ (q : List Range). opens q w) (follow d ((p ∷ q) ∷ qs))
-    go true e ih = rw e (ap (λ (b : Bool). opens q w || b) ih)
+    go : (b : Bool) → inside p d ≡ b → any (λ (q : List Range). opens inside q (d ∷ w)) qs ≡ any (λ (q : List Range). opens inside q w) (follow d qs)
+        → any (λ (q : List Range). opens inside q (d ∷ w)) ((p ∷ q) ∷ qs) ≡ any (λ (q : List Range). opens inside q w) (follow d ((p ∷ q) ∷ qs))
+    go true e ih = rw e (ap (λ (b : Bool). opens inside q w || b) ih)
     go false e ih = rw e ih
 
 -- It begins them only where a range is left, and then it fills the ranges before.
-opens-long : (q : List Range) (w : List ℕ) → length q ≤ length w → opens q w ≡ false
+opens-long : (q : List Range) (w : List ℕ) → length q ≤ length w → opens inside q w ≡ false
 opens-long [] w h = refl
 opens-long (p ∷ q) [] h = absurd (not-suc-le-zero h)
 opens-long (p ∷ q) (x ∷ w) h = rw (opens-long q w (le-of-suc-le-suc h)) (and-false (inside p x))
 
-opens-short : (q : List Range) (w : List ℕ) → length w < length q → opens q w ≡ fits inside (take (length w) q) w
+opens-short : (q : List Range) (w : List ℕ) → length w < length q → opens inside q w ≡ fits inside (take (length w) q) w
 opens-short [] w h = absurd (not-suc-le-zero h)
 opens-short (p ∷ q) [] h = refl
 opens-short (p ∷ q) (x ∷ w) h = ap (λ (b : Bool). inside p x && b) (opens-short q w (le-of-suc-le-suc h))
@@ -204,7 +204,7 @@ module _ (s : List ℕ) (h : 0 < length s) (byte : getD s 0 0 < 256) where
   size-short e l = size-fits e false (fits-short (tailsOf (getD s 0 0)) (drop 1 s) (rw length-drop (omega arith)))
 
   -- Whether the bytes are the start of a character.
-  cut-at : isCut s ≡ any (λ (q : List Range). opens q (drop 1 s)) (tested (getD s 0 0))
+  cut-at : isCut s ≡ any (λ (q : List Range). opens inside q (drop 1 s)) (tested (getD s 0 0))
   unfolding isCut
   cut-at =
       let e : s ≡ getD s 0 0 ∷ drop 1 s = drop-cons s 0 0 h in
@@ -217,8 +217,8 @@ module _ (s : List ℕ) (h : 0 < length s) (byte : getD s 0 0 < 256) where
   pub cut-no-start : isStart (getD s 0 0) ≡ false → isCut s ≡ false
   cut-no-start e = cut-at ∙ rw e
 
-  cut-start : isStart (getD s 0 0) ≡ true → isCut s ≡ opens (tailsOf (getD s 0 0)) (drop 1 s)
-  cut-start e = cut-at ∙ rw e (or-false (opens (tailsOf (getD s 0 0)) (drop 1 s)))
+  cut-start : isStart (getD s 0 0) ≡ true → isCut s ≡ opens inside (tailsOf (getD s 0 0)) (drop 1 s)
+  cut-start e = cut-at ∙ rw e (or-false (opens inside (tailsOf (getD s 0 0)) (drop 1 s)))
 
   pub cut-long : isStart (getD s 0 0) ≡ true → suc (length (tailsOf (getD s 0 0))) ≤ length s → isCut s ≡ false
   cut-long e l = cut-start e ∙ opens-long (tailsOf (getD s 0 0)) (drop 1 s) (rw length-drop (omega arith))

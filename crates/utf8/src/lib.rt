@@ -1,6 +1,7 @@
 // The UTF-8 check of RFC 3629. A text is read in blocks: a block that is all ASCII, or in which each byte may follow the three before it (the usual
 // range check over a window of four bytes), is passed as a whole; the rest is read character by character. The loops over blocks have no early exit
 // and no branch on a byte, so that they become vector code.
+ghost use mathlib.Core.Bool.{cond};
 ghost use mathlib.Core.Path.{_≡_};
 ghost use Prim.Native.Nat.{ℕ, suc, _+_, _-_, _≤_, _<_};
 ghost use lib.ListN.{length, take, drop, getD};
@@ -258,4 +259,15 @@ pub fn is_cut(rest: &[u8]) -> bool
         return true;
     }
     has_tails(rest, rest.len())
+}
+
+// Returns the status of a text that is not valid UTF-8, by `rest`, the bytes after its longest valid prefix: CUT_SHORT or NOT_UTF8.
+pub fn status(rest: &[u8]) -> usize
+    requires { ⌜ 0 < length (now rest) ⌝ }
+    ensures { λ r. ⌜ r ≡ cond (isCut (now (rest .entry))) 7 2 ⌝ }
+{
+    if is_cut(rest) {
+        return rules::CUT_SHORT;
+    }
+    rules::NOT_UTF8
 }

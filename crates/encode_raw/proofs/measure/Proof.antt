@@ -1,75 +1,21 @@
--- `encode_raw::measure` meets its contract: what is counted so far, with the length of what the rest gives, is the length of the whole. The measure is what is left of the text.
+-- `encode_raw::measure` meets its contract: there are as many moves as bytes, so that the moves of all bytes are all moves.
 -- Assumes nothing.
-use mathlib.Core.Path.{_≡_}
-use Prim.Native.Nat.{_+_, _-_, _*_, _≤_}
-use native.Mathlib.Omega.{arith}
+use mathlib.Core.Path.{refl, ap, _∙_}
+use mathlib.Core.List.{List}
 use borrow.Author.Needs.{needs}
 use lib.ListN.{length}
-use Rattle.rules.specs.Operations.{rawOf}
-use Rattle.rules.specs.Encoding.{rawStep}
-use Rattle.rules.specs.Moves.{result, from}
-use Rattle.encode_raw.proofs.Cuts.{quiet-length, less-length, end-length}
+use Rattle.rules.specs.Moves.{Move, result}
+use Rattle.encode_raw.proofs.Cuts.{whole-moves}
 use Rattle.encode_raw.proofs.measure.Statement.{statement}
 use Rattle.encode_raw.proofs.measure.Tie as tie
 
-abbrev Inv-loop : tie.InvT-loop
-Inv-loop text n₀ i₀ n i = (i ≤ length text) × (n ≤ 2 * i) × (n + length (result (from rawStep text i)) ≡ length (rawOf text))
+measure-to-requires : tie.Need-measure-to-requires
+measure-to-requires c κs = search needs
 
-abbrev μ-loop : tie.MeasureT-loop
-μ-loop text n₀ i₀ n i = length text - i
-
-loop-holds : tie.Need-loop-holds Inv-loop μ-loop
-loop-holds c = (search needs, search needs, search needs)
-
-next-cut-requires : tie.Need-next-cut-requires Inv-loop μ-loop
-next-cut-requires c κs = search needs
-
-sub-n : tie.Need-sub-n Inv-loop μ-loop
-sub-n c = search needs
-
-add-n : tie.Need-add-n Inv-loop μ-loop
-add-n c = let l = c .before .before .loop in omega (arith, l .inv .1, c .next-cut .ensures .after)
-
-returns : tie.Need-returns Inv-loop μ-loop
+returns : tie.Need-returns
 returns c =
-    let t = c .before .before .before .before .before .args .text .now in
-    let l = c .before .before .before .loop in
-    let e = c .before .next-cut in
-    omega (arith, l .inv .2, quiet-length t (l .i) (e .result) (e .ensures), end-length t (e .result) (search needs))
-
-add-n-2 : tie.Need-add-n-2 Inv-loop μ-loop
-add-n-2 c = let l = c .before .before .before .loop in omega (arith, l .inv .1, c .before .next-cut .ensures .after)
-
-add-i : tie.Need-add-i Inv-loop μ-loop
-add-i c = search needs
-
-loop-less : tie.Need-loop-less Inv-loop μ-loop
-loop-less c = search needs
-
-loop-again : tie.Need-loop-again Inv-loop μ-loop
-loop-again c =
-    let t = c .before .before .before .before .before .args .text .now in
-    let l = c .before .before .before .loop in
-    let e = c .before .next-cut in
-    let more = less-length t (l .i) (e .result) (e .ensures) (search needs) in
-    (search needs, omega (arith, l .inv .1, e .ensures .after), omega (arith, l .inv .2, quiet-length t (l .i) (e .result) (e .ensures), more))
-
-returns-2 : tie.Need-returns-2 Inv-loop μ-loop
-returns-2 c = let t = c .before .before .before .args .text .now in omega (arith, c .before .loop .inv .2, end-length t (c .before .loop .i) (c .loop-test .left))
+    let t = c .before .before .args .text .now in
+    c .measure-to .ensures ∙ ap (λ (ms : List Move). length (result ms)) (whole-moves t (length t) refl)
 
 pub measure-spec : {M : Type 1} → statement M
-measure-spec =
-    tie.close
-    (tie.spec
-    Inv-loop
-    μ-loop
-    loop-holds
-    next-cut-requires
-    sub-n
-    add-n
-    returns
-    add-n-2
-    add-i
-    loop-less
-    loop-again
-    returns-2)
+measure-spec = tie.close (tie.spec measure-to-requires returns)

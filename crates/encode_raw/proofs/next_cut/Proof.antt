@@ -1,11 +1,10 @@
--- `encode_raw::next_cut` meets its contract. The invariant: no backslash goes in after a byte that is passed. The measure is what is left of the text.
+-- `encode_raw::next_cut` meets its contract. The invariant: no backslash goes in after a byte that is passed. The measure is what is left before the end.
 -- Assumes nothing.
 use borrow.Author.Needs.{needs}
 use mathlib.Core.Bool.{true, false}
 use mathlib.Core.Path.{sym, _∙_}
 use Prim.Native.Nat.{_+_, _-_, _≤_}
 use native.Mathlib.Omega.{arith}
-use lib.ListN.{length}
 use Rattle.base.specs.First.{Free}
 use Rattle.base.proofs.Firsts.{free-step, free-join}
 use Rattle.encode_raw.specs.Cuts.{cutAt}
@@ -14,10 +13,10 @@ use Rattle.encode_raw.proofs.next_cut.Statement.{statement}
 use Rattle.encode_raw.proofs.next_cut.Tie as tie
 
 abbrev Inv-loop : tie.InvT-loop
-Inv-loop text from i₀ i = (from ≤ i) × (i ≤ length text) × Free (cutAt text) from i
+Inv-loop text from end i₀ i = (from ≤ i) × (i ≤ end) × Free (cutAt text) from i
 
 abbrev μ-loop : tie.MeasureT-loop
-μ-loop text from i₀ i = length text - i
+μ-loop text from end i₀ i = end - i
 
 skip-blocks-requires : tie.Need-skip-blocks-requires Inv-loop μ-loop
 skip-blocks-requires c κs = search needs

@@ -2,7 +2,6 @@
 -- Assumes nothing.
 use borrow.Author.Needs.{needs}
 use Prim.Native.Nat.{_≤_, _+_, _-_}
-use lib.ListN.{length}
 use Rattle.base.specs.First.{Free}
 use Rattle.base.proofs.Firsts.{free-start, free-join}
 use Rattle.encode_raw.specs.Cuts.{cutAt}
@@ -10,10 +9,10 @@ use Rattle.encode_raw.proofs.skip_blocks.Statement.{statement}
 use Rattle.encode_raw.proofs.skip_blocks.Tie as tie
 
 abbrev Inv-loop : tie.InvT-loop
-Inv-loop text from i₀ i = (from ≤ i) × (i ≤ length text) × Free (cutAt text) from i
+Inv-loop text from end i₀ i = (from ≤ i) × (i ≤ end) × Free (cutAt text) from i
 
 abbrev μ-loop : tie.MeasureT-loop
-μ-loop text from i₀ i = length text - i
+μ-loop text from end i₀ i = end - i
 
 loop-holds : tie.Need-loop-holds Inv-loop μ-loop
 loop-holds c = (search needs, search needs, free-start (cutAt (c .before .args .text .now)) (c .before .args .from))

@@ -1,166 +1,30 @@
--- `encode_raw::write` meets its contract: what is written so far, with what the rest of the text gives, is the result of the whole. The measure is what is left of the text.
+-- `encode_raw::write` meets its contract: there are as many moves as bytes, so that the moves of all bytes are all moves.
 -- Assumes nothing.
-use mathlib.Core.Path.{ap}
-use Prim.Native.Nat.{_-_, _≤_}
-use native.Mathlib.Omega.{arith}
+use mathlib.Core.Path.{refl, sym, ap, _∙_, subst}
+use mathlib.Core.List.{List}
+use Prim.Native.Nat.{_≤_}
 use borrow.Author.Needs.{needs}
 use lib.ListN.{length}
-use Rattle.rules.proofs.Loops.{from-end}
-use Rattle.rules.specs.Operations.{rawOf}
-use Rattle.rules.specs.Encoding.{rawStep}
-use Rattle.rules.specs.Moves.{result, from}
-use Rattle.base.proofs.Filled.{Filled, filled-start, filled-room, filled-next, filled-put}
-use Rattle.base.proofs.Counted.{filled-all, filled-within}
-use Rattle.encode_raw.proofs.Cuts.{next-quiet, next-less}
+use Rattle.rules.specs.Bytes.{over}
+use Rattle.rules.specs.Moves.{Move, result}
+use Rattle.encode_raw.proofs.Cuts.{whole-moves}
 use Rattle.encode_raw.proofs.write.Statement.{statement}
 use Rattle.encode_raw.proofs.write.Tie as tie
 
-abbrev Inv-loop : tie.InvT-loop
-Inv-loop text output₀ at₀ i₀ t6 output at i = (i ≤ length text) × Filled (rawOf text) (result (from rawStep text i)) output₀ output at
+write-to-requires : tie.Need-write-to-requires
+write-to-requires c κs =
+    let a = c .before .before .before in
+    (search needs, subst (λ (ms : List Move). length (result ms) ≤ length (a .args .output .now)) (sym (whole-moves (a .args .text .now) (length (a .args .text .now)) refl)) (a .pre))
 
-abbrev μ-loop : tie.MeasureT-loop
-μ-loop text output₀ at₀ i₀ t6 output at i = length text - i
-
-loop-holds : tie.Need-loop-holds Inv-loop μ-loop
-loop-holds c = (search needs, filled-start _ _ (c .before .before .pre))
-
-next-cut-requires : tie.Need-next-cut-requires Inv-loop μ-loop
-next-cut-requires c κs = search needs
-
-sub-put : tie.Need-sub-put Inv-loop μ-loop
-sub-put c = search needs
-
-part-put-start : tie.Need-part-put-start Inv-loop μ-loop
-part-put-start c = search needs
-
-part-put-end : tie.Need-part-put-end Inv-loop μ-loop
-part-put-end c = search needs
-
-sub-put-2 : tie.Need-sub-put-2 Inv-loop μ-loop
-sub-put-2 c = search needs
-
-part-put-start-2 : tie.Need-part-put-start-2 Inv-loop μ-loop
-part-put-start-2 c = search needs
-
-part-put-end-2 : tie.Need-part-put-end-2 Inv-loop μ-loop
-part-put-end-2 c = search needs
-
-put-requires : tie.Need-put-requires Inv-loop μ-loop
-put-requires c κs =
-    let t = c .before .before .before .before .before .before .before .args .text .now in
-    let l = c .before .before .before .before .loop in
-    let e = c .before .before .next-cut in
-    filled-room (l .inv .1) (next-quiet t (l .i) (e .result) (e .ensures))
-
-add-at : tie.Need-add-at Inv-loop μ-loop
-add-at c =
-    let t = c .before .before .before .before .before .before .before .before .before .before .args .text .now in
-    let l = c .before .before .before .before .before .before .before .loop in
-    let e = c .before .before .before .before .before .next-cut in
-    omega (arith, c .before .before .put .ensures .0, filled-next (l .inv .1) (next-quiet t (l .i) (e .result) (e .ensures)))
-
-same-length : tie.Need-same-length Inv-loop μ-loop
+same-length : tie.Need-same-length
 same-length c = search needs
 
-returns : tie.Need-returns Inv-loop μ-loop
+returns : tie.Need-returns
 returns c =
-    let t = c .before .before .before .before .before .before .before .before .before .before .before .args .text .now in
-    let l = c .before .before .before .before .before .before .before .before .loop in
-    let e = c .before .before .before .before .before .before .next-cut in
-    let p = c .before .before .before .put in
-    let f = filled-put (l .inv .1) (next-quiet t (l .i) (e .result) (e .ensures)) (p .last .1 .0) (p .result) (p .ensures .0) (p .ensures .1) in
-    filled-all f (ap result (from-end rawStep t (e .result) (search needs)))
-
-slice-aggregate-put : tie.Need-slice-aggregate-put Inv-loop μ-loop
-slice-aggregate-put c = search needs
-
-sub-put-3 : tie.Need-sub-put-3 Inv-loop μ-loop
-sub-put-3 c =
-    let t = c .before .before .before .before .before .before .before .before .before .before .before .before .args .text .now in
-    let l = c .before .before .before .before .before .before .before .before .before .loop in
-    let e = c .before .before .before .before .before .before .before .next-cut in
-    let p = c .before .before .before .before .put in
-    let f = filled-put (l .inv .1) (next-quiet t (l .i) (e .result) (e .ensures)) (p .last .1 .0) (p .result) (p .ensures .0) (p .ensures .1) in
-    filled-within f
-
-part-put-start-3 : tie.Need-part-put-start-3 Inv-loop μ-loop
-part-put-start-3 c =
-    let t = c .before .before .before .before .before .before .before .before .before .before .before .before .args .text .now in
-    let l = c .before .before .before .before .before .before .before .before .before .loop in
-    let e = c .before .before .before .before .before .before .before .next-cut in
-    let p = c .before .before .before .before .put in
-    let f = filled-put (l .inv .1) (next-quiet t (l .i) (e .result) (e .ensures)) (p .last .1 .0) (p .result) (p .ensures .0) (p .ensures .1) in
-    filled-within f
-
-part-put-end-3 : tie.Need-part-put-end-3 Inv-loop μ-loop
-part-put-end-3 c = search needs
-
-put-requires-2 : tie.Need-put-requires-2 Inv-loop μ-loop
-put-requires-2 c κs =
-    let t = c .before .before .before .before .before .before .before .before .before .before .before .before .before .args .text .now in
-    let l = c .before .before .before .before .before .before .before .before .before .before .loop in
-    let e = c .before .before .before .before .before .before .before .before .next-cut in
-    let p = c .before .before .before .before .before .put in
-    let f = filled-put (l .inv .1) (next-quiet t (l .i) (e .result) (e .ensures)) (p .last .1 .0) (p .result) (p .ensures .0) (p .ensures .1) in
-    filled-room f (next-less t (l .i) (e .result) (e .ensures) (search needs))
-
-add-at-2 : tie.Need-add-at-2 Inv-loop μ-loop
-add-at-2 c =
-    let t = c .before .before .before .before .before .before .before .before .before .before .before .before .before .before .before .before .args .text .now in
-    let l = c .before .before .before .before .before .before .before .before .before .before .before .before .before .loop in
-    let e = c .before .before .before .before .before .before .before .before .before .before .before .next-cut in
-    let p = c .before .before .before .before .before .before .before .before .put in
-    let f = filled-put (l .inv .1) (next-quiet t (l .i) (e .result) (e .ensures)) (p .last .1 .0) (p .result) (p .ensures .0) (p .ensures .1) in
-    omega (arith, c .before .before .put2 .ensures .0, filled-next f (next-less t (l .i) (e .result) (e .ensures) (search needs)))
-
-add-i : tie.Need-add-i Inv-loop μ-loop
-add-i c = search needs
-
-loop-less : tie.Need-loop-less Inv-loop μ-loop
-loop-less c = search needs
-
-loop-again : tie.Need-loop-again Inv-loop μ-loop
-loop-again c =
-    let t = c .before .before .before .before .before .before .before .before .before .before .before .before .before .before .before .before .args .text .now in
-    let l = c .before .before .before .before .before .before .before .before .before .before .before .before .before .loop in
-    let e = c .before .before .before .before .before .before .before .before .before .before .before .next-cut in
-    let p = c .before .before .before .before .before .before .before .before .put in
-    let f = filled-put (l .inv .1) (next-quiet t (l .i) (e .result) (e .ensures)) (p .last .1 .0) (p .result) (p .ensures .0) (p .ensures .1) in
-    let d = c .before .before .put2 in
-    (search needs, filled-put f (next-less t (l .i) (e .result) (e .ensures) (search needs)) (d .last .1 .0) (d .result) (d .ensures .0) (d .ensures .1))
-
-same-length-2 : tie.Need-same-length-2 Inv-loop μ-loop
-same-length-2 c = search needs
-
-returns-2 : tie.Need-returns-2 Inv-loop μ-loop
-returns-2 c = filled-all (c .before .loop .inv .1) (ap result (from-end rawStep (c .before .before .before .before .args .text .now) (c .before .loop .i) (c .loop-test .left)))
+    let a = c .before .before .before .before .before .before .args in
+    let w = c .before .before .write-to .ensures in
+    let e = whole-moves (a .text .now) (length (a .text .now)) refl in
+    (w .0 ∙ ap (λ (ms : List Move). length (result ms)) e, w .1 ∙ ap (λ (ms : List Move). over (result ms) (a .output .now)) e)
 
 pub write-spec : {M : Type 1} → statement M
-write-spec =
-    tie.close
-    (tie.spec
-    Inv-loop
-    μ-loop
-    loop-holds
-    next-cut-requires
-    sub-put
-    part-put-start
-    part-put-end
-    sub-put-2
-    part-put-start-2
-    part-put-end-2
-    put-requires
-    add-at
-    same-length
-    returns
-    slice-aggregate-put
-    sub-put-3
-    part-put-start-3
-    part-put-end-3
-    put-requires-2
-    add-at-2
-    add-i
-    loop-less
-    loop-again
-    same-length-2
-    returns-2)
+write-spec = tie.close (tie.spec write-to-requires same-length returns)

@@ -14,23 +14,23 @@ returns c = too-long (c .before .before .args .text .now) (c .if1 .taken)
 valid-to-requires : tie.Need-valid-to-requires
 valid-to-requires c κs = search needs
 
-sub-broken : tie.Need-sub-broken
-sub-broken c = search needs
+sub-status : tie.Need-sub-status
+sub-status c = search needs
 
-part-broken-start : tie.Need-part-broken-start
-part-broken-start c = search needs
+part-status-start : tie.Need-part-status-start
+part-status-start c = search needs
 
-part-broken-end : tie.Need-part-broken-end
-part-broken-end c = search needs
+part-status-end : tie.Need-part-status-end
+part-status-end c = search needs
 
-broken-requires : tie.Need-broken-requires
-broken-requires c κs = rw (lent-rest, length-drop) (omega (arith, c .before .if2 .taken))
+status-requires : tie.Need-status-requires
+status-requires c κs = rw (lent-rest, length-drop) (omega (arith, c .before .if2 .taken))
 
 returns-2 : tie.Need-returns-2
 returns-2 c =
     let t = c .before .before .before .before .before .before .args .text .now in
     let v = c .before .before .before .valid-to in
-    not-valid t (search needs) (v .result) (c .broken .result) (v .ensures .0) (search needs) (c .broken .ensures)
+    not-valid t (search needs) (v .result) (c .status .result) (v .ensures .0) (search needs) (c .status .ensures)
 
 find-end-requires : tie.Need-find-end-requires
 find-end-requires c κs = search needs
@@ -50,10 +50,10 @@ closing-tag-spec =
     (tie.spec
     returns
     valid-to-requires
-    sub-broken
-    part-broken-start
-    part-broken-end
-    broken-requires
+    sub-status
+    part-status-start
+    part-status-end
+    status-requires
     returns-2
     find-end-requires
     answer-requires
