@@ -1,4 +1,4 @@
-/* Checks from C what the header says: all eleven calls, every status, null pointers of length 0, what is left in the output, and lintelrye_view.
+/* Checks from C what the header says: all calls, every status, null pointers of length 0, what is left in the output, and lintelrye_view.
  * Compiles as C99 and as C++. Prints each check that fails; ends with 0 where none does. */
 #include <stdio.h>
 #include <string.h>
@@ -182,6 +182,74 @@ static void check_left(void)
     check(of(2, 7, "&;", OUTPUT).reason == 0, "no reason in a string", 2);
 }
 
+/* One part of a raw script, with the first bytes of the output, freshly filled. */
+static lintelrye_answer part(lintelrye_script_raw *state, const char *text, size_t room)
+{
+    memset(output, UNTOUCHED, OUTPUT);
+    return lintelrye_script_raw_part(state, (const uint8_t *)text, strlen(text), output, room);
+}
+
+static lintelrye_answer finish(lintelrye_script_raw *state, size_t room)
+{
+    memset(output, UNTOUCHED, OUTPUT);
+    return lintelrye_script_raw_finish(state, output, room);
+}
+
+/* Every cut of a text in three parts, each in the room that is enough, writes what one encode writes. */
+static void check_cuts(const char *text)
+{
+    uint8_t whole[64], joined[64], room[LINTELRYE_SCRIPT_RAW_AT_MOST(32)];
+    size_t n = strlen(text), a, b, k;
+    lintelrye_answer encoded = lintelrye_encode(LINTELRYE_SCRIPT_RAW, (const uint8_t *)text, n, whole, sizeof whole);
+    for (a = 0; a <= n; a++) {
+        for (b = a; b <= n; b++) {
+            size_t ends[4] = {0, a, b, n}, length = 0;
+            uint64_t replaced = 0;
+            lintelrye_script_raw state = LINTELRYE_SCRIPT_RAW_START;
+            for (k = 0; k < 4; k++) {
+                lintelrye_answer answer =
+                    k < 3 ? lintelrye_script_raw_part(&state, (const uint8_t *)text + ends[k], ends[k + 1] - ends[k], room, LINTELRYE_SCRIPT_RAW_AT_MOST(ends[k + 1] - ends[k]))
+                          : lintelrye_script_raw_finish(&state, room, LINTELRYE_SCRIPT_RAW_AT_MOST(0));
+                check(answer.status == LINTELRYE_PASSED && answer.same == 0 && length + answer.length <= sizeof joined, "a part of a script", (uint32_t)a);
+                memcpy(joined + length, room, answer.length);
+                length += answer.length;
+                replaced += answer.replaced;
+            }
+            check(length == encoded.length && replaced == encoded.replaced && memcmp(joined, whole, length) == 0, "a script by parts", (uint32_t)a);
+        }
+    }
+}
+
+/* The calls for parts: cuts, what is held, every status, and a state that a refused call leaves. */
+static void check_parts(void)
+{
+    lintelrye_script_raw state, before;
+    check(sizeof(lintelrye_script_raw) == 32, "the size of a state", 0);
+    check_cuts("if (a<b) </ScRiPt >");
+    check_cuts("<!-<!--</script");
+    check_cuts("\xC3\xA9<\xE2\x82\xAC</script\xF0\x9F\x98\x80");
+    memset(&state, 0xFF, sizeof state);
+    lintelrye_script_raw_start(&state);
+    check(is(part(&state, "ab</SCRIPT", OUTPUT), LINTELRYE_PASSED, 2, 0, 0, 0) && holds("ab"), "a part that ends in a pattern", 0);
+    before = state;
+    check(is(part(&state, ">", 9), LINTELRYE_NO_ROOM, 10, 0, 0, 0) && holds(""), "no room for a part", 0);
+    check(is(part(&state, "\xFF", OUTPUT), LINTELRYE_NOT_UTF8, 0, 0, 0, 10) && holds(""), "a part that is not UTF-8", 0);
+    check(is(lintelrye_script_raw_part(&state, letters, LINTELRYE_TEXT_LIMIT, output, OUTPUT), LINTELRYE_TOO_LONG, 0, 0, 0, 0), "parts that are too long", 0);
+    check(is(finish(&state, 8), LINTELRYE_NO_ROOM, 9, 0, 0, 0) && holds(""), "no room to finish", 0);
+    check(memcmp(&state, &before, sizeof state) == 0, "a refused call leaves the state", 0);
+    check(is(part(&state, ">\xE2\x82", 10), LINTELRYE_PASSED, 10, 0, 1, 0) && holds("<\\/SCRIPT>"), "a pattern in two parts", 0);
+    check(is(part(&state, "(", OUTPUT), LINTELRYE_NOT_UTF8, 0, 0, 0, 11) && holds(""), "a place in an earlier part", 0);
+    check(is(finish(&state, OUTPUT), LINTELRYE_CUT_SHORT, 0, 0, 0, 11) && holds(""), "a script that is cut short", 0);
+    check(is(part(&state, "\xAC", OUTPUT), LINTELRYE_PASSED, 3, 0, 0, 0) && holds("\xE2\x82\xAC"), "a part after a refused finish", 0);
+    check(is(lintelrye_script_raw_part(&state, NULL, 0, NULL, 0), LINTELRYE_PASSED, 0, 0, 0, 0), "a null part", 0);
+    check(is(lintelrye_script_raw_finish(&state, NULL, 0), LINTELRYE_PASSED, 0, 0, 0, 0), "finish without an output", 0);
+    check(is(part(&state, "a", OUTPUT), LINTELRYE_FINISHED, 0, 0, 0, 0) && holds(""), "a part after finish", 0);
+    check(is(finish(&state, OUTPUT), LINTELRYE_FINISHED, 0, 0, 0, 0) && holds(""), "finish after finish", 0);
+    memset(&state, 0x7A, sizeof state);
+    before = state;
+    check(is(part(&state, "a", OUTPUT), LINTELRYE_FINISHED, 0, 0, 0, 0) && memcmp(&state, &before, sizeof state) == 0, "a forged state", 0);
+}
+
 /* lintelrye_view: the text, the front of the output, or none. */
 static void check_view(void)
 {
@@ -300,6 +368,7 @@ int main(void)
     check_closing();
     check_left();
     check_page();
+    check_parts();
     check_view();
     printf("c/check: %s\n", failed ? "FAILED" : "what the header says holds");
     return failed != 0;

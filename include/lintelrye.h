@@ -60,7 +60,7 @@ enum lintelrye_context {
     LINTELRYE_STYLE_SINGLE = 10, /* in a string of a style element, between single quotes; a NUL becomes U+FFFD */
     LINTELRYE_STYLE_DOUBLE = 11, /* in a string of a style element, between double quotes; a NUL becomes U+FFFD */
     LINTELRYE_STYLE_QUOTED = 12, /* in a string of a style element, between quotes of either kind; a NUL becomes U+FFFD */
-    LINTELRYE_SCRIPT_RAW = 13    /* the whole text of a script element, in one call; encode only; no JSON encoder (<!-- becomes <\!--) */
+    LINTELRYE_SCRIPT_RAW = 13    /* the whole text of a script element, in one call, or by lintelrye_script_raw_part; encode only; no JSON encoder (<!-- becomes <\!--) */
 };
 
 /* The statuses. Where several refusals apply, the first of this order is given: BAD_CONTEXT, BAD_RANGE, TOO_LONG, NOT_UTF8 or CUT_SHORT (never both),
@@ -73,7 +73,8 @@ enum lintelrye_status {
     LINTELRYE_NOT_A_FORM = 4,  /* check and take only: encode writes no such text; `place` is the length of its longest prefix that encode writes */
     LINTELRYE_BAD_CONTEXT = 5, /* the call has no such context: encode has 0 to 13, decode, check and take 0 to 12, browse 0 to 6 */
     LINTELRYE_CUT_SHORT = 7,   /* the text ends within a character that more bytes could complete; `place` is where that character begins */
-    LINTELRYE_BAD_RANGE = 8    /* a record of a page only: the part that it names leaves the text */
+    LINTELRYE_BAD_RANGE = 8,   /* a record of a page only: the part that it names leaves the text */
+    LINTELRYE_FINISHED = 9     /* the calls for parts only: a finish has passed */
 };
 
 /* The answer of a call. */
@@ -114,6 +115,8 @@ enum lintelrye_reason {
 #define lintelrye_browse lintelrye_browse_7
 #define lintelrye_browse_borrowing lintelrye_browse_borrowing_7
 #define lintelrye_fill_page lintelrye_fill_page_7
+#define lintelrye_script_raw_part_in lintelrye_script_raw_part_7
+#define lintelrye_script_raw_finish_in lintelrye_script_raw_finish_7
 
 /* encode: escapes the text for the context. Every character that the context replaces is replaced, everything else is copied. */
 lintelrye_answer lintelrye_encode(uint32_t context, const uint8_t *text, size_t text_length, uint8_t *output, size_t output_length);
@@ -193,6 +196,62 @@ typedef struct lintelrye_closing {
  *
  * What lintelrye_encode writes in LINTELRYE_SCRIPT_RAW is always right, within the limit. */
 lintelrye_closing lintelrye_closing_tag(const uint8_t *text, size_t text_length);
+
+/* A raw script by parts: LINTELRYE_SCRIPT_RAW for a text that is longer than your buffer.
+ *
+ * Start a state, give it the parts of the text one by one, and finish it. What the passed calls write, one after the other, is what one lintelrye_encode of the
+ * parts joined would write, wherever the text is cut, within a character too. A call writes all but the last few bytes (at most eight) that more text could still
+ * change; they are held in the state, and come first in what the next call writes. So each output is valid UTF-8 by itself and can be sent on at once.
+ *
+ *     lintelrye_script_raw state = LINTELRYE_SCRIPT_RAW_START;
+ *     uint8_t page[LINTELRYE_SCRIPT_RAW_AT_MOST(4096)];
+ *     while ((n = read_some(part, 4096)) > 0) {
+ *         lintelrye_answer a = lintelrye_script_raw_part(&state, part, n, page, sizeof page);
+ *         if (a.status != LINTELRYE_PASSED) { return a.status; }
+ *         send(page, a.length);
+ *     }
+ *     a = lintelrye_script_raw_finish(&state, page, sizeof page);    (and send that too)
+ *
+ * The answer: `length` and `replaced` (the backslashes) count what this call writes; `same` is always 0; `place` counts from the start of the text and can lie in
+ * an earlier part. Refusals, in this order: FINISHED, TOO_LONG (more than LINTELRYE_TEXT_LIMIT bytes in all), NOT_UTF8, CUT_SHORT (at finish only), NO_ROOM. A refused
+ * call leaves the state and the output as they were: after NO_ROOM give the same part more room, or a shorter part; after a refused finish, more parts.
+ *
+ * The state is yours: 32 bytes, no pointers. All zeros is a started state. A copy of it is a place to come back to. Any value of it is safe to use. */
+typedef struct lintelrye_script_raw {
+    uint64_t opaque[4];
+} lintelrye_script_raw;
+
+/* A started state. */
+#define LINTELRYE_SCRIPT_RAW_START {{0, 0, 0, 0}}
+
+/* An output of so many bytes is enough for every part of n bytes; of LINTELRYE_SCRIPT_RAW_AT_MOST(0) bytes for finish. */
+#define LINTELRYE_SCRIPT_RAW_AT_MOST(n) ((n) + (n) / 4 + 10)
+
+/* The calls as the archive has them; the functions below make them. `held` is the eight bytes of opaque[0], `numbers` the other three numbers. */
+lintelrye_answer lintelrye_script_raw_part_in(uint8_t *held, uint64_t *numbers, const uint8_t *text, size_t text_length, uint8_t *output, size_t output_length);
+lintelrye_answer lintelrye_script_raw_finish_in(uint8_t *held, uint64_t *numbers, uint8_t *output, size_t output_length);
+
+/* start: makes a state a started one. */
+static inline void lintelrye_script_raw_start(lintelrye_script_raw *state)
+{
+    state->opaque[0] = 0;
+    state->opaque[1] = 0;
+    state->opaque[2] = 0;
+    state->opaque[3] = 0;
+}
+
+/* part: encodes the next part of the text. The state overlaps neither the text nor the output. */
+static inline lintelrye_answer lintelrye_script_raw_part(lintelrye_script_raw *state, const uint8_t *text, size_t text_length, uint8_t *output,
+                                                         size_t output_length)
+{
+    return lintelrye_script_raw_part_in((uint8_t *)state->opaque, state->opaque + 1, text, text_length, output, output_length);
+}
+
+/* finish: ends the text, and writes what is held. */
+static inline lintelrye_answer lintelrye_script_raw_finish(lintelrye_script_raw *state, uint8_t *output, size_t output_length)
+{
+    return lintelrye_script_raw_finish_in((uint8_t *)state->opaque, state->opaque + 1, output, output_length);
+}
 
 /* view: the result of a call, from the text, the output and the answer. It returns where the result begins and puts its length into *length: the whole
  * text where `same` is 1, otherwise the first `length` bytes of the output, or length 0 where the output is shorter. It never refuses; after a

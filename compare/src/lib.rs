@@ -2,6 +2,8 @@
 //! call is to answer, and a generator of numbers with a fixed seed.
 
 pub mod model;
+#[cfg(feature = "archive")]
+pub mod parts;
 
 use std::borrow::Cow;
 

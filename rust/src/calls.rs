@@ -38,6 +38,8 @@ pub const fn decoded_at_most(n: usize) -> usize {
 #[derive(Clone, Copy, Debug, PartialEq, Eq)]
 #[non_exhaustive]
 pub enum Refusal {
+    /// [`ScriptEncoder`](crate::ScriptEncoder) only: a finish has passed.
+    Finished,
     /// The operation has no such context: [`decode`], [`check`] and [`take`] have all but [`Context::ScriptRaw`], [`browse`] has the first seven.
     BadContext,
     /// [`fill_page`] only: the part that a field names leaves the text.
@@ -73,6 +75,7 @@ pub enum Refusal {
 impl fmt::Display for Refusal {
     fn fmt(&self, f: &mut fmt::Formatter<'_>) -> fmt::Result {
         match self {
+            Refusal::Finished => write!(f, "the script is finished"),
             Refusal::BadContext => write!(f, "the operation has no such context"),
             Refusal::BadRange => write!(f, "the part leaves the text"),
             Refusal::TooLong => write!(f, "the text is longer than {} bytes, or the list than {} fields", TEXT_LIMIT, FIELD_LIMIT),
@@ -220,8 +223,9 @@ impl PartialEq<&str> for Written<'_> {
 }
 
 /// Returns the refusal of an answer whose status is not 0.
-fn refusal(status: u64, length: u64, place: u64) -> Refusal {
+pub(crate) fn refusal(status: u64, length: u64, place: u64) -> Refusal {
     match status {
+        raw::FINISHED => Refusal::Finished,
         raw::BAD_CONTEXT => Refusal::BadContext,
         raw::BAD_RANGE => Refusal::BadRange,
         raw::TOO_LONG => Refusal::TooLong,

@@ -33,7 +33,7 @@
 //! | `<style>a::before{content:'HERE'}</style>` | [`StyleSingle`](Context::StyleSingle) | [`encode_style_single_quoted_text`] |
 //! | `<style>a::before{content:"HERE"}</style>` | [`StyleDouble`](Context::StyleDouble) | [`encode_style_double_quoted_text`] |
 //! | in a style string with either kind of quotes | [`StyleQuoted`](Context::StyleQuoted) | [`encode_style_quoted_text`] |
-//! | `<script>HERE</script>`: the whole text of the element, in one call | [`ScriptRaw`](Context::ScriptRaw) | [`encode_script`] |
+//! | `<script>HERE</script>`: the whole text of the element, in one call or by a [`ScriptEncoder`] | [`ScriptRaw`](Context::ScriptRaw) | [`encode_script`] |
 //! | `onclick="f('HERE')"` | `ScriptSingle`, and the result of that by `DoubleQuoted` | both functions |
 //! | a URL, CSS or script outside a string, a comment, a tag or attribute name | none: no context makes that safe | none |
 //!
@@ -45,6 +45,10 @@
 //!
 //! [`closing_tag`] says where a browser ends a script element. That it finds no end tag in a text does **not** make the text safe to embed: `<!--<script>` hides
 //! the tag that follows it. Judge a text with `</script>` after it: it is right exactly if the place is the text's length.
+//!
+//! # A script longer than the buffer
+//!
+//! [`ScriptEncoder`] takes the text of a script element part by part, cut anywhere, and writes what one [`encode_script`] of the whole would.
 //!
 //! # Texts and buffers
 //!
@@ -72,7 +76,9 @@ mod calls;
 mod contexts;
 mod named;
 pub mod raw;
+mod script;
 
 pub use calls::*;
 pub use contexts::*;
 pub use named::*;
+pub use script::*;

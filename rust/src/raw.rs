@@ -88,6 +88,8 @@ pub const BAD_CONTEXT: u64 = 5;
 pub const CUT_SHORT: u64 = 7;
 /// A field of a page only: the part that it names leaves the text.
 pub const BAD_RANGE: u64 = 8;
+/// The calls for parts only: a finish has passed.
+pub const FINISHED: u64 = 9;
 /// No status of a call: what a field holds that no call has filled yet.
 pub const NOT_FILLED: u64 = u64::MAX;
 
@@ -152,6 +154,43 @@ extern "C" {
 pub fn closing_tag(text: &[u8]) -> Closing {
     // SAFETY: the text can be read for its length, which is all that the call requires.
     unsafe { lintelrye_closing_tag(text.as_ptr(), text.len()) }
+}
+
+/// A state of a raw script by parts, as include/lintelrye.h lays it out: all zeros is a started state, and every value is one.
+#[repr(C)]
+#[derive(Clone, Copy, Debug, Default, PartialEq, Eq)]
+pub struct ScriptRaw {
+    /// What is held, and the numbers of the state.
+    pub opaque: [u64; 4],
+}
+
+// The state goes as two arrays: the eight bytes of the first number, and the other three.
+#[link(name = "lintelrye_c", kind = "static")]
+extern "C" {
+    fn lintelrye_script_raw_part_7(held: *mut u8, numbers: *mut u64, text: *const u8, text_length: usize, output: *mut u8, output_length: usize) -> Answer;
+    fn lintelrye_script_raw_finish_7(held: *mut u8, numbers: *mut u64, output: *mut u8, output_length: usize) -> Answer;
+}
+
+impl ScriptRaw {
+    fn arrays(&mut self) -> (*mut u8, *mut u64) {
+        let (held, numbers) = self.opaque.split_at_mut(1);
+        (held.as_mut_ptr() as *mut u8, numbers.as_mut_ptr())
+    }
+
+    /// `lintelrye_script_raw_part`, see [`crate::ScriptEncoder::part`].
+    pub fn part(&mut self, text: &[u8], output: &mut [u8]) -> Answer {
+        let (held, numbers) = self.arrays();
+        // SAFETY: eight bytes and three numbers of the state can be read and written, as can the output, the text can be read, for their lengths, and mutable
+        // borrows overlap no other borrow. That is all that the call requires.
+        unsafe { lintelrye_script_raw_part_7(held, numbers, text.as_ptr(), text.len(), output.as_mut_ptr(), output.len()) }
+    }
+
+    /// `lintelrye_script_raw_finish`, see [`crate::ScriptEncoder::finish`].
+    pub fn finish(&mut self, output: &mut [u8]) -> Answer {
+        let (held, numbers) = self.arrays();
+        // SAFETY: as above, without a text.
+        unsafe { lintelrye_script_raw_finish_7(held, numbers, output.as_mut_ptr(), output.len()) }
+    }
 }
 
 /// Returns the result of a call: the whole text where `same` is 1, otherwise the first `length` bytes of the output, or none where the output is shorter.

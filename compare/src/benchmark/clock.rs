@@ -1,13 +1,16 @@
 //! Measuring: four passes over the same texts, in rounds that interleave them, and the median of each.
 
 use crate::texts::{Case, Kind, FORTY};
-use compare::{check, closing_tag, fill_page, Answer, Call, Closing, Field, Filled, ToVec};
+use compare::{check, closing_tag, fill_page, parts, Answer, Call, Closing, Field, Filled, ToVec};
 use std::arch::asm;
 use std::str::from_utf8;
 use std::time::Duration;
 
 /// The room that every result fits into: six times the longest text.
 const ROOM: usize = 6 * 65_536;
+
+/// The bytes of a part, where a script is given by parts.
+const PART: usize = 4_096;
 
 /// How many rounds are taken, and how long one pass is repeated in a round.
 pub struct Effort {
@@ -114,7 +117,10 @@ pub fn compare(case: &Case, rooms: &mut Rooms) -> Result<(), String> {
     for (i, text) in case.texts.iter().enumerate() {
         // No result has this byte: what an earlier text left cannot pass for this one's result.
         rooms.ours[..6 * text.len()].fill(0xFF);
-        let answer = call.make(case.context_of(i) as u32, text.as_bytes(), &mut rooms.ours);
+        let answer = match case.kind {
+            Kind::Parts => parts::encode(text.as_bytes(), PART, &mut rooms.ours),
+            _ => call.make(case.context_of(i) as u32, text.as_bytes(), &mut rooms.ours),
+        };
         if answer.status != 0 || answer.length as usize > ROOM {
             return Err(format!("{}, text {}: {:?}", case.name(), i, answer));
         }
@@ -180,6 +186,11 @@ pub fn passes<'a>(case: &'a Case, rooms: &'a mut Rooms) -> [Pass<'a>; 4] {
         Kind::Closing => Box::new(move || {
             each().for_each(|text| {
                 keep(&closing_tag(text.as_bytes()));
+            })
+        }),
+        Kind::Parts => Box::new(move || {
+            each().for_each(|text| {
+                keep(&parts::encode(text.as_bytes(), PART, ours));
             })
         }),
         _ => Box::new(move || {

@@ -2,7 +2,8 @@
 
 use crate::clock::{Effort, Row};
 use crate::machine::machine;
-use crate::report::{above, checks, classes, each_once, escaped, families, highest, pages, worst, worst_beside, Beside};
+use crate::report::{above, besides, classes, each_once, escaped, families, highest, worst, worst_beside};
+use crate::texts::Kind;
 
 /// The document of the times.
 pub fn times(rows: &[Row], facts: &[(&str, String)], effort: &Effort) -> String {
@@ -14,8 +15,8 @@ pub fn times(rows: &[Row], facts: &[(&str, String)], effort: &Effort) -> String 
     text += &format!("| steadiness | {} |\n", steadiness(rows));
     text += &method(effort);
     text += &limits(rows);
-    text += &format!("\n## Worst ratio by class\n\nOurs over crate + utf8. Bold is above the limit; `take` and `check` have none.\n\n{}", matrix(rows));
-    text += &beside_calls(rows);
+    text += &format!("\n## Worst ratio by class\n\nOurs over crate + utf8. Bold is above the limit; `take`, `check` and script_raw by parts have none.\n\n{}", matrix(rows));
+    text += &beside(rows);
     text += "\n![The worst ratio of each family of contexts, by class](benchmarks.svg)\n";
     text + &lines(rows)
 }
@@ -23,7 +24,7 @@ pub fn times(rows: &[Row], facts: &[(&str, String)], effort: &Effort) -> String 
 /// The document of the counts.
 pub fn counts(rows: &[Row], facts: &[(&str, String)]) -> String {
     let compiler = if machine() == "x86_64" { "" } else { DEBIAN };
-    format!("{}{}{}{}{}{}{}", COUNTS, table(facts), COUNTED, compiler, WORST_COUNTS, matrix(rows), beside_calls(rows))
+    format!("{}{}{}{}{}{}{}", COUNTS, table(facts), COUNTED, compiler, WORST_COUNTS, matrix(rows), beside(rows))
 }
 
 /// The facts as a table.
@@ -97,7 +98,8 @@ beside the same function of the crate as the copying one. `take`, `check` and `b
 beside the crate's decoder of the same context on the same written form, though they also refuse what is no such form; `browse` is held beside
 `decode_html_entities`. The HTML seven share one decoder, so that decode and browse are measured in one of them. `closing_tag` has no counterpart either:
 it is held beside `encode_script` on the same text, of which none ends before its own end, so that all of it is read. `fill_page` fills forty names in one
-call, and is held beside forty calls of the crate, and beside forty of our own (\"encode for a page\").
+call, and is held beside forty calls of the crate, and beside forty of our own (\"encode for a page\"). script_raw by parts is start, a part for each
+4 KiB of the text, and finish, held beside `encode_script` of the whole text.
 
 ";
 
@@ -149,18 +151,19 @@ fn matrix(rows: &[Row]) -> String {
     text
 }
 
-/// The check beside `take`, and a page beside its single calls, on the same texts in the same run: the worst ratio of each class.
-fn beside_calls(rows: &[Row]) -> String {
-    let take = "\n## check over take\n\nOurs over ours, on the same texts, in the worst of the thirteen contexts.\n\n";
-    let page = "\n## fill_page over single calls\n\nForty names in one call over forty copying calls of encode.\n\n";
-    beside(take, rows, &checks(rows)) + &beside(page, rows, &pages(rows))
+/// What is held beside a call of ours, on the same texts in the same run.
+fn beside(rows: &[Row]) -> String {
+    let check = "check over take\n\nOurs over ours, on the same texts, in the worst of the thirteen contexts.";
+    let page = "fill_page over single calls\n\nForty names in one call over forty copying calls of encode.";
+    let parts = "script_raw in parts of 4 KiB over one encode\n\nOurs over ours, on the same texts. Each of the short names is one part, and has no limit.";
+    beside_copying(rows, Kind::Check, check) + &beside_copying(rows, Kind::Page, page) + &beside_copying(rows, Kind::Parts, parts)
 }
 
-/// One of these tables under its heading.
-fn beside(heading: &str, rows: &[Row], all: &[Beside]) -> String {
-    let mut text = String::from(heading);
-    text += "| class | at most | worst | in | |\n|---|---|---|---|---|\n";
-    for beside in classes(rows).into_iter().filter_map(|class| worst_beside(all, class)) {
+/// A kind of calls beside the copying call: the worst ratio of each class.
+fn beside_copying(rows: &[Row], kind: Kind, title: &str) -> String {
+    let besides = besides(rows, kind);
+    let mut text = format!("\n## {}\n\n| class | at most | worst | in | |\n|---|---|---|---|---|\n", title);
+    for beside in classes(rows).into_iter().filter_map(|class| worst_beside(&besides, class)) {
         let case = &beside.row.case;
         let (limit, verdict) = match case.beside_limit() {
             Some(limit) => (format!("{:.2}", limit), if beside.above() { "**above**" } else { "holds" }),

@@ -31,23 +31,26 @@ pub fn summary(rows: &[Row]) -> String {
         let cell = |row: &Row| format!("{} {:.2}{}", row.case.class, row.ratio(), if row.above() { "*" } else { "" });
         text += &format!("{:24} {}\n", family, worst.map(cell).collect::<Vec<_>>().join(", "));
     }
-    let beside = beside_take(rows) + &beside_singles(rows);
+    let beside = beside(rows, Kind::Check, "check over take, worst (* above 1.00 in plain, 0.65 in 10 %, 50 % and all)")
+        + &beside(rows, Kind::Page, "fill_page over single calls (* above 1.05)")
+        + &beside(rows, Kind::Parts, "script_raw in parts of 4 KiB over one encode (* above 1.25; short names are one part each)");
     match rows.iter().any(|row| row.limit.is_some()) {
         true => text + &beside + &above(rows),
         false => text.replace(" (* above the limit)", "") + &beside,
     }
 }
 
-/// A row of check beside that of `take` on the same texts, or one of fill_page beside that of its single calls.
+/// A row beside that of the copying call on the same texts: of check beside `take`, of fill_page beside its single calls, of a script by parts beside its
+/// encode.
 pub struct Beside<'a> {
     pub row: &'a Row,
-    pub call: &'a Row,
+    pub copying: &'a Row,
 }
 
 impl Beside<'_> {
     /// Ours over ours, to the two digits that are printed.
     pub fn ratio(&self) -> f64 {
-        (100.0 * self.row.ours / self.call.ours).round() / 100.0
+        (100.0 * self.row.ours / self.copying.ours).round() / 100.0
     }
 
     pub fn above(&self) -> bool {
@@ -55,44 +58,26 @@ impl Beside<'_> {
     }
 }
 
-/// Every check with its `take`.
-pub fn checks(rows: &[Row]) -> Vec<Beside<'_>> {
-    beside(rows, Kind::Check)
-}
-
-/// Every page with its single calls.
-pub fn pages(rows: &[Row]) -> Vec<Beside<'_>> {
-    beside(rows, Kind::Page)
-}
-
-/// The rows of a kind, each with the copying calls on the same texts.
-fn beside(rows: &[Row], kind: Kind) -> Vec<Beside<'_>> {
-    let call = |row: &Row| rows.iter().find(|call| call.case.is_beside(&row.case));
-    rows.iter().filter(|row| row.case.kind == kind).filter_map(|row| call(row).map(|call| Beside { row, call })).collect()
+/// Every row of a kind with that of its copying call.
+pub fn besides(rows: &[Row], kind: Kind) -> Vec<Beside<'_>> {
+    let copying = |row: &Row| rows.iter().find(|other| other.case.is_copying_of(&row.case));
+    rows.iter().filter(|row| row.case.kind == kind).filter_map(|row| copying(row).map(|copying| Beside { row, copying })).collect()
 }
 
 /// The highest ratio of a class among them.
-pub fn worst_beside<'a, 'b>(all: &'b [Beside<'a>], class: &str) -> Option<&'b Beside<'a>> {
-    all.iter().filter(|beside| beside.row.case.class == class).max_by(|one, other| one.ratio().total_cmp(&other.ratio()))
+pub fn worst_beside<'a, 'b>(besides: &'b [Beside<'a>], class: &str) -> Option<&'b Beside<'a>> {
+    besides.iter().filter(|beside| beside.row.case.class == class).max_by(|one, other| one.ratio().total_cmp(&other.ratio()))
 }
 
-/// The page over its single calls, as a line of text.
-fn beside_singles(rows: &[Row]) -> String {
-    let pages = pages(rows);
-    worst_beside(&pages, "forty names").map_or(String::new(), |page| {
-        format!("fill_page over single calls (* above 1.05): {} {:.2}{}\n", page.row.case.class, page.ratio(), if page.above() { "*" } else { "" })
-    })
-}
-
-/// The worst of them in each class, as a line of text.
-fn beside_take(rows: &[Row]) -> String {
-    let checks = checks(rows);
+/// The worst of a kind in each class, as a line of text after `title`.
+fn beside(rows: &[Row], kind: Kind, title: &str) -> String {
+    let besides = besides(rows, kind);
     let cell = |beside: &Beside| format!("{} {:.2}{}", beside.row.case.class, beside.ratio(), if beside.above() { "*" } else { "" });
-    let cells: Vec<String> = classes(rows).into_iter().filter_map(|class| worst_beside(&checks, class)).map(cell).collect();
+    let cells: Vec<String> = classes(rows).into_iter().filter_map(|class| worst_beside(&besides, class)).map(cell).collect();
     if cells.is_empty() {
         return String::new();
     }
-    format!("check over take, worst (* above 1.00 in plain, 0.65 in 10 %, 50 % and all): {}\n", cells.join(", "))
+    format!("{}: {}\n", title, cells.join(", "))
 }
 
 /// How many rows are above their limit.

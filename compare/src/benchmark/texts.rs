@@ -18,7 +18,7 @@ const EMOJI: &str = "😀 🚰 🔧 🏭 👩\u{200D}🔧 🌡\u{FE0F} 🚪 🔔
 pub const FORTY: usize = 40;
 
 /// Which call of an operation is made; the check is read's, fill_page makes forty copying calls of encode in one, which are also made singly beside it,
-/// and closing_tag, which judges a script element's text, goes with encode in script_raw.
+/// and closing_tag, which judges a script element's text, goes with encode in script_raw, as do the calls for parts.
 #[derive(Clone, Copy, PartialEq, Eq)]
 pub enum Kind {
     Copying,
@@ -27,6 +27,7 @@ pub enum Kind {
     Page,
     Singly,
     Closing,
+    Parts,
 }
 
 /// One line of the table: an operation in a context, on texts of a class.
@@ -55,10 +56,10 @@ impl Case {
         }
     }
 
-    /// Whether these are the copying calls on the texts of a check or of a page.
-    pub fn is_beside(&self, other: &Case) -> bool {
-        let kind = if other.kind == Kind::Page { Kind::Singly } else { Kind::Copying };
-        self.operation == other.operation && self.kind == kind && (self.context, self.class) == (other.context, other.class)
+    /// Whether these are the copying calls of the same operation on the same texts: what a check, a page and a script by parts are held beside.
+    pub fn is_copying_of(&self, case: &Case) -> bool {
+        let kind = if case.kind == Kind::Page { Kind::Singly } else { Kind::Copying };
+        self.kind == kind && (self.operation, self.context, self.class) == (case.operation, case.context, case.class)
     }
 
     /// The number of bytes that one pass over the texts takes.
@@ -72,6 +73,7 @@ impl Case {
             (_, _, Kind::Closing) => "closing_tag",
             (_, _, Kind::Page) => "fill_page",
             (_, _, Kind::Singly) => "encode for a page",
+            (_, _, Kind::Parts) => "script_raw by parts",
             (Operation::Encode, 0..=6, Kind::Borrowing) => "encode HTML, borrowing",
             (Operation::Encode, 0..=6, _) => "encode HTML",
             (Operation::Encode, 7..=9, _) => "encode script strings",
@@ -102,17 +104,19 @@ impl Case {
         format!("{} | {} | {}", self.family(), self.place(), self.class)
     }
 
-    /// The most that a check may take of what `take` does on the same texts, and a page of what its single calls do.
+    /// The most that it may take of what the copying calls do on the same texts. Short names are shorter than a part.
     pub fn beside_limit(&self) -> Option<f64> {
         match (self.kind, self.class) {
             (Kind::Page, _) => Some(1.05),
             (Kind::Check, "plain") => Some(1.0),
             (Kind::Check, "10 %" | "50 %" | "all") => Some(0.65),
+            (Kind::Parts, "short names") => None,
+            (Kind::Parts, _) => Some(1.25),
             _ => None,
         }
     }
 
-    /// The most that ours may take of the time of the crate after `from_utf8`; `take` and `check` have no limit.
+    /// The most that ours may take of the time of the crate after `from_utf8`; `take`, `check` and the calls for parts have no limit.
     pub fn limit(&self) -> Option<f64> {
         if self.kind == Kind::Closing {
             return Some(if ["plain", "Cyrillic", "CJK", "emoji", "escaped plain"].contains(&self.class) { 1.5 } else { 3.0 });
@@ -120,7 +124,7 @@ impl Case {
         if self.kind == Kind::Page {
             return Some(0.6);
         }
-        if self.kind == Kind::Singly {
+        if self.kind == Kind::Singly || self.kind == Kind::Parts {
             return None;
         }
         match (self.operation, self.context, self.class) {
@@ -151,6 +155,7 @@ pub fn cases() -> Vec<Case> {
     add(Operation::Read, Kind::Copying, &[0, 1, 2, 3, 4, 5, 6, 7, 8, 9, 10, 11, 12]);
     add(Operation::Read, Kind::Check, &[0, 1, 2, 3, 4, 5, 6, 7, 8, 9, 10, 11, 12]);
     add(Operation::Browse, Kind::Copying, &[1]);
+    add(Operation::Encode, Kind::Parts, &[13]);
     all.extend([page_case(Kind::Singly), page_case(Kind::Page)]);
     all.extend(closing_cases());
     all

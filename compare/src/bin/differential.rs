@@ -4,10 +4,11 @@
 //! around the result's. The seven numbers, every byte written and every byte that is to stay are compared with what compare/src/model.rs works out
 //! from the crate. Beside each call of read the check is made and compared, whatever the output. A text that differs is made as short as it can be and
 //! printed. Then pages of such texts, a hundred thousand unless another number is given: the call on the whole list against single calls that the model
-//! makes, in every number of every record and every byte of the output and behind it. The exit status is 1 where anything differs.
+//! makes, in every number of every record and every byte of the output and behind it. Then texts of script_raw are given in parts, cut at random, one text
+//! for each twenty cases (compare/src/parts.rs). The exit status is 1 where anything differs.
 
 use compare::model::{has_context, Model, Outcome, CUT_SHORT, LONGEST, NOT_UTF8, PASSED};
-use compare::{call, check, fill_page, Answer, Checked, Field, Filled, Numbers, Operation, CONTEXTS, CRATE_LENDING_DECODERS, CRATE_LENDING_ENCODERS, OPERATIONS};
+use compare::{call, check, fill_page, parts, Answer, Checked, Field, Filled, Numbers, Operation, CONTEXTS, CRATE_LENDING_DECODERS, CRATE_LENDING_ENCODERS, OPERATIONS};
 use std::time::{Duration, Instant};
 
 /// How many differences are made short and printed; the others are counted.
@@ -418,6 +419,23 @@ fn option(word: &str, otherwise: u64) -> u64 {
     }
 }
 
+/// Texts of script_raw in parts, cut at random: how many calls were made, and how many texts differ.
+fn scripts_by_parts(texts: &mut Texts, scripts: u64) -> (u64, u64) {
+    let (mut calls, mut differ) = (0, 0);
+    for _ in 0..scripts {
+        let text = texts.text(13);
+        let (made, difference) = parts::differ(&mut texts.numbers, &text);
+        calls += made;
+        if let Some(what) = difference {
+            differ += 1;
+            if differ <= SHOWN as u64 {
+                println!("differs: script_raw by parts, text \"{}\": {}", readable(&text), what);
+            }
+        }
+    }
+    (calls, differ)
+}
+
 fn main() {
     let cases = option("--cases", 10_000_000);
     let seed = option("--seed", 1);
@@ -436,8 +454,11 @@ fn main() {
     eprintln!();
     println!("seed {}", seed);
     run.report();
-    let differ = pages(&run.model, &mut run.texts, option("--pages", 100_000));
-    if run.differing() + differ > 0 {
+    let paged = pages(&run.model, &mut run.texts, option("--pages", 100_000));
+    let scripts = cases / 20;
+    let (calls, differ) = scripts_by_parts(&mut run.texts, scripts);
+    println!("{} texts of script_raw in parts, cut at random, {} calls, {} differ: each call's answer and bytes beside the crate's encode_script, a refused call's state beside that before it", scripts, calls, differ);
+    if run.differing() + paged + differ > 0 {
         std::process::exit(1);
     }
 }
