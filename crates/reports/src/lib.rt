@@ -39,15 +39,6 @@ fn status(text: &[u8]) -> usize
     answer.status
 }
 
-// Writes `name`, a number in decimal and `end` to the start of `output` and returns how many bytes they are; the rest keeps its values.
-fn put_field(name: &[u8], n: usize, end: &[u8], output: &mut [u8]) -> usize
-    requires { ⌜ length (now name) + 20 + length (now end) ≤ length (now output) ⌝ }
-    ensures { λ r. ⌜ (r ≡ length (now (name .entry) ++ decimal n ++ now (end .entry))) × (now (output .exit) ≡ over (now (name .entry) ++ decimal n ++ now (end .entry)) (now (output .entry))) × (r ≤ length (now (name .entry)) + 20 + length (now (end .entry))) ⌝ }
-{
-    let at = print::put_number(name, n, output);
-    at + base::put(end, &mut output[at..])
-}
-
 // Writes the line of a refusal to the start of `output` and returns how many bytes it is; nothing where decode passes.
 pub fn refuse(text: &[u8], output: &mut [u8; LINE_ROOM]) -> usize
     ensures { λ r. ⌜ (r ≡ length (refusalLine (now (text .entry)))) × (now (output .exit) ≡ over (refusalLine (now (text .entry))) (now (output .entry))) × (r ≤ length (now (output .exit))) ⌝ }
@@ -56,7 +47,7 @@ pub fn refuse(text: &[u8], output: &mut [u8; LINE_ROOM]) -> usize
     if status == 0 {
         return 0;
     }
-    put_field(b"status=", status, b"\n", output)
+    print::put_field(b"status=", status, b"\n", output)
 }
 
 // Writes the line of a reference that stays.
@@ -65,7 +56,7 @@ fn put_line(place: usize, reason: usize, output: &mut [u8]) -> usize
     ensures { λ r. ⌜ (r ≡ length (lineOf place reason)) × (now (output .exit) ≡ over (lineOf place reason) (now (output .entry))) × (r ≤ 64) ⌝ }
 {
     let at = print::put_number(b"place=", place, output);
-    at + put_field(b" reason=", reason, b"\n", &mut output[at..])
+    at + print::put_field(b" reason=", reason, b"\n", &mut output[at..])
 }
 
 // Writes the line of the first reference from `from` on that decode leaves to the start of `output`; nothing where there is none.

@@ -62,7 +62,7 @@ module _ (t : List ℕ) (long : 8192 < size t) where
       (ltb (6 * 8192) (size (result (through rule t)))))
 
 -- The call of a text.
-abbrev calls : Operation → AnyContext → List ℕ → Call
+abbrev pub calls : Operation → AnyContext → List ℕ → Call
 calls o c t = record { operation = o; context = c; borrows = false; limit = 8192; text = t; room = 6 * 8192 }
 
 call-cut : (o : Operation) (c : AnyContext) (t : List ℕ) (n : ℕ) → 8193 ≤ n → printedCall (calls o c (take n t)) ≡ printedCall (calls o c t)
@@ -74,43 +74,50 @@ call-cut o c t n h = go (ltb 8192 (size t)) refl
         long-text (take n t) (omega (arith, l, length-take n t)) (ruleOf o c) ∙ sym (long-text t l (ruleOf o c))
     go false e = ap (λ (x : List ℕ). printedCall (calls o c x)) (take-all n t (omega (arith, ltb-false 8192 (size t) e)))
 
-text-cut : (o : Operation) (c : AnyContext) (s : List ℕ) (n : ℕ) → 8198 ≤ n → printedBy (textOf o c (take n s)) ≡ printedBy (textOf o c s)
-text-cut o c s n h =
-    ap (λ (b : Bool). printedBy (cond b (some (calls o c (drop 5 (take n s)))) none)) (stands-cut (ascii "text=") s n (omega arith)) ∙ go (stands (ascii "text=") s)
-  where
-    go : (b : Bool) → printedBy (cond b (some (calls o c (drop 5 (take n s)))) none) ≡ printedBy (cond b (some (calls o c (drop 5 s))) none)
-    go true = ap (λ (x : List ℕ). printedCall (calls o c x)) (drop-cut 5 n s (omega arith)) ∙ call-cut o c (drop 5 s) (n - 5) (omega arith)
-    go false = refl
+-- ---- the text and the lines before it, whatever is printed for a call
 
--- ---- a line before what is cut
-
-module _ {A : Type 0} (field : List ℕ) (k : A → List ℕ → Option Call) (most m : ℕ)
-    (rest : (a : A) (s : List ℕ) (n : ℕ) → m ≤ n → printedBy (k a (take n s)) ≡ printedBy (k a s)) (s : List ℕ) (n : ℕ) (h : most + m ≤ n) where
-  line-cut : (ls : List (Label A)) → T (all (λ (l : Label A). leb (size (line field l)) most) ls)
-      → printedBy (onLabel field (take n s) k (first (λ (l : Label A). stands (line field l)) ls (take n s)))
-      ≡ printedBy (onLabel field s k (first (λ (l : Label A). stands (line field l)) ls s))
-  line-cut [] t = refl
-  line-cut (l ∷ ls) t =
-      let z : size (line field l) ≤ most = leb→le (size (line field l)) most (and-left (leb (size (line field l)) most) (all (λ (l : Label A). leb (size (line field l)) most) ls) t) in
-      ap (λ (b : Bool). printedBy (onLabel field (take n s) k (elim b [ true ↦ some l | false ↦ first (λ (l : Label A). stands (line field l)) ls (take n s) ])))
-      (stands-cut (line field l) s n (omega (arith, z, h)))
-      ∙ go (stands (line field l) s) z (line-cut ls (and-right (leb (size (line field l)) most) (all (λ (l : Label A). leb (size (line field l)) most) ls) t))
+module _ (by : Option Call → List ℕ) where
+  -- Where what is printed for a call is told by the first 8,193 bytes of its text, `text=` and they are enough.
+  text-cut : (o : Operation) (c : AnyContext) → ((t : List ℕ) (n : ℕ) → 8193 ≤ n → by (some (calls o c (take n t))) ≡ by (some (calls o c t)))
+      → (s : List ℕ) (n : ℕ) → 8198 ≤ n → by (textOf o c (take n s)) ≡ by (textOf o c s)
+  text-cut o c cut s n h =
+      ap (λ (b : Bool). by (cond b (some (calls o c (drop 5 (take n s)))) none)) (stands-cut (ascii "text=") s n (omega arith)) ∙ go (stands (ascii "text=") s)
     where
-      go : (b : Bool) → size (line field l) ≤ most
-          → printedBy (onLabel field (take n s) k (first (λ (l : Label A). stands (line field l)) ls (take n s)))
-          ≡ printedBy (onLabel field s k (first (λ (l : Label A). stands (line field l)) ls s))
-          → printedBy (onLabel field (take n s) k (elim b [ true ↦ some l | false ↦ first (λ (l : Label A). stands (line field l)) ls (take n s) ]))
-          ≡ printedBy (onLabel field s k (elim b [ true ↦ some l | false ↦ first (λ (l : Label A). stands (line field l)) ls s ]))
-      go true z p =
-          ap (λ (x : List ℕ). printedBy (k (l .names) x)) (drop-cut (size (line field l)) n s (omega (arith, z, h)))
-          ∙ rest (l .names) (drop (size (line field l)) s) (n - size (line field l)) (omega (arith, z, h))
-      go false z p = p
+      go : (b : Bool) → by (cond b (some (calls o c (drop 5 (take n s)))) none) ≡ by (cond b (some (calls o c (drop 5 s))) none)
+      go true = ap (λ (x : List ℕ). by (some (calls o c x))) (drop-cut 5 n s (omega arith)) ∙ cut (drop 5 s) (n - 5) (omega arith)
+      go false = refl
+
+  module _ {A : Type 0} (field : List ℕ) (k : A → List ℕ → Option Call) (most m : ℕ)
+      (rest : (a : A) (s : List ℕ) (n : ℕ) → m ≤ n → by (k a (take n s)) ≡ by (k a s)) (s : List ℕ) (n : ℕ) (h : most + m ≤ n) where
+    -- A line before what is cut.
+    line-cut : (ls : List (Label A)) → T (all (λ (l : Label A). leb (size (line field l)) most) ls)
+        → by (onLabel field (take n s) k (first (λ (l : Label A). stands (line field l)) ls (take n s)))
+        ≡ by (onLabel field s k (first (λ (l : Label A). stands (line field l)) ls s))
+    line-cut [] t = refl
+    line-cut (l ∷ ls) t =
+        let z : size (line field l) ≤ most = leb→le (size (line field l)) most (and-left (leb (size (line field l)) most) (all (λ (l : Label A). leb (size (line field l)) most) ls) t) in
+        ap (λ (b : Bool). by (onLabel field (take n s) k (elim b [ true ↦ some l | false ↦ first (λ (l : Label A). stands (line field l)) ls (take n s) ])))
+        (stands-cut (line field l) s n (omega (arith, z, h)))
+        ∙ go (stands (line field l) s) z (line-cut ls (and-right (leb (size (line field l)) most) (all (λ (l : Label A). leb (size (line field l)) most) ls) t))
+      where
+        go : (b : Bool) → size (line field l) ≤ most
+            → by (onLabel field (take n s) k (first (λ (l : Label A). stands (line field l)) ls (take n s)))
+            ≡ by (onLabel field s k (first (λ (l : Label A). stands (line field l)) ls s))
+            → by (onLabel field (take n s) k (elim b [ true ↦ some l | false ↦ first (λ (l : Label A). stands (line field l)) ls (take n s) ]))
+            ≡ by (onLabel field s k (elim b [ true ↦ some l | false ↦ first (λ (l : Label A). stands (line field l)) ls s ]))
+        go true z p =
+            ap (λ (x : List ℕ). by (k (l .names) x)) (drop-cut (size (line field l)) n s (omega (arith, z, h)))
+            ∙ rest (l .names) (drop (size (line field l)) s) (n - size (line field l)) (omega (arith, z, h))
+        go false z p = p
+
+  -- From the line of the context on, the first 8,220 bytes are enough.
+  pub context-cut : (o : Operation) → ((c : AnyContext) (t : List ℕ) (n : ℕ) → 8193 ≤ n → by (some (calls o c (take n t))) ≡ by (some (calls o c t)))
+      → (s : List ℕ) (n : ℕ) → 8220 ≤ n → by (contextLine o (take n s)) ≡ by (contextLine o s)
+  context-cut o cut s n h = line-cut (ascii "context=") (textOf o) 22 8198 (λ c s n h. text-cut o c (cut c) s n h) s n h contextNames tt
 
 -- ---- the whole
 
 -- What comes after the first 8,230 bytes changes nothing.
 pub enough : (s : List ℕ) (n : ℕ) → 8230 ≤ n → entityOf (take n s) ≡ entityOf s
 unfolding entityOf
-enough s n h =
-    line-cut (ascii "op=") contextLine 10 8220
-    (λ o s n h. line-cut (ascii "context=") (textOf o) 22 8198 (λ c s n h. text-cut o c s n h) s n h contextNames tt) s n h operationNames tt
+enough s n h = line-cut printedBy (ascii "op=") contextLine 10 8220 (λ o s n h. context-cut printedBy o (call-cut o) s n h) s n h operationNames tt

@@ -11,9 +11,10 @@ use lib.Dec.{T, eqb}
 use lib.ListN.{length as size, take, drop, getD, length-append, length-drop, drop-of-length-le}
 use lib.Seq.{drop-cons, drop-drop, length-take-le}
 use Rattle.rules.specs.Bytes.{ascii, first, stands}
-use Rattle.rules.specs.Contexts.{Label, label, contextOf}
-use Rattle.rules.specs.Program.{line, textOf}
+use Rattle.rules.specs.Contexts.{Label, label, contextNames, contextOf}
+use Rattle.rules.specs.Program.{line, textOf, contextLine}
 use Rattle.rules.specs.declared.AnyContext.{AnyContext}
+use Rattle.rules.specs.declared.AnyContext.the-variants.{Unknown}
 use Rattle.rules.specs.declared.Operation.{Operation}
 use Rattle.rules.proofs.Tests.{stands-split}
 use Rattle.requests.specs.Asked.{asked}
@@ -192,3 +193,22 @@ no-text o n s e = rw e
 -- It does, and the call is that of the rest.
 pub some-text : (o : Operation) (number : ℕ) (s : List ℕ) → stands (ascii "text=") s ≡ true → textOf o (contextOf number) s ≡ some (asked o number (drop 5 s) 49152)
 some-text o number s e = rw e
+
+-- ---- the line of the context, and `text=` behind it
+
+module _ (o : Operation) (s : List ℕ) (j n : ℕ) (found : some (j, n) ≡ lineFound (ascii "context=") (nameLines contextNames) s) where
+  -- Behind the line something else stands: it is no request.
+  pub text-none : stands (ascii "text=") (drop n s) ≡ false → contextLine o s ≡ none
+  unfolding contextOf
+  text-none e = after-line (ascii "context=") s (textOf o) Unknown contextNames j n found ∙ no-text o (contextOf j) (drop n s) e
+
+  -- `text=` does, and the text is the rest.
+  pub text-some : stands (ascii "text=") (drop n s) ≡ true → contextLine o s ≡ some (asked o j (drop (n + 5) s) 49152)
+  unfolding contextOf
+  text-some e =
+      after-line (ascii "context=") s (textOf o) Unknown contextNames j n found ∙ some-text o j (drop n s) e
+      ∙ ap (λ (t : List ℕ). some (asked o j t 49152)) (drop-drop 5 n s)
+
+-- The text begins within the request.
+pub text-within : (s : List ℕ) (n : ℕ) → n ≤ size s → stands (ascii "text=") (drop n s) ≡ true → n + 5 ≤ size s
+text-within s n h e = let w : 5 ≤ size (drop n s) = stands-within (ascii "text=") (drop n s) e in omega (arith, h, w, length-drop n s)

@@ -6,13 +6,15 @@ use mathlib.Core.Path.{_≡_}
 use mathlib.Core.List.{List, [], _++_}
 use Prim.Native.Nat.{ℕ}
 use lib.Dec.{eqb}
-use lib.ListN.{length as size}
+use lib.ListN.{length as size, drop}
 use Rattle.rules.specs.Bytes.{ascii, over}
 use Rattle.rules.specs.Contexts.{contextOf}
 use Rattle.rules.specs.Refusals.{Call, refusal, answerAt, outAt, caseOf, movesIn}
 use Rattle.rules.specs.Program.{decimal, printed, printedCall}
 use Rattle.rules.specs.declared.Answer.{Answer}
 use Rattle.rules.specs.declared.Operation.{Operation}
+use Rattle.requests.specs.declared.lines.Line.{Line}
+use Rattle.requests.specs.declared.lines.Line.the-variants.{Names, Nothing}
 
 -- Room for every result of a request: six times its longest text.
 abbrev pub resultRoom : ℕ
@@ -37,6 +39,16 @@ replyRoom = 65536
 -- A copying call of an operation in the context of a number, on a text of at most 8,192 bytes, with an output of room bytes.
 abbrev pub asked : Operation → ℕ → List ℕ → ℕ → Call
 asked op number t room = record { operation = op; context = contextOf number; borrows = false; limit = 8192; text = t; room = room }
+
+-- The call of an operation that a request s asks for, where the reader of its header found the context's number and the place of the text.
+abbrev pub callAt : Operation → List ℕ → Line → Option Call
+callAt op s (Names number n) = some (asked op number (drop n s) resultRoom)
+callAt op s Nothing = none
+
+-- That place; the start where there is none.
+abbrev pub textStart : Line → ℕ
+textStart (Names number n) = n
+textStart Nothing = 0
 
 -- What the table answers to a call.
 abbrev pub answerTo : Call → Answer

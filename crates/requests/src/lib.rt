@@ -1,6 +1,6 @@
 // Requests to the program `entity`: reads the header lines, makes the call that they ask for, and writes the lines of the answer. `reply` does all of
 // it, in memory; crates/entity reads and prints the bytes. Which bytes are printed for a request is `entityOf` of crates/rules/specs/Program.antt.
-mod lines;
+pub mod lines;
 pub mod print;
 
 ghost use mathlib.Core.Bool.{true, false};
@@ -12,7 +12,7 @@ ghost use lib.ListN.{length, take};
 ghost use Rattle.rules.specs.Bytes.{over};
 ghost use Rattle.rules.specs.Contexts.{contextOf};
 ghost use Rattle.rules.specs.Refusals.{Allowed};
-ghost use Rattle.rules.specs.Program.{entityOf, requestOf, contextLine, textOf, printedCall};
+ghost use Rattle.rules.specs.Program.{entityOf, requestOf, contextLine, printedCall};
 ghost use Rattle.rules.specs.declared.Operation.the-variants.{Read};
 ghost use Rattle.requests.specs.Asked.{resultRoom, replyRoom, asked, answerTo, outputOf, refused, printedBy, Prints};
 use crate::lines::Line;
@@ -109,26 +109,15 @@ fn refuse(output: &mut [u8]) -> usize
     print::put_answer(frame::refusal(rules::BAD_REQUEST, 0, 0), output)
 }
 
-// Answers a request from `text=` on, behind the line of the context.
-fn with_text(operation: Operation, context: u32, rest: &[u8], output: &mut [u8]) -> usize
-    requires { ⌜ replyRoom ≤ length (now output) ⌝ }
-    ensures { λ r. ⌜ Prints (printedBy (textOf operation (contextOf context) (now (rest .entry)))) r (now (output .entry)) (now (output .exit)) ⌝ }
-{
-    if !base::prefix::starts(b"text=", rest) {
-        return refuse(output);
-    }
-    converse(operation, context, &rest[5..], output)
-}
-
 // Answers a request from the line of the context on.
 fn with_context(operation: Operation, rest: &[u8], output: &mut [u8]) -> usize
     requires { ⌜ replyRoom ≤ length (now output) ⌝ }
     ensures { λ r. ⌜ Prints (printedBy (contextLine operation (now (rest .entry)))) r (now (output .entry)) (now (output .exit)) ⌝ }
 {
-    let Line::Names(context, n) = lines::find_line(&labels::CONTEXT_NAMES, b"context=", rest) else {
+    let Line::Names(context, n) = lines::find_text(rest) else {
         return refuse(output);
     };
-    with_text(operation, context, &rest[n..], output)
+    converse(operation, context, &rest[n..], output)
 }
 
 // Answers a whole request, in an output that is long enough.

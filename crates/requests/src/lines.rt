@@ -4,7 +4,11 @@ ghost use mathlib.Core.Path.{_≡_};
 ghost use Prim.Native.Nat.{_+_, _≤_, _<_};
 ghost use lib.ListN.{length, drop};
 ghost use Rattle.rules.specs.Bytes.{stands};
+ghost use Rattle.rules.specs.Program.{contextLine};
+ghost use Rattle.rules.specs.declared.Operation.{Operation};
+ghost use Rattle.requests.specs.Asked.{callAt, textStart};
 ghost use Rattle.requests.specs.Lines.{linesOf, lineLength, lineFound, lineRead};
+use lintelrye::labels;
 
 // A header line: the number of the name that it has, and its length; or no such line.
 pub enum Line {
@@ -54,4 +58,17 @@ pub fn find_line(names: &[u8], field: &[u8], text: &[u8]) -> Line
         number += 1;
     }
     Line::Nothing
+}
+
+// Reads a request from the line of its context on: the number of the context, and where the text begins, behind `text=`; or it is no request.
+pub fn find_text(request: &[u8]) -> Line
+    ensures { λ r. ⌜ ((o : Operation) → callAt o (now (request .entry)) r ≡ contextLine o (now (request .entry))) × (textStart r ≤ length (now (request .entry))) ⌝ }
+{
+    let Line::Names(context, n) = find_line(&labels::CONTEXT_NAMES, b"context=", request) else {
+        return Line::Nothing;
+    };
+    if !base::prefix::starts(b"text=", &request[n..]) {
+        return Line::Nothing;
+    }
+    Line::Names(context, n + 5)
 }

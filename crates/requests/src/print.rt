@@ -42,6 +42,15 @@ pub fn put_number(name: &[u8], n: usize, output: &mut [u8]) -> usize
     at + put_digits(20, n, &mut output[at..])
 }
 
+// Writes `name`, a number in decimal and `end` to the start of `output` and returns how many bytes they are; the rest keeps its values.
+pub fn put_field(name: &[u8], n: usize, end: &[u8], output: &mut [u8]) -> usize
+    requires { ⌜ length (now name) + 20 + length (now end) ≤ length (now output) ⌝ }
+    ensures { λ r. ⌜ (r ≡ length (now (name .entry) ++ decimal n ++ now (end .entry))) × (now (output .exit) ≡ over (now (name .entry) ++ decimal n ++ now (end .entry)) (now (output .entry))) × (r ≤ length (now (name .entry)) + 20 + length (now (end .entry))) ⌝ }
+{
+    let at = put_number(name, n, output);
+    at + base::put(end, &mut output[at..])
+}
+
 // Writes the first three lines of an answer, without the last line end.
 fn put_first(answer: Answer, output: &mut [u8]) -> usize
     requires { ⌜ firstMost ≤ length (now output) ⌝ }

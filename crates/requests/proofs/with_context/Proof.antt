@@ -1,31 +1,21 @@
--- `with_context` meets its contract: the line is found, and the request goes on after it, or it is not. The table of names is that of the definitions, by
--- computation.
+-- `with_context` meets its contract: the call that the header asks for is made, or there is none.
 -- Assumes nothing.
 use mathlib.Core.Option.{Option}
 use mathlib.Core.Path.{sym, ap, _∙_, subst}
-use borrow.Author.Needs.{needs}
 use mathlib.Core.List.{List}
-use Prim.Native.Nat.{ℕ}
-use Rattle.rules.specs.Contexts.{contextNames, contextOf}
-use Rattle.rules.specs.Program.{textOf}
-use Rattle.rules.specs.declared.AnyContext.the-variants.{Unknown}
-use Rattle.rules.specs.Bytes.{ascii}
+use Prim.Native.Nat.{ℕ, _≤_}
+use borrow.Author.Needs.{needs}
+use lib.ListN.{length}
+use Rattle.rules.specs.Program.{printedCall}
 use Rattle.rules.specs.Refusals.{Call}
 use Rattle.base.proofs.Filled.{lent-rest}
-use Rattle.requests.specs.Asked.{printedBy, Prints}
-use Rattle.requests.specs.Lines.{linesOf, nameLines, lineRead}
-use Rattle.requests.proofs.Header.{line-within, no-line, after-line}
+use Rattle.requests.specs.Asked.{asked, callAt, textStart, printedBy, Prints}
+use Rattle.requests.specs.declared.lines.Line.{Line}
 use Rattle.requests.proofs.with_context.Statement.{statement}
 use Rattle.requests.proofs.with_context.Tie as tie
 
-slice-aggregate-find-line : tie.Need-slice-aggregate-find-line
-slice-aggregate-find-line c = search needs
-
-slice-aggregate-find-line-2 : tie.Need-slice-aggregate-find-line-2
-slice-aggregate-find-line-2 c = search needs
-
-find-line-requires : tie.Need-find-line-requires
-find-line-requires c κs = search needs
+find-text-requires : tie.Need-find-text-requires
+find-text-requires c κs = search needs
 
 enum-known-context : tie.Need-enum-known-context
 enum-known-context c = search needs
@@ -40,53 +30,51 @@ same-length : tie.Need-same-length
 same-length c = search needs
 
 returns : tie.Need-returns
-unfolding linesOf
-returns c = let a = c .before .before .before .before .before .before .before .before .before .before .before .args in
+returns c =
+    let a = c .before .before .before .before .before .before .before .before .before .args in
+    let f = c .before .before .before .before .before .before .find-text in
     let r = c .before .before .refuse in
     subst (λ (k : Option Call). Prints (printedBy k) (r .result) (a .output .now) (r .last .0))
-    (sym (no-line (ascii "context=") (a .rest .now) (textOf (a .operation)) Unknown contextNames (sym (ap lineRead (c .before .before .before .before .enum-told .given .1)) ∙ c .before .before .before .before .before .before .find-line .ensures))) (r .ensures)
+    (sym (ap (callAt (a .operation) (a .rest .now)) (c .before .before .before .before .enum-told .given .1)) ∙ f .ensures .0 (a .operation)) (r .ensures)
 
-sub-with-text : tie.Need-sub-with-text
-unfolding linesOf
-sub-with-text c = line-within (ascii "context=") (nameLines contextNames) (c .before .before .before .before .before .before .before .before .args .rest .now) _ _ (sym (ap lineRead (c .before .context .given .1)) ∙ c .before .before .before .find-line .ensures)
+sub-converse : tie.Need-sub-converse
+sub-converse c = subst (λ (l : Line). textStart l ≤ length (c .before .before .before .before .before .before .args .rest .now)) (c .before .context .given .1) (c .before .before .before .find-text .ensures .1)
 
-part-with-text-start : tie.Need-part-with-text-start
-unfolding linesOf
-part-with-text-start c = line-within (ascii "context=") (nameLines contextNames) (c .before .before .before .before .before .before .before .before .args .rest .now) _ _ (sym (ap lineRead (c .before .context .given .1)) ∙ c .before .before .before .find-line .ensures)
+part-converse-start : tie.Need-part-converse-start
+part-converse-start c = subst (λ (l : Line). textStart l ≤ length (c .before .before .before .before .before .before .args .rest .now)) (c .before .context .given .1) (c .before .before .before .find-text .ensures .1)
 
-part-with-text-end : tie.Need-part-with-text-end
-part-with-text-end c = search needs
+part-converse-end : tie.Need-part-converse-end
+part-converse-end c = search needs
 
-with-text-requires : tie.Need-with-text-requires
-with-text-requires c κs = search needs
+converse-requires : tie.Need-converse-requires
+converse-requires c κs = search needs
 
 same-length-2 : tie.Need-same-length-2
 same-length-2 c = search needs
 
 returns-2 : tie.Need-returns-2
-unfolding linesOf contextOf
-returns-2 c = let a = c .before .before .before .before .before .before .before .before .before .before .before .before .before .args in
-    let w = c .before .before .with-text in
-    let n = c .before .before .before .before .before .before .context .given .0 .1 .0 in
+returns-2 c =
+    let a = c .before .before .before .before .before .before .before .before .before .before .before .args in
+    let f = c .before .before .before .before .before .before .before .before .find-text in
+    let k = c .before .before .before .before .before .before .context .given in
+    let w = c .before .before .converse in
     subst (λ (k : Option Call). Prints (printedBy k) (w .result) (a .output .now) (w .last .1 .1 .1 .0))
-    (sym (after-line (ascii "context=") (a .rest .now) (textOf (a .operation)) Unknown contextNames _ n (sym (ap lineRead (c .before .before .before .before .before .before .context .given .1)) ∙ c .before .before .before .before .before .before .before .before .find-line .ensures)))
-    (subst (λ (t : List ℕ). Prints (printedBy (textOf (a .operation) (contextOf (c .before .before .before .before .before .before .context .given .0 .0)) t)) (w .result) (a .output .now) (w .last .1 .1 .1 .0)) (lent-rest n (a .rest .now)) (w .ensures))
+    (sym (ap (callAt (a .operation) (a .rest .now)) (k .1)) ∙ f .ensures .0 (a .operation))
+    (subst (λ (t : List ℕ). Prints (printedCall (asked (a .operation) (k .0 .0) t 49152)) (w .result) (a .output .now) (w .last .1 .1 .1 .0)) (lent-rest (k .0 .1 .0) (a .rest .now)) (w .ensures))
 
 pub with-context-spec : {M : Type 1} → statement M
 with-context-spec =
     tie.close
     (tie.spec
-    slice-aggregate-find-line
-    slice-aggregate-find-line-2
-    find-line-requires
+    find-text-requires
     enum-known-context
     enum-told
     refuse-requires
     same-length
     returns
-    sub-with-text
-    part-with-text-start
-    part-with-text-end
-    with-text-requires
+    sub-converse
+    part-converse-start
+    part-converse-end
+    converse-requires
     same-length-2
     returns-2)

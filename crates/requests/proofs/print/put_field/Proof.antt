@@ -8,10 +8,10 @@ use lib.ListN.{length-append}
 use Rattle.rules.specs.Program.{decimal}
 use Rattle.base.proofs.Filled.{filled-put}
 use Rattle.base.proofs.Counted.{filled-all}
 use Rattle.requests.proofs.Digits.{digits-length}
 use Rattle.requests.proofs.Parted.{filled-first, last-part}
-use Rattle.reports.proofs.put_field.Statement.{statement}
-use Rattle.reports.proofs.put_field.Tie as tie
+use Rattle.requests.proofs.print.put_field.Statement.{statement}
+use Rattle.requests.proofs.print.put_field.Tie as tie
 
 put-number-requires : tie.Need-put-number-requires
 put-number-requires c κs = search needs

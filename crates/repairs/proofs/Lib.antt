@@ -1,0 +1,5 @@
+pub mod Peeling
+pub mod Undo
+pub mod Mending
+pub mod Enough
+pub mod Edges
