@@ -58,7 +58,7 @@ def predict(place, expected):
 def check_context(tally, library, work, context, typed):
     """Encodes texts in one context, shows each in all of the context's places, and compares."""
     places = [place for place in PLACES if place.context == context]
-    written = [library.call('encode', context, [place.source(text).encode() for text in typed]) for place in places]
+    written = [place.written(library, typed) for place in places]
     body = b''.join(place.write(i, column[i] or b'') for i in range(len(typed)) for place, column in zip(places, written))
     columns, counts = seen(work, context, places, len(typed), body)
     for place, column, held in zip(places, written, columns):

@@ -17,6 +17,16 @@ const titleAt = (letter, i) => at(letter, i).attributes.length !== 2 || at(lette
 // All attributes of an element, in their order.
 const attributesOf = element => [...element.attributes].map(a => a.name + '=' + a.value).join(' ');
 
+// What the handler of a button calls when it is clicked, and the text that it gives. The button has no attributes but its id and its handler.
+let heard;
+const landing = text => { heard = text; };
+const clicked = (letter, i) => {
+    const button = at(letter, i);
+    heard = undefined;
+    button.click();
+    return button.attributes.length !== 2 || button.firstChild ? null : heard;
+};
+
 const hex = text => {
     let digits = '';
     for (let k = 0; k < text.length; k += 1) digits += text.charCodeAt(k).toString(16).padStart(4, '0');

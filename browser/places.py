@@ -39,6 +39,10 @@ class Place:
         self.context, self.name, self.markup, self.reader, self.kinds = context, name, markup, reader, kinds
         self.source, self.expected, self.undo = source, expected, undo
 
+    def written(self, library, texts):
+        """What the library writes for each text."""
+        return library.call('encode', self.context, [self.source(text).encode() for text in texts])
+
     def write(self, i, written):
         """The markup for text number i."""
         return self.markup.encode().replace(b'{i}', b'%d' % i).replace(b'{e}', written)
@@ -46,6 +50,23 @@ class Place:
     def elements(self):
         """How many elements the markup has."""
         return len(re.findall('<[a-z]', self.markup))
+
+
+class Event(Place):
+    """A button whose handler calls `landing` with a script string: the text is written by the inner context, and the whole handler by the outer one. Of a
+    long text the first 8,000 characters are taken, so that the handler is within the limit of a text."""
+    def __init__(self, outer, around, inner, quote):
+        letter = 'e%s%s' % ({'"': 'd', "'": 's', '': 'u'}[around], {'"': 'd', "'": 's'}[quote])
+        letter += 'b' if inner == 'script_quoted' else ''
+        name = 'onclick%s, %s %s' % (' in ' + around if around else '', inner, quote)
+        super().__init__(outer, name, '<button id=%s{i} onclick=%s{e}%s></button>' % (letter, around, around), "clicked('%s', i)" % letter, [],
+                         source=lambda text: text[:8000], expected=lambda text, _: text[:8000])
+        self.inner, self.quote = inner, quote.encode()
+
+    def written(self, library, texts):
+        """What the library writes for each text by two calls, the inner one first."""
+        strings = library.call('encode', self.inner, [self.source(text).encode() for text in texts])
+        return library.call('encode', self.context, [b'landing(' + self.quote + (string or b'') + self.quote + b')' for string in strings])
 
 
 def style_string(serialized):
@@ -82,6 +103,13 @@ def in_style(context, quote):
                   "getComputedStyle(at('%s', i), '::before').content" % letter, [NUL_STYLE], undo=style_string)]
 
 
+def in_events():
+    """Every kind of attribute with every kind of script string: the twelve pairs of contexts, those for either quote with each quote."""
+    return [Event(outer, around, inner, quote)
+            for outer, around in (('double_quoted', '"'), ('single_quoted', "'"), ('quoted', '"'), ('quoted', "'"), ('unquoted', ''))
+            for inner, quote in (('script_single', "'"), ('script_double', '"'), ('script_quoted', "'"), ('script_quoted', '"'))]
+
+
 PLACES = [
     in_text('text_minimal'),
     in_text('text'),
@@ -113,4 +141,5 @@ PLACES = [
           expected=lambda _, written: written),
     Place('script_raw', 'what follows it', '', "at('r', i).nextSibling.data", [], expected=lambda _text, _written: 'after'),
     Place('script_raw', 'run, in a string', '<script>V[2 * {i}] = {e};</script>', 'V[2 * i]', [], source=lambda text: json.dumps(text, ensure_ascii=False)),
+    *in_events(),
 ]

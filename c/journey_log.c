@@ -1,6 +1,6 @@
 /* Fills one page of a lift's journey log into one fixed buffer and prints it. The names of the landings are typed by the people who live there, so
- * each is encoded for the context of its place: an attribute, element text, a script string. All forty fields of the page are encoded in one
- * call, with one answer to look at. A line that no longer fits is left out whole, and the page says so. */
+ * each is encoded for the context of its place: an attribute, element text, a script string, and a script string inside an event attribute, which takes two
+ * calls, the inner one first. All forty-eight fields of the page are encoded in one call, with one answer to look at. A line that no longer fits is left out whole, and the page says so. */
 #include <stdbool.h>
 #include <stdio.h>
 #include <string.h>
@@ -25,7 +25,7 @@ static const struct journey journeys[] = {
 };
 
 /* The page, and how much of it is written and may be written. The last bytes are kept for its end, which must always fit. */
-enum { PAGE = 832, END = 72 };
+enum { PAGE = 1200, END = 72 };
 
 struct page {
     uint8_t bytes[PAGE];
@@ -46,8 +46,8 @@ static bool put(struct page *page, const char *words)
 }
 
 /* The fields of a line in the order in which they stand in it, and all fields of the page: each names its part of the one text. */
-enum { TITLE, TIME, NAME, EVENT, SCRIPT, IN_LINE };
-enum { LINES = sizeof journeys / sizeof journeys[0], FIELDS = LINES * IN_LINE, TEXT = 512, RESULTS = 1024 };
+enum { TITLE, TIME, NAME, EVENT, SCRIPT, HANDLER, IN_LINE };
+enum { LINES = sizeof journeys / sizeof journeys[0], FIELDS = LINES * IN_LINE, TEXT = 1024, RESULTS = 1536 };
 
 struct log {
     uint8_t text[TEXT];
@@ -72,6 +72,19 @@ static void add(struct log *log, uint32_t context, const char *text)
     }
 }
 
+/* Adds the handler of a button, a script that has a name in a string: the name is written for the string here, and the whole handler for the attribute
+ * with the other fields. A name that is too long for it gets a handler that does nothing. */
+static void add_handler(struct log *log, const char *name)
+{
+    static const char before[] = "call('", after[] = "')";
+    char handler[96];
+    size_t used = sizeof before - 1;
+    lintelrye_answer inner = lintelrye_encode(LINTELRYE_SCRIPT_SINGLE, (const uint8_t *)name, strlen(name), (uint8_t *)handler + used, sizeof handler - used - sizeof after);
+    memcpy(handler, before, used);
+    memcpy(handler + used + inner.length * (inner.status == LINTELRYE_PASSED), after, sizeof after);
+    add(log, LINTELRYE_DOUBLE_QUOTED, inner.status == LINTELRYE_PASSED ? handler : "");
+}
+
 /* Adds the fields of a journey's line. */
 static void add_journey(struct log *log, const struct journey *journey)
 {
@@ -80,6 +93,7 @@ static void add_journey(struct log *log, const struct journey *journey)
     add(log, LINTELRYE_TEXT, journey->landing);
     add(log, LINTELRYE_TEXT, journey->event);
     add(log, LINTELRYE_SCRIPT_SINGLE, journey->landing);
+    add_handler(log, journey->landing);
 }
 
 /* Appends the result of a field. Leaves the page as it was where it does not fit. */
@@ -100,7 +114,8 @@ static bool put_line(struct page *page, const struct log *log, const lintelrye_f
     size_t before = page->used;
     bool whole = put(page, "<li title=\"") && put_field(page, log, &line[TITLE]) && put(page, "\">") && put_field(page, log, &line[TIME]) &&
                  put(page, " ") && put_field(page, log, &line[NAME]) && put(page, ": ") && put_field(page, log, &line[EVENT]) &&
-                 put(page, "<script>landing('") && put_field(page, log, &line[SCRIPT]) && put(page, "')</script></li>\n");
+                 put(page, "<script>landing('") && put_field(page, log, &line[SCRIPT]) && put(page, "')</script> <button onclick=\"") &&
+                 put_field(page, log, &line[HANDLER]) && put(page, "\">call</button></li>\n");
     if (!whole) {
         page->used = before;
     }

@@ -19,7 +19,8 @@
  * Escaping depends on the place: choose the context of the place where the result goes. No context makes a text safe in a URL, in CSS or script
  * outside a string, in a comment, or as the name of a tag or attribute. LINTELRYE_SAFE is no sanitizer: like LINTELRYE_QUOTED it is right between tags
  * and in attributes with quotes, and nowhere else.
- * For a script string in an attribute, such as onclick="f('HERE')", encode by SCRIPT_SINGLE and then the result of that by DOUBLE_QUOTED.
+ * For a script string in an attribute, such as onclick="f('HERE')": inner context first, then the outer one. Encode the name by SCRIPT_SINGLE, put f(' and
+ * ') around the result, and encode that whole handler by DOUBLE_QUOTED (c/event_button.c). The other order lets a quote in the name end the string.
  *
  * lintelrye_fill_page fills a whole page: it makes the copying call of encode for each record of a list, and writes the results one behind the other.
  *

@@ -3,6 +3,8 @@
 
 pub mod model;
 #[cfg(feature = "archive")]
+pub mod nested;
+#[cfg(feature = "archive")]
 pub mod parts;
 
 use std::borrow::Cow;

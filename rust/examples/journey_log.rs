@@ -1,6 +1,6 @@
 //! Fills one page of a lift's journey log into one fixed buffer and prints it. The names of the landings are typed by the people who live there, so
-//! each is encoded for the context of its place: an attribute, element text, a script string. All forty fields of the page are encoded in one
-//! call, with one answer to look at. A line that no longer fits is left out whole, and the page says so. c/journey_log.c prints the same page.
+//! each is encoded for the context of its place: an attribute, element text, a script string, and a script string inside an event attribute, which takes
+//! two calls, the inner one first. All forty-eight fields of the page are encoded in one call, with one answer to look at. A line that no longer fits is left out whole, and the page says so. c/journey_log.c prints the same page.
 use lintelrye::{Context, Field, Refusal};
 use std::io::Write;
 
@@ -26,17 +26,26 @@ const JOURNEYS: [Journey; 8] = [
 ];
 
 /// The page's length, and how much of it is kept for its end, which must always fit.
-const PAGE: usize = 832;
+const PAGE: usize = 1200;
 const END: usize = 72;
 
-/// The fields of a line in the order in which they stand in it: the landing as a title, the time, the landing as text, the event, and the landing in a
-/// script string.
-const IN_LINE: usize = 5;
-const CONTEXTS: [Context; IN_LINE] = [Context::DoubleQuoted, Context::Text, Context::Text, Context::Text, Context::ScriptSingle];
+/// The fields of a line in the order in which they stand in it: the landing as a title, the time, the landing as text, the event, the landing in a script
+/// string, and the handler of a button.
+const IN_LINE: usize = 6;
+const CONTEXTS: [Context; IN_LINE] =
+    [Context::DoubleQuoted, Context::Text, Context::Text, Context::Text, Context::ScriptSingle, Context::DoubleQuoted];
+
+/// The handler of a button, a script that has a name in a string: the name is written for the string here, and the whole handler for the attribute with the
+/// other fields. A name that is too long for it gets a handler that does nothing.
+fn handler(name: &str) -> String {
+    let mut string = [0; 87];
+    lintelrye::encode(Context::ScriptSingle, name, &mut string).map_or(String::new(), |string| format!("call('{}')", string))
+}
 
 /// The fields of a journey's line, their texts behind those that stand in `text` already.
 fn add_journey(journey: &Journey, text: &mut String, fields: &mut Vec<Field>) {
-    let texts = [journey.landing, journey.time, journey.landing, journey.event, journey.landing];
+    let handler = handler(journey.landing);
+    let texts = [journey.landing, journey.time, journey.landing, journey.event, journey.landing, &handler];
     for (context, part) in CONTEXTS.into_iter().zip(texts) {
         fields.push(Field::new(context, text.len(), part.len()));
         text.push_str(part);
@@ -74,7 +83,9 @@ impl Page {
         self.put(&line[3].result(results)?)?;
         self.put("<script>landing('")?;
         self.put(&line[4].result(results)?)?;
-        self.put("')</script></li>\n")
+        self.put("')</script> <button onclick=\"")?;
+        self.put(&line[5].result(results)?)?;
+        self.put("\">call</button></li>\n")
     }
 
     /// Appends a line. Where a part of it does not fit or was refused, the line is left out whole.
@@ -89,7 +100,7 @@ impl Page {
 }
 
 fn main() {
-    let (mut text, mut fields, mut results) = (String::new(), Vec::new(), [0; 1024]);
+    let (mut text, mut fields, mut results) = (String::new(), Vec::new(), [0; 1536]);
     for journey in &JOURNEYS {
         add_journey(journey, &mut text, &mut fields);
     }

@@ -95,7 +95,7 @@ impl std::error::Error for Refusal {}
 /// A result, and how many places were replaced: what a `Cow` is in html-escape. It can be used as a `&str`, and be given to the next call.
 ///
 /// ```
-/// // A script string in an attribute: onclick="greet('HERE')"
+/// // A script string in an attribute: onclick="greet('HERE')". Between double quotes greet(' and ') are copied, so the name can be written alone.
 /// let (mut inner, mut outer) = ([0; 64], [0; 64]);
 /// let string = lintelrye::encode_script_single_quoted_text("Dad's \"den\"", &mut inner)?;
 /// let attribute = lintelrye::encode_double_quoted_attribute(&string, &mut outer)?;

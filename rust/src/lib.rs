@@ -34,12 +34,26 @@
 //! | `<style>a::before{content:"HERE"}</style>` | [`StyleDouble`](Context::StyleDouble) | [`encode_style_double_quoted_text`] |
 //! | in a style string with either kind of quotes | [`StyleQuoted`](Context::StyleQuoted) | [`encode_style_quoted_text`] |
 //! | `<script>HERE</script>`: the whole text of the element, in one call or by a [`ScriptEncoder`] | [`ScriptRaw`](Context::ScriptRaw) | [`encode_script`] |
-//! | `onclick="f('HERE')"` | `ScriptSingle`, and the result of that by `DoubleQuoted` | both functions |
+//! | `onclick="f('HERE')"` | `ScriptSingle` for the name, then `DoubleQuoted` for the whole handler | both functions, see below |
 //! | a URL, CSS or script outside a string, a comment, a tag or attribute name | none: no context makes that safe | none |
 //!
 //! `safe` is not a sanitizer: it is `quoted` with one more character, right between tags and in attributes with quotes, and nowhere else.
 //! `encode_script` is no JSON encoder.
 //! In a style string a NUL becomes U+FFFD, so a text with NUL is not given back.
+//!
+//! # Names inside event attributes
+//!
+//! A handler has a script string inside an attribute: the inner context is written first, then the outer one, and the whole handler is the text of the
+//! attribute. The other order lets a quote in the name end the string. The two decoders, the outer one first, give every text back, by proof.
+//!
+//! ```
+//! let (mut string, mut attribute) = ([0; 64], [0; 128]);
+//! let name = lintelrye::encode_script_single_quoted_text("Dad's \"den\"", &mut string)?;
+//! let handler = format!("greet('{}')", name);
+//! let written = lintelrye::encode_double_quoted_attribute(&handler, &mut attribute)?;
+//! assert_eq!(written, "greet('Dad\\'s &quot;den&quot;')");
+//! # Ok::<(), lintelrye::Refusal>(())
+//! ```
 //!
 //! # Script text that others wrote
 //!

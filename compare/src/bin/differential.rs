@@ -2,12 +2,14 @@
 //!   compare/run differential [--crate PATH] [--cases N] [--pages N] [--seed S]
 //! A case is a text in an operation and a context; it makes the copying and the borrowing call, each with one length of the output out of seven
 //! around the result's. The seven numbers, every byte written and every byte that is to stay are compared with what compare/src/model.rs works out
-//! from the crate. Beside each call of read the check is made and compared, whatever the output. A text that differs is made as short as it can be and
-//! printed. Then pages of such texts, a hundred thousand unless another number is given: the call on the whole list against single calls that the model
-//! makes, in every number of every record and every byte of the output and behind it. Then texts of script_raw are given in parts, cut at random, one text
-//! for each twenty cases (compare/src/parts.rs). The exit status is 1 where anything differs.
+//! from the crate. Beside each call of read the check is made and compared, whatever the output. A text that is encoded as a script string is also
+//! written into an attribute and read back (compare/src/nested.rs). A text that differs is made as short as it can be and printed. Then pages of such
+//! texts, a hundred thousand unless another number is given: the call on the whole list against single calls that the model makes, in every number of
+//! every record and every byte of the output and behind it. Then texts of script_raw are given in parts, cut at random, one text for each twenty cases
+//! (compare/src/parts.rs). The exit status is 1 where anything differs.
 
 use compare::model::{has_context, Model, Outcome, CUT_SHORT, LONGEST, NOT_UTF8, PASSED};
+use compare::nested::{self, ATTRIBUTES, STRINGS};
 use compare::{call, check, fill_page, parts, Answer, Checked, Field, Filled, Numbers, Operation, CONTEXTS, CRATE_LENDING_DECODERS, CRATE_LENDING_ENCODERS, OPERATIONS};
 use std::time::{Duration, Instant};
 
@@ -299,6 +301,7 @@ struct Run {
     cut_short: u64,
     read_back: u64,
     as_decoded: u64,
+    nested: u64,
     shown: Vec<(Operation, u32, Vec<u8>)>,
 }
 
@@ -342,6 +345,18 @@ impl Run {
         if differs {
             self.differ[operation as usize][slot] += 1;
             self.show(operation, context, text);
+        } else if operation == Operation::Encode && outcome.status == PASSED && STRINGS.contains(&context) {
+            self.nest(context, text);
+        }
+    }
+
+    /// The text as a script string in an event attribute, in one of the four contexts of an attribute.
+    fn nest(&mut self, inner: u32, text: &[u8]) {
+        let outer = *self.texts.numbers.one_of(&ATTRIBUTES);
+        self.nested += 1;
+        if let Some(fault) = nested::fault(outer, inner, std::str::from_utf8(text).unwrap()) {
+            self.differ[Operation::Encode as usize][inner as usize] += 1;
+            println!("differs: {} inside {}, text \"{}\": {}", context_name(inner), context_name(outer), readable(text), fault);
         }
     }
 
@@ -395,6 +410,7 @@ impl Run {
         let taken: u64 = self.cases[Operation::Read as usize].iter().sum();
         println!("beside each of the {} calls of read the check was made, and compared in status, length and place;", 2 * taken);
         println!("read with the units that the crate's encoders write, and {} times the crate wrote what was read back to the same text;", self.read_back);
+        println!("{} texts were written as a script string into an attribute, as the crate writes them, and read back by decode and by take;", self.nested);
         println!("browse with RULES 10.5 for numbers and the crate's decode of names, and {} times with the crate's decode alone", self.as_decoded);
     }
 }
@@ -440,7 +456,7 @@ fn main() {
     let cases = option("--cases", 10_000_000);
     let seed = option("--seed", 1);
     let texts = Texts { numbers: Numbers(seed) };
-    let mut run = Run { model: Model::new(), texts, cases: [[0; 15]; 4], differ: [[0; 15]; 4], passed: 0, broken: 0, cut_short: 0, read_back: 0, as_decoded: 0, shown: Vec::new() };
+    let mut run = Run { model: Model::new(), texts, cases: [[0; 15]; 4], differ: [[0; 15]; 4], passed: 0, broken: 0, cut_short: 0, read_back: 0, as_decoded: 0, nested: 0, shown: Vec::new() };
     let mut told = Instant::now();
     while run.ran() < cases {
         for _ in 0..256 {

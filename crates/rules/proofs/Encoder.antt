@@ -37,7 +37,7 @@ lead-stops (x ∷ k) v y s l t h = T-not (isTail x) l (subst (λ (z : ℕ). T (i
 
 -- ---- texts one after the other
 
-join-append : (cs ds : List (List ℕ)) → join (cs ++ ds) ≡ join cs ++ join ds
+pub join-append : (cs ds : List (List ℕ)) → join (cs ++ ds) ≡ join cs ++ join ds
 join-append [] ds = refl
 join-append (a ∷ cs) ds = ap (λ (s : List ℕ). a ++ s) (join-append cs ds) ∙ sym (append-assoc a (join cs) (join ds))
 

@@ -131,7 +131,7 @@ module _ (c : Context) where
   both-hold [] g b = tt
   both-hold (u ∷ us) g b = ((g .0, b .0), both-hold us (g .1) (b .1))
 
-  unread-undecoded : (a : List ℕ) → In a (unread c) → In a (undecoded c)
+  pub unread-undecoded : (a : List ℕ) → In a (unread c) → In a (undecoded c)
   unread-undecoded a i = same-in a (undecoded c)
       (all-in (λ (a : List ℕ). any (sameBytes a) (undecoded c)) (unread c) (every (λ (c : Context). all (λ (a : List ℕ). any (sameBytes a) (undecoded c)) (unread c)) tt c) a i)
 

@@ -41,3 +41,5 @@ pub mod Parts
 pub mod StreamEdges
 pub mod Pages
 pub mod PageEdges
+pub mod Append
+pub mod Nested

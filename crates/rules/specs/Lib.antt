@@ -24,3 +24,4 @@ pub mod Stream
 pub mod StreamEdges
 pub mod Pages
 pub mod PageEdges
+pub mod Nested

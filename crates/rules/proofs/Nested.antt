@@ -1,0 +1,166 @@
+-- Two contexts, one inside the other: outer decode gives back what the inner one wrote, since nothing in it is lost outside.
+-- Assumes nothing.
+use mathlib.Core.Bool.{Bool, true, not, _&&_}
+use mathlib.Core.Logic.{_↔_, inl}
+use mathlib.Core.Path.{_≡_, refl, sym, ap, _∙_, subst}
+use mathlib.Core.List.{List, [], _∷_, _++_}
+use Prim.Native.Nat.{ℕ, _<_}
+use native.Mathlib.Omega.{arith}
+use borrow.Author.Tests.{le-leb}
+use lib.Dec.{T, ltb, eqb, ltb→lt, T-not}
+use lib.ListN.{length}
+use Rattle.rules.specs.Bytes.{ascii, In, All, all, any, only, join, sameBytes}
+use Rattle.rules.specs.Moves.{Move, keep, swap, leave, stop, taken}
+use Rattle.rules.specs.Utf8.{IsChar, IsText, IsFree}
+use Rattle.rules.specs.Tables.{Row, value, rows, replacedChars}
+use Rattle.rules.specs.Units.{IsRun, IsForm, unread, undecoded}
+use Rattle.rules.specs.Operations.{decodeStep, encodeOf, decodeOf, readOf, readTo}
+use Rattle.rules.specs.Encoding.{encodeStep}
+use Rattle.rules.specs.Reading.{readStep}
+use Rattle.rules.specs.Names.{names}
+use Rattle.rules.specs.References.{referenceStep}
+use Rattle.rules.specs.Nested.{nestedOf, IsNested, givesBack, hides, spares, carries, eventAttributes, eventStrings, nests, nestsAs, otherOrder}
+use Rattle.rules.specs.declared.Html.{Html}
+use Rattle.rules.specs.declared.Html.the-variants.{SingleQuoted}
+use Rattle.rules.specs.declared.Quotes.{Quotes}
+use Rattle.rules.specs.declared.Quotes.the-variants.{Single}
+use Rattle.rules.specs.declared.Context.{Context}
+use Rattle.rules.specs.declared.Context.the-variants.{InHtml, InScript}
+use Rattle.rules.proofs.Tests.{and-left, and-right, all-in, same-in, in-same}
+use Rattle.rules.proofs.Every.{contexts}
+use Rattle.rules.proofs.Encoder.{text-append}
+use Rattle.rules.proofs.Laws.{encode-any, form-text, form-free, read-encode, encode-read, decode-encode, unread-undecoded}
+use Rattle.rules.proofs.Append.{free-append, encode-texts}
+
+-- ---- texts without certain characters
+
+-- Without more of them, without fewer.
+free-fewer : (bad few : List (List ℕ)) → ((a : List ℕ) → In a few → In a bad) → (s : List ℕ) → IsFree bad s → IsFree few s
+free-fewer bad few sub s f =
+    let (cs, h, g, e) = f in
+    (cs, h, go cs g, e)
+  where
+    go : (cs : List (List ℕ)) → All (λ (a : List ℕ). In a bad → ⊥) cs → All (λ (a : List ℕ). In a few → ⊥) cs
+    go [] g = tt
+    go (a ∷ cs) g = ((λ i. g .0 (sub a i)), go cs (g .1))
+
+free-text : (bad : List (List ℕ)) (t : List ℕ) → IsFree bad t → IsText t
+free-text bad t f = let (cs, h, g, e) = f in (cs, h, e)
+
+ascii-char : (b : ℕ) → b < 128 → IsChar (b ∷ [])
+ascii-char b h =
+    let p = le-leb 0 b (omega arith) in
+    let q = le-leb b 127 (omega arith) in
+    ((0x00, 0x7F) ∷ [], inl refl, subst T (sym (λ i. (p i && q i) && true)) tt, refl)
+
+module _ (o : Context) where
+  -- Bytes that a context gives back one by one are such a text.
+  given-free : (v : List ℕ) → T (all (givesBack o) v) → IsFree (undecoded o) v
+  given-free [] t = ([], tt, tt, refl)
+  given-free (b ∷ v) t =
+      let one = and-left (givesBack o b) (all (givesBack o) v) t in
+      let low = and-left (ltb b 128) (not (any (sameBytes (b ∷ [])) (undecoded o))) one in
+      let away = and-right (ltb b 128) (not (any (sameBytes (b ∷ [])) (undecoded o))) one in
+      let (cs, h, f, e) = given-free v (and-right (givesBack o b) (all (givesBack o) v) t) in (
+        (b ∷ []) ∷ cs,
+        (ascii-char b (ltb→lt b 128 low), h),
+        ((λ i. T-not (any (sameBytes (b ∷ [])) (undecoded o)) away (in-same (b ∷ []) (undecoded o) i)), f),
+        ap (λ (s : List ℕ). b ∷ s) e,
+      )
+
+-- ---- a pair of contexts, of which the outer one carries the inner one
+
+module _ (o i : Context) (fits : T (carries o i)) where
+  hidden : (a : List ℕ) → In a (undecoded o) → In a (replacedChars i)
+  hidden a j = same-in a (replacedChars i) (all-in (λ (a : List ℕ). any (sameBytes a) (replacedChars i)) (undecoded o) (and-left (hides o i) (spares o i) fits) a j)
+
+  spared : (row : Row) → In row (rows i) → IsFree (undecoded o) (value row)
+  spared row j = given-free o (value row) (all-in (λ (row : Row). all (givesBack o) (value row)) (rows i) (and-right (hides o i) (spares o i) fits) row j)
+
+  -- What a run of the inner units takes has no character that outer decode does not give back.
+  run-carried : (us : List Move) → IsRun i us → IsFree (undecoded o) (taken us)
+  run-carried [] g = ([], tt, tt, refl)
+  run-carried (keep a ∷ us) g =
+      let (cs, h, f, e) = run-carried us (g .1) in
+      (a ∷ cs, (g .0 .0, h), ((λ j. g .0 .1 (hidden a j)), f), ap (λ (s : List ℕ). a ++ s) e)
+  run-carried (swap v k ∷ us) g = free-append (undecoded o) v (taken us) (spared (k, v) (g .0)) (run-carried us (g .1))
+  run-carried (leave r a ∷ us) g = absurd (g .0)
+  run-carried (stop ∷ us) g = absurd (g .0)
+
+  -- Nor has what the inner context writes.
+  pub inner-carried : (t : List ℕ) → IsText t → IsFree (undecoded o) (encodeOf i t)
+  inner-carried t h = let (us, g, e) = encode-any i t h in subst (IsFree (undecoded o)) (sym e) (run-carried us g)
+
+  -- Nor one that no outer form stands for.
+  pub inner-read : (t : List ℕ) → IsText t → IsFree (unread o) (encodeOf i t)
+  inner-read t h = free-fewer (undecoded o) (unread o) (unread-undecoded o) (encodeOf i t) (inner-carried t h)
+
+  -- Outer decode and then inner decode give the text back.
+  pub nested-decode : (t : List ℕ) → IsFree (undecoded i) t → decodeOf i (decodeOf o (nestedOf o i t)) ≡ t
+  nested-decode t f = ap (decodeOf i) (decode-encode o (encodeOf i t) (inner-carried t (free-text (undecoded i) t f))) ∙ decode-encode i t f
+
+  -- What the outer reader gives of a double form is the inner form.
+  pub nested-inner : (t : List ℕ) → IsText t → readOf o (nestedOf o i t) ≡ encodeOf i t
+  nested-inner t h = read-encode o (encodeOf i t) (inner-read t h)
+
+  -- The strict readers, outer and then inner, give the text back too.
+  pub nested-read : (t : List ℕ) → IsFree (unread i) t → readOf i (readOf o (nestedOf o i t)) ≡ t
+  nested-read t f = ap (readOf i) (nested-inner t (free-text (unread i) t f)) ∙ read-encode i t f
+
+  -- A string is a double form exactly if the outer strict reader accepts it and the inner one accepts what that gives.
+  pub nested-form : (s : List ℕ) → IsNested o i s ↔ (IsForm o s × IsForm i (readOf o s))
+  nested-form s = (
+    λ w. let (t, h, e) = w in (
+      subst (IsForm o) (sym e) (encode-any o (encodeOf i t) (form-text i (encodeOf i t) (encode-any i t h))),
+      subst (IsForm i) (sym (ap (readOf o) e ∙ nested-inner t h)) (encode-any i t h),
+    ),
+    λ w. let (f, g) = w in (
+      readOf i (readOf o s),
+      free-text (unread i) (readOf i (readOf o s)) (form-free i (readOf o s) g),
+      sym (encode-read o s f) ∙ ap (encodeOf o) (sym (encode-read i (readOf o s) g)),
+    ),
+  )
+
+  -- Script around the inner form: the handler, written as one text of the outer context, is written part by part,
+  pub handler-parts : (before t after : List ℕ) → IsText before → IsText t → IsText after
+      → encodeOf o (before ++ (encodeOf i t ++ after)) ≡ encodeOf o before ++ (nestedOf o i t ++ encodeOf o after)
+  handler-parts before t after p h q =
+      let inner = form-text i (encodeOf i t) (encode-any i t h) in
+      encode-texts o before (encodeOf i t ++ after) p (text-append (encodeOf i t) after inner q)
+      ∙ ap (λ (s : List ℕ). encodeOf o before ++ s) (encode-texts o (encodeOf i t) after inner q)
+
+  -- and outer decode gives the whole handler back.
+  pub handler-back : (before t after : List ℕ) → IsFree (undecoded o) before → IsText t → IsFree (undecoded o) after
+      → decodeOf o (encodeOf o (before ++ (encodeOf i t ++ after))) ≡ before ++ (encodeOf i t ++ after)
+  handler-back before t after p h q =
+      decode-encode o (before ++ (encodeOf i t ++ after))
+      (free-append (undecoded o) before (encodeOf i t ++ after) p (free-append (undecoded o) (encodeOf i t) after (inner-carried t h) q))
+
+-- ---- which pairs carry
+
+-- Script strings in event attributes do, all twelve.
+pub events-carry : T (all (λ (h : Html). all (λ (q : Quotes). carries (InHtml h) (InScript q)) eventStrings) eventAttributes)
+events-carry = tt
+
+-- And each of their texts comes back: no character is one that decode of a script string does not give back.
+pub events-all : (q : Quotes) → undecoded (InScript q) ≡ []
+events-all q = refl
+
+-- For each outer context, the inner ones that it carries.
+abbrev carried : List Context → List (List Context)
+carried [] = []
+carried (o ∷ os) = only (carries o) contexts ∷ carried os
+
+-- Of the 169 pairs 145 carry. The other 24 have an HTML context other than `unquoted`, which copies controls, inside `unquoted` or a style string.
+pub pairs-carry : T (eqb 145 (length (join (carried contexts))))
+pairs-carry = tt
+
+-- The table of the twelve pairs holds, of the very text that it names.
+pub nests-hold : T (all nestsAs nests)
+unfolding encodeStep decodeStep referenceStep names
+nests-hold = tt
+
+-- What the other order writes is no double form: the inner reader stops at the quote.
+pub other-order : T (sameBytes (decodeOf (InHtml SingleQuoted) otherOrder) (ascii "'") && eqb (readTo (InScript Single) (ascii "'")) 0)
+unfolding encodeStep decodeStep referenceStep readStep
+other-order = tt
