@@ -26,9 +26,9 @@ use Rattle.rules.specs.declared.Quotes.{Quotes}
 use Rattle.rules.specs.declared.Quotes.the-variants.{Single, Double, Both}
 use Rattle.rules.specs.declared.Escape.{Escape}
 use Rattle.rules.specs.declared.Escape.the-variants.{Taken, Nothing}
-use Rattle.rules.proofs.Tests.{and-both, or-cases, all-in, any-intro}
+use Rattle.rules.proofs.Tests.{and-both, or-cases, or-false, all-in, any-intro}
 use Rattle.rules.proofs.EveryByte.{every-byte}
-use Rattle.rules.proofs.Decoder.{at-mark}
+use Rattle.rules.proofs.Decoder.{at-other}
 use Rattle.rules.proofs.Reasons.{no-lefts, escape-leaveless}
 use Rattle.rules.proofs.Loops.{drop-next}
 use Rattle.rules.proofs.Quiet.{Keeps}
@@ -36,7 +36,7 @@ use Rattle.base.proofs.Filled.{lent-rest}
 use Rattle.base.specs.Places.{Nearest}
 use Rattle.decode_strings.specs.Finds.{Within, Finds}
 use Rattle.decode_strings.specs.Hex.{hexBetween}
-use Rattle.decode_strings.specs.Strings.{nameOf, slashedBytes, plainQuote, afterSlash, hexEscape, isHexed, lineSeparator, paragraphSeparator, separators, hexedBytes, hexRows, unslashedRows, packOf, escapeOf}
+use Rattle.decode_strings.specs.Strings.{nameOf, notationOf, slashedBytes, plainQuote, afterSlash, hexEscape, isHexed, lineSeparator, paragraphSeparator, separators, hexedBytes, hexRows, unslashedRows, packOf, escapeOf}
 use Rattle.decode_strings.proofs.Finding.{one-of-in, utf8-ascii, Coded, finds-byte, finds-no-byte, finds-first, finds-second, undo-second, finds-later, finds-end}
 use Rattle.decode_strings.proofs.Hex.{pair-digits, stands-between}
 use Rattle.decode_strings.proofs.Standing.{stands-take}
@@ -100,7 +100,7 @@ slashed-small Single = tt
 slashed-small Double = tt
 slashed-small Both = tt
 
-slashed-coded : (q : Quotes) → Coded slashed afterSlash (slashedBytes q) 1
+pub slashed-coded : (q : Quotes) → Coded slashed afterSlash (slashedBytes q) 1
 slashed-coded q = record { finds = λ b i r. refl; sound = slashed-sound q; keys = λ b. refl; sizes = λ b. refl; small = slashed-small q }
 
 -- ---- two hex digits
@@ -109,10 +109,10 @@ hexed-small : (language : Language) → T (all (λ (b : ℕ). ltb b 128) (hexedB
 hexed-small Style = tt
 hexed-small Script = tt
 
-small-byte : (language : Language) (b : ℕ) → In b (hexedBytes language) → b < 256
+pub small-byte : (language : Language) (b : ℕ) → In b (hexedBytes language) → b < 256
 small-byte language b i = omega (arith, ltb→lt b 128 (all-in (λ (b : ℕ). ltb b 128) (hexedBytes language) (hexed-small language) b i))
 
-hex-coded : (language : Language) → Coded (hexRow language) (hexEscape language) (hexedBytes language) 3
+hex-coded : (language : Language) → Coded (hexRow (notationOf language)) (hexEscape language) (hexedBytes language) 3
 unfolding hexBetween
 hex-coded Style = record {
   finds = λ b i r. pair-digits b (small-byte Style b i);
@@ -146,7 +146,7 @@ hexed-byte language v e = ⊎-elim (λ p. omega (arith, eqb-true v 60 p)) (λ p.
     go Style e = ⊎-elim (λ p. inl p) (λ p. inr (first (ltb v 32) (not (eqb v 0)) p)) (small (eqb v 60) (ltb v 32 && not (eqb v 0)) e)
 
 -- These bytes are those that pass the test.
-hexed-in : (language : Language) (v : ℕ) → isHexed language v ≡ true → In v (hexedBytes language)
+pub hexed-in : (language : Language) (v : ℕ) → isHexed language v ≡ true → In v (hexedBytes language)
 hexed-in language v e =
     one-of-in (hexedBytes language) v
     (go (or-cases (not (isHexed language v)) (oneOf (hexedBytes language) v) (every-byte (λ (v : ℕ). not (isHexed language v) || oneOf (hexedBytes language) v) (ok language) v (hexed-byte language v e))))
@@ -159,7 +159,7 @@ hexed-in language v e =
     go (inl t) = absurd (T-not (isHexed language v) t (subst T (sym e) tt))
     go (inr t) = t
 
-hexed-out : (language : Language) (v : ℕ) → isHexed language v ≡ false → In v (hexedBytes language) → ⊥
+pub hexed-out : (language : Language) (v : ℕ) → isHexed language v ≡ false → In v (hexedBytes language) → ⊥
 hexed-out language v e i = subst T e (all-in (isHexed language) (hexedBytes language) (go language) v i)
   where
     go : (language : Language) → T (all (isHexed language) (hexedBytes language))
@@ -247,8 +247,8 @@ string-quiet language q t i e near k h l =
     ∙ go language (before t k) (getD t k 0) (drop (k + 1) t) (λ x. near .none k h l (eqb→eq (getD t k 0) 92 x))
   where
     go : (language : Language) (p x : ℕ) (s : List ℕ) → (T (eqb x 92) → ⊥) → decodeStep (stringOf language q) p (x ∷ s) ≡ keep (x ∷ [])
-    go Style = at-mark (InStyle q)
-    go Script = at-mark (InScript q)
+    go Style p x s h = at-other (InStyle q) p x s (λ u. h (or-false (eqb x 92) u))
+    go Script p x s h = at-other (InScript q) p x s (λ u. h (or-false (eqb x 92) u))
 
 -- At place e a backslash and the byte b give way to the byte.
 abbrev pub SlashedAt : Language → Quotes → List ℕ → ℕ → ℕ → Type 0

@@ -10,6 +10,8 @@ use Rattle.rules.specs.declared.Quotes.{Quotes}
 use Rattle.rules.specs.declared.Quotes.the-variants.{Single, Double, Both}
 use Rattle.rules.specs.declared.Language.{Language}
 use Rattle.rules.specs.declared.Language.the-variants.{Script, Style}
+use Rattle.rules.specs.declared.Notation.{Notation}
+use Rattle.rules.specs.declared.Notation.the-variants.{Script as ScriptString, Style as StyleString}
 use Rattle.rules.specs.Tables.{Row, hexRow}
 use Rattle.rules.specs.declared.Escape.{Escape}
 use Rattle.rules.specs.declared.Escape.the-variants.{Taken, Nothing}
@@ -19,6 +21,11 @@ use Rattle.decode_strings.specs.Hex.{hexBetween}
 abbrev pub nameOf : Language → List ℕ
 nameOf Style = ascii "style"
 nameOf Script = ascii "script"
+
+-- How its strings are written.
+abbrev pub notationOf : Language → Notation
+notationOf Style = StyleString
+notationOf Script = ScriptString
 
 -- The quotes that it escapes.
 abbrev pub quotesOf : Quotes → List ℕ
@@ -71,7 +78,7 @@ hexedBytes Script = count 0 32 ++ 0x3C ∷ []
 
 -- Their rows.
 abbrev pub hexRows : Language → List Row
-hexRows language = map (hexRow language) (hexedBytes language)
+hexRows language = map (hexRow (notationOf language)) (hexedBytes language)
 
 -- The rows of the string but those with a backslash before the byte.
 abbrev pub unslashedRows : Language → List Row

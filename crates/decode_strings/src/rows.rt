@@ -82,7 +82,7 @@ fn hex_escape(language: Language, rest: &[u8]) -> u32
 }
 
 // Whether the string writes the byte of this value as a hex escape.
-fn is_hexed(language: Language, v: u32) -> bool
+pub fn is_hexed(language: Language, v: u32) -> bool
     ensures { λ r. ⌜ r ≡ isHexed language v ⌝ }
 {
     if v == 0x3C {

@@ -21,13 +21,13 @@ use Rattle.rules.proofs.Tests.{is-false}
 use Rattle.rules.proofs.Blind.{Local, Parted, parted-result, parted-replaced}
 use Rattle.base.proofs.Part.{part-length, part-at, parted as part-split}
 use Rattle.base.proofs.Filled.{Next}
-use Rattle.encode_strings.specs.Strings.{endsOf, ended, Apart}
+use Rattle.encode_strings.specs.Strings.{endsOf, ended, Apart, separates}
 use Rattle.encode_strings.proofs.Heads.{kept, lone}
 use Rattle.encode_strings.proofs.Finds.{ends-are, lead-kept, separator-sizes, lead-taken, lead-style}
 use Rattle.encode_strings.proofs.Sums.{encode-blind, grows}
-use Rattle.rules.specs.Contexts.{stringOf}
-use Rattle.rules.specs.declared.Language.{Language}
-use Rattle.rules.specs.declared.Language.the-variants.{Script, Style}
+use Rattle.rules.specs.Contexts.{writtenIn}
+use Rattle.rules.specs.declared.Notation.{Notation}
+use Rattle.rules.specs.declared.Notation.the-variants.{Script, Style, Json}
 
 -- Two bytes before a place that are not E2 are all that Apart asks.
 pub two-before : (t : List ℕ) (r : ℕ) → (getD t (r - 1) 0 ≡ 0xE2 → ⊥) → (getD t (r - 2) 0 ≡ 0xE2 → ⊥) → (k : ℕ) → k < r → r ≤ k + 2 → getD t k 0 ≡ 0xE2 → ⊥
@@ -76,40 +76,41 @@ ended-clear (y ∷ []) (w ∷ b) (inr (inr f)) = absurd (f 0 (omega arith) (omeg
 
 -- ---- the moves at the places of a
 
-local-byte : (language : Language) (quotes : Quotes) (x : ℕ) (a b : List ℕ) → (x ≡ 0xE2 → ⊥) → Local (encodeStep (stringOf language quotes)) (x ∷ a) b
-local-byte language quotes x a b ne =
-    let c = stringOf language quotes in
-    (lone c 0 x (a ++ b) ne ∙ sym (lone c 0 x a ne), 0, ap (λ (m : Move). length (takes m)) (lone c 0 x a ne) ∙ grows language quotes x ne .0, omega arith)
+local-byte : (notation : Notation) (quotes : Quotes) (x : ℕ) (a b : List ℕ) → (x ≡ 0xE2 → ⊥) → Local (encodeStep (writtenIn notation quotes)) (x ∷ a) b
+local-byte notation quotes x a b ne =
+    let c = writtenIn notation quotes in
+    (lone c 0 x (a ++ b) ne ∙ sym (lone c 0 x a ne), 0, ap (λ (m : Move). length (takes m)) (lone c 0 x a ne) ∙ grows notation quotes x ne .0, omega arith)
 
 local-kept : (c : Context) (x : ℕ) (a b : List ℕ) → encodeStep c 0 (x ∷ (a ++ b)) ≡ keep (x ∷ []) → encodeStep c 0 (x ∷ a) ≡ keep (x ∷ []) → Local (encodeStep c) (x ∷ a) b
 local-kept c x a b e f = (e ∙ sym f, 0, ap (λ (m : Move). length (takes m)) f, omega arith)
 
-local-script : (q : Quotes) (a b : List ℕ) → Clear (0xE2 ∷ a) b → Local (encodeStep (InScript q)) (0xE2 ∷ a) b
-local-script q [] b h = local-kept (InScript q) 0xE2 [] b (lead-kept q b (ended-clear [] b h)) (lead-kept q [] refl)
-local-script q (y ∷ []) b h = local-kept (InScript q) 0xE2 (y ∷ []) b (lead-kept q (y ∷ b) (ended-clear (y ∷ []) b h)) (lead-kept q (y ∷ []) refl)
-local-script q (y ∷ z ∷ a) b h = go (endsOf y z) refl
+local-script : (notation : Notation) → separates notation ≡ true → (q : Quotes) (a b : List ℕ) → Clear (0xE2 ∷ a) b → Local (encodeStep (writtenIn notation q)) (0xE2 ∷ a) b
+local-script notation w q [] b h = local-kept (writtenIn notation q) 0xE2 [] b (lead-kept notation w q b (ended-clear [] b h)) (lead-kept notation w q [] refl)
+local-script notation w q (y ∷ []) b h = local-kept (writtenIn notation q) 0xE2 (y ∷ []) b (lead-kept notation w q (y ∷ b) (ended-clear (y ∷ []) b h)) (lead-kept notation w q (y ∷ []) refl)
+local-script notation w q (y ∷ z ∷ a) b h = go (endsOf y z) refl
   where
-    go : (t : Bool) → endsOf y z ≡ t → Local (encodeStep (InScript q)) (0xE2 ∷ y ∷ z ∷ a) b
-    go false e = local-kept (InScript q) 0xE2 (y ∷ z ∷ a) b (lead-kept q (y ∷ z ∷ (a ++ b)) e) (lead-kept q (y ∷ z ∷ a) e)
+    go : (t : Bool) → endsOf y z ≡ t → Local (encodeStep (writtenIn notation q)) (0xE2 ∷ y ∷ z ∷ a) b
+    go false e = local-kept (writtenIn notation q) 0xE2 (y ∷ z ∷ a) b (lead-kept notation w q (y ∷ z ∷ (a ++ b)) e) (lead-kept notation w q (y ∷ z ∷ a) e)
     go true e = (
-      lead-taken q (y ∷ z ∷ (a ++ b)) e ∙ sym (lead-taken q (y ∷ z ∷ a) e),
+      lead-taken notation w q (y ∷ z ∷ (a ++ b)) e ∙ sym (lead-taken notation w q (y ∷ z ∷ a) e),
       2,
-      ap (λ (m : Move). length (takes m)) (lead-taken q (y ∷ z ∷ a) e) ∙ separator-sizes (eqb z 0xA8) .0,
+      ap (λ (m : Move). length (takes m)) (lead-taken notation w q (y ∷ z ∷ a) e) ∙ separator-sizes (eqb z 0xA8) .0,
       omega arith,
     )
 
-local-lead : (language : Language) (q : Quotes) (a b : List ℕ) → Clear (0xE2 ∷ a) b → Local (encodeStep (stringOf language q)) (0xE2 ∷ a) b
+local-lead : (notation : Notation) (q : Quotes) (a b : List ℕ) → Clear (0xE2 ∷ a) b → Local (encodeStep (writtenIn notation q)) (0xE2 ∷ a) b
 local-lead Style q a b h = local-kept (InStyle q) 0xE2 a b (kept (InStyle q) 0 0xE2 (a ++ b) (lead-style q)) (kept (InStyle q) 0 0xE2 a (lead-style q))
-local-lead Script q a b h = local-script q a b h
+local-lead Script q a b h = local-script Script refl q a b h
+local-lead Json q a b h = local-script Json refl q a b h
 
-module _ (language : Language) (quotes : Quotes) where
-  parted : (a b : List ℕ) → Clear a b → Parted (encodeStep (stringOf language quotes)) a b
+module _ (notation : Notation) (quotes : Quotes) where
+  parted : (a b : List ℕ) → Clear a b → Parted (encodeStep (writtenIn notation quotes)) a b
   parted [] b h = tt
   parted (x ∷ a) b h = (go (eqb x 0xE2) refl, parted a b (clear-tail x a b h))
     where
-      go : (t : Bool) → eqb x 0xE2 ≡ t → Local (encodeStep (stringOf language quotes)) (x ∷ a) b
-      go true e = let u = eqb-true x 0xE2 e in rw u (local-lead language quotes a b (rw u at h))
-      go false e = local-byte language quotes x a b (eqb-false x 0xE2 e)
+      go : (t : Bool) → eqb x 0xE2 ≡ t → Local (encodeStep (writtenIn notation quotes)) (x ∷ a) b
+      go true e = let u = eqb-true x 0xE2 e in rw u (local-lead notation quotes a b (rw u at h))
+      go false e = local-byte notation quotes x a b (eqb-false x 0xE2 e)
 
   module _ (t : List ℕ) (i e : ℕ) (h : i ≤ e) (l : e ≤ length t) where
     clear-part : Apart t e → Clear (take (e - i) (drop i t)) (drop e t)
@@ -120,24 +121,24 @@ module _ (language : Language) (quotes : Quotes) where
         inr (inr (λ k u v r. f (i + k) (omega arith) (omega arith) (sym (part-at t i e k (omega arith)) ∙ r)))
 
     -- What is written for it comes first, and then what is written for the rest after it.
-    pub next-part : Apart t e → Next (encodeOf (stringOf language quotes) (drop i t)) (encodeOf (stringOf language quotes) (take (e - i) (drop i t))) (encodeOf (stringOf language quotes) (drop e t))
+    pub next-part : Apart t e → Next (encodeOf (writtenIn notation quotes) (drop i t)) (encodeOf (writtenIn notation quotes) (take (e - i) (drop i t))) (encodeOf (writtenIn notation quotes) (drop e t))
     next-part p =
         record {
           next =
-              ap (encodeOf (stringOf language quotes)) (sym (part-split t i e h))
-              ∙ parted-result (encodeStep (stringOf language quotes)) (encode-blind (stringOf language quotes)) (take (e - i) (drop i t)) (drop e t)
+              ap (encodeOf (writtenIn notation quotes)) (sym (part-split t i e h))
+              ∙ parted-result (encodeStep (writtenIn notation quotes)) (encode-blind (writtenIn notation quotes)) (take (e - i) (drop i t)) (drop e t)
               (parted (take (e - i) (drop i t)) (drop e t) (clear-part p));
         }
 
     pub next-length : Apart t e
-        → length (encodeOf (stringOf language quotes) (drop i t)) ≡ length (encodeOf (stringOf language quotes) (take (e - i) (drop i t))) + length (encodeOf (stringOf language quotes) (drop e t))
-    next-length p = ap length (next-part p .next) ∙ length-append (encodeOf (stringOf language quotes) (take (e - i) (drop i t))) (encodeOf (stringOf language quotes) (drop e t))
+        → length (encodeOf (writtenIn notation quotes) (drop i t)) ≡ length (encodeOf (writtenIn notation quotes) (take (e - i) (drop i t))) + length (encodeOf (writtenIn notation quotes) (drop e t))
+    next-length p = ap length (next-part p .next) ∙ length-append (encodeOf (writtenIn notation quotes) (take (e - i) (drop i t))) (encodeOf (writtenIn notation quotes) (drop e t))
 
     -- The same of how many places are replaced.
     pub next-replaced : Apart t e
-        → replaced (through (encodeStep (stringOf language quotes)) (drop i t))
-        ≡ replaced (through (encodeStep (stringOf language quotes)) (take (e - i) (drop i t))) + replaced (through (encodeStep (stringOf language quotes)) (drop e t))
+        → replaced (through (encodeStep (writtenIn notation quotes)) (drop i t))
+        ≡ replaced (through (encodeStep (writtenIn notation quotes)) (take (e - i) (drop i t))) + replaced (through (encodeStep (writtenIn notation quotes)) (drop e t))
     next-replaced p =
-        ap (λ (s : List ℕ). replaced (through (encodeStep (stringOf language quotes)) s)) (sym (part-split t i e h))
-        ∙ parted-replaced (encodeStep (stringOf language quotes)) (encode-blind (stringOf language quotes)) (take (e - i) (drop i t)) (drop e t)
+        ap (λ (s : List ℕ). replaced (through (encodeStep (writtenIn notation quotes)) s)) (sym (part-split t i e h))
+        ∙ parted-replaced (encodeStep (writtenIn notation quotes)) (encode-blind (writtenIn notation quotes)) (take (e - i) (drop i t)) (drop e t)
         (parted (take (e - i) (drop i t)) (drop e t) (clear-part p))

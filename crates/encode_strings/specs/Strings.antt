@@ -11,8 +11,8 @@ use Rattle.rules.specs.Bytes.{any}
 use Rattle.rules.specs.Tables.{Row, key, value, hexRow}
 use Rattle.rules.specs.declared.Quotes.{Quotes}
 use Rattle.rules.specs.declared.Quotes.the-variants.{Single, Double, Both}
-use Rattle.rules.specs.declared.Language.{Language}
-use Rattle.rules.specs.declared.Language.the-variants.{Script, Style}
+use Rattle.rules.specs.declared.Notation.{Notation}
+use Rattle.rules.specs.declared.Notation.the-variants.{Script, Style, Json}
 use Rattle.rules.specs.declared.Replacement.{Replacement}
 use Rattle.rules.specs.declared.Replacement.the-variants.{Slashed, Hex, Separator, Substitute}
 use Rattle.rules.specs.declared.Replaced.{Replaced}
@@ -20,17 +20,36 @@ use Rattle.rules.specs.declared.Replaced.the-variants.{By, Nothing}
 
 -- ---- the rule
 
+-- The quotes that a string escapes: in JSON the double one.
+abbrev pub quotesIn : Notation → Quotes → Quotes
+quotesIn Script q = q
+quotesIn Style q = q
+quotesIn Json q = Double
+
 -- The single quote where it is escaped, else the backslash, which every string escapes.
-abbrev pub singleKey : Quotes → ℕ
-singleKey Single = 0x27
-singleKey Double = 0x5C
-singleKey Both = 0x27
+abbrev pub singleOf : Quotes → ℕ
+singleOf Single = 0x27
+singleOf Double = 0x5C
+singleOf Both = 0x27
 
 -- The same of the double quote.
-abbrev pub doubleKey : Quotes → ℕ
-doubleKey Single = 0x5C
-doubleKey Double = 0x22
-doubleKey Both = 0x22
+abbrev pub doubleOf : Quotes → ℕ
+doubleOf Single = 0x5C
+doubleOf Double = 0x22
+doubleOf Both = 0x22
+
+-- The same two by how the string is written.
+abbrev pub singleKey : Notation → Quotes → ℕ
+singleKey notation quotes = singleOf (quotesIn notation quotes)
+
+abbrev pub doubleKey : Notation → Quotes → ℕ
+doubleKey notation quotes = doubleOf (quotesIn notation quotes)
+
+-- The line separators are escaped: not in a style string.
+abbrev pub separates : Notation → Bool
+separates Script = true
+separates Style = false
+separates Json = true
 
 -- The byte is escaped by a backslash before it: the backslash itself, and these quotes.
 unfoldable pub isSlashed : ℕ → ℕ → ℕ → Bool
@@ -41,13 +60,18 @@ unfoldable pub isHexed : ℕ → Bool
 isHexed b = ltb b 32 || eqb b 0x3C
 
 -- How such a byte is written: NUL in a style string becomes U+FFFD.
-abbrev pub hexBy : Language → ℕ → Replacement
+abbrev pub hexBy : Notation → ℕ → Replacement
 hexBy Script b = Hex
 hexBy Style b = cond (eqb b 0) Substitute Hex
+hexBy Json b = Hex
 
--- What replaces a character of one byte.
-abbrev pub replacedBy : Language → Quotes → ℕ → Replaced
-replacedBy language quotes b = cond (isSlashed (singleKey quotes) (doubleKey quotes) b) (By Slashed) (cond (isHexed b) (By (hexBy language b)) Nothing)
+-- What replaces a character of one byte, by the quotes that are escaped.
+abbrev pub replacedWith : Notation → Quotes → ℕ → Replaced
+replacedWith notation quotes b = cond (isSlashed (singleOf quotes) (doubleOf quotes) b) (By Slashed) (cond (isHexed b) (By (hexBy notation b)) Nothing)
+
+-- What replaces it in a string.
+abbrev pub replacedBy : Notation → Quotes → ℕ → Replaced
+replacedBy notation quotes b = replacedWith notation (quotesIn notation quotes) b
 
 -- The bytes begin with b, if there are any.
 abbrev pub headed : ℕ → List ℕ → Bool
@@ -68,8 +92,8 @@ takenBy Separator = 3
 takenBy Substitute = 1
 
 -- A byte written in hex.
-abbrev pub hexIn : Language → ℕ → List ℕ
-hexIn language b = value (hexRow language b)
+abbrev pub hexIn : Notation → ℕ → List ℕ
+hexIn notation b = value (hexRow notation b)
 
 -- All that it takes is there, and the last byte of a separator is A8 or A9.
 abbrev pub Held : Replacement → List ℕ → Type 0
@@ -89,9 +113,19 @@ HeldAt Nothing s = 1 ≤ length s
 unfoldable pub escapedOf : ℕ → ℕ → ℕ → ℕ
 escapedOf single double b = cond (isSlashed single double b || isHexed b) 1 0
 
--- 1 where it is escaped by its hex digits, so that it grows by two bytes more.
+-- 1 where it is escaped by its hex digits.
 unfoldable pub hexedOf : ℕ → ℕ
 hexedOf b = cond (isHexed b) 1 0
+
+-- By how much n bytes that are written in hex grow more than those with a backslash: `\x3C` and `\3C ` have four bytes, `\u003C` has six.
+abbrev pub hexGrowth : Notation → ℕ → ℕ
+hexGrowth Script n = 2 * n
+hexGrowth Style n = 2 * n
+hexGrowth Json n = 4 * n
+
+-- By how much one byte does so.
+unfoldable pub moreOf : Notation → ℕ → ℕ
+moreOf notation b = hexGrowth notation (hexedOf b)
 
 -- 1 where the two bytes are the same.
 unfoldable pub sameOf : ℕ → ℕ → ℕ
@@ -118,14 +152,13 @@ separatorsIn [] = 0
 separatorsIn (a ∷ s) = cond (eqb a 0xE2 && ended s) 1 0 + separatorsIn s
 
 -- What is counted in a part: the escaped bytes, those that are by their hex digits, and E2.
-abbrev pub Counted : Quotes → List ℕ → ℕ → ℕ → ℕ → Type 0
-Counted quotes s escaped hexed leads =
-    (escaped ≡ total (escapedOf (singleKey quotes) (doubleKey quotes)) s) × (hexed ≡ total hexedOf s) × (leads ≡ total (sameOf 0xE2) s)
+abbrev pub Counted : Notation → Quotes → List ℕ → ℕ → ℕ → ℕ → Type 0
+Counted notation quotes s escaped hexed leads =
+    (escaped ≡ total (escapedOf (singleKey notation quotes) (doubleKey notation quotes)) s) × (hexed ≡ total hexedOf s) × (leads ≡ total (sameOf 0xE2) s)
 
--- How many places are replaced in a part with so many escaped bytes that grows by so much: a line separator grows by three bytes.
-abbrev pub placesBy : Language → ℕ → ℕ → ℕ → ℕ
-placesBy Script escaped hexed growth = escaped + (growth - (escaped + 2 * hexed)) / 3
-placesBy Style escaped hexed growth = escaped
+-- How many places are replaced in a part with so many escaped bytes that grows by so much: a line separator that is escaped grows by three bytes.
+abbrev pub placesBy : Notation → ℕ → ℕ → ℕ → ℕ
+placesBy notation escaped hexed growth = cond (separates notation) (escaped + (growth - (escaped + hexGrowth notation hexed)) / 3) escaped
 
 -- No line separator lies across the place r of the text: it is the end, a separator may begin there, or none begins in the two bytes before.
 abbrev pub Apart : List ℕ → ℕ → Type 0

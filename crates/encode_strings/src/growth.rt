@@ -1,19 +1,18 @@
 // How many places of a part are replaced, and how much longer it becomes.
 use crate::escapes;
 use crate::rule;
-use rules::Language;
+use rules::Notation;
 use rules::Quotes;
-ghost use mathlib.Core.Bool.{cond};
+ghost use mathlib.Core.Bool.{true, cond};
 ghost use mathlib.Core.Path.{_≡_};
 ghost use Prim.Native.Nat.{_+_, _*_, _≤_};
 ghost use lib.Dec.{eqb};
 ghost use lib.ListN.{length};
-ghost use Rattle.rules.specs.Contexts.{stringOf};
+ghost use Rattle.rules.specs.Contexts.{writtenIn};
 ghost use Rattle.rules.specs.Encoding.{encodeStep};
 ghost use Rattle.rules.specs.Moves.{through, replaced};
 ghost use Rattle.rules.specs.Operations.{encodeOf};
-ghost use Rattle.encode_strings.specs.Strings.{escapedOf, hexedOf, sameOf, total, separatorsIn, Counted, placesBy};
-ghost use Rattle.rules.specs.declared.Language.the-variants.{Script};
+ghost use Rattle.encode_strings.specs.Strings.{escapedOf, hexedOf, hexGrowth, sameOf, total, separatorsIn, Counted, separates as separatesIn, placesBy};
 
 // How many bytes of a part are escaped, how many of these by their hex digits, and how often it has the byte that is counted beside.
 pub struct Tally {
@@ -80,19 +79,19 @@ fn separators(part: &[u8]) -> usize
 }
 
 // Counts what is escaped in a part, and E2, with which line separators begin.
-pub fn count(quotes: Quotes, part: &[u8]) -> Tally
+pub fn count(notation: Notation, quotes: Quotes, part: &[u8]) -> Tally
     requires { ⌜ length (now part) ≤ 64 ⌝ }
-    ensures { λ r. ⌜ Counted quotes (now (part .entry)) (r .escaped) (r .hexed) (r .odd) ⌝ }
+    ensures { λ r. ⌜ Counted notation quotes (now (part .entry)) (r .escaped) (r .hexed) (r .odd) ⌝ }
 {
-    let single = rule::single_key(quotes);
-    let double = rule::double_key(quotes);
+    let single = rule::single_key(notation, quotes);
+    let double = rule::double_key(notation, quotes);
     weigh(single, double, rule::SEPARATOR_LEAD, part)
 }
 
 // Whether a part that was counted is copied, since nothing of it is replaced.
-pub fn is_copied(language: Language, quotes: Quotes, found: Tally, part: &[u8]) -> bool
-    requires { ⌜ (length (now part) ≤ 64) × Counted quotes (now part) (found .escaped) (found .hexed) (found .odd) ⌝ }
-    ensures { λ r. ⌜ r ≡ eqb (replaced (through (encodeStep (stringOf language quotes)) (now (part .entry)))) 0 ⌝ }
+pub fn is_copied(notation: Notation, quotes: Quotes, found: Tally, part: &[u8]) -> bool
+    requires { ⌜ (length (now part) ≤ 64) × Counted notation quotes (now part) (found .escaped) (found .hexed) (found .odd) ⌝ }
+    ensures { λ r. ⌜ r ≡ eqb (replaced (through (encodeStep (writtenIn notation quotes)) (now (part .entry)))) 0 ⌝ }
 {
     if found.escaped != 0 {
         return false;
@@ -100,65 +99,69 @@ pub fn is_copied(language: Language, quotes: Quotes, found: Tally, part: &[u8]) 
     if found.odd == 0 {
         return true;
     }
-    match language {
-        Language::Script => separators(part) == 0,
-        Language::Style => true,
+    if rule::separates(notation) {
+        return separators(part) == 0;
     }
+    true
 }
 
-// Returns how many places of a part were replaced that was counted and became longer by `growth` bytes. In a script each line separator is longer by
-// three bytes, so that what the escaped bytes do not explain tells how many there are.
-pub fn places(language: Language, found: Tally, growth: usize) -> usize
-    requires { ⌜ (language ≡ Script → found .escaped + 2 * found .hexed ≤ growth) × (growth ≤ 65536) ⌝ }
-    ensures { λ r. ⌜ r ≡ placesBy language (found .escaped) (found .hexed) growth ⌝ }
+// Returns how many places of a part were replaced that was counted and became longer by `growth` bytes. But in a style sheet each line separator is
+// longer by three bytes, so that what the escaped bytes do not explain tells how many there are.
+pub fn places(notation: Notation, found: Tally, growth: usize) -> usize
+    requires { ⌜ (separatesIn notation ≡ true → found .escaped + hexGrowth notation (found .hexed) ≤ growth) × (growth ≤ 65536) ⌝ }
+    ensures { λ r. ⌜ r ≡ placesBy notation (found .escaped) (found .hexed) growth ⌝ }
 {
     let escaped = found.escaped as usize;
-    match language {
-        Language::Script => {
-            let hexed = found.hexed as usize;
-            escaped + (growth - (escaped + 2 * hexed)) / 3
-        }
-        Language::Style => escaped,
+    if rule::separates(notation) {
+        return escaped + (growth - (escaped + hex_growth(notation, found.hexed))) / 3;
+    }
+    escaped
+}
+
+// Returns by how much bytes that are written in hex grow more than those with a backslash: `\x3C` and `\3C ` have four bytes, `\u003C` has six.
+fn hex_growth(notation: Notation, hexed: u8) -> usize
+    ensures { λ r. ⌜ (r ≡ hexGrowth notation hexed) × (r ≤ 1020) ⌝ }
+{
+    let n = hexed as usize;
+    match notation {
+        Notation::Script => 2 * n,
+        Notation::Style => 2 * n,
+        Notation::Json => 4 * n,
     }
 }
 
-// Adds up what was counted: a backslash is one byte more, `\x3C` is three bytes more than `<`, `\3C ` with its space too, and `\u2028` three more than
-// the separator.
-fn sum(found: Tally, separators: usize) -> Change
+// Adds up what was counted: a backslash is one byte more, hex digits are more by what `hex_growth` says, and `\u2028` is three bytes more than the
+// separator.
+fn sum(notation: Notation, found: Tally, separators: usize) -> Change
     requires { ⌜ separators ≤ 64 ⌝ }
-    ensures { λ r. ⌜ (r .growth ≡ found .escaped + 2 * found .hexed + 3 * separators) × (r .replaced ≡ found .escaped + separators) ⌝ }
+    ensures { λ r. ⌜ (r .growth ≡ found .escaped + hexGrowth notation (found .hexed) + 3 * separators) × (r .replaced ≡ found .escaped + separators) ⌝ }
 {
     let escaped = found.escaped as usize;
-    let hexed = found.hexed as usize;
     Change {
-        growth: escaped + 2 * hexed + 3 * separators,
+        growth: escaped + hex_growth(notation, found.hexed) + 3 * separators,
         replaced: escaped + separators,
     }
 }
 
-// Returns by how much a part grows and how many of its places are replaced: in a style sheet NUL grows by two only, in a script line separators are
-// replaced too.
-pub fn gained(language: Language, quotes: Quotes, part: &[u8]) -> Change
+// Returns by how much a part grows and how many of its places are replaced: in a style sheet NUL grows by two only, elsewhere line
+// separators are replaced too.
+pub fn gained(notation: Notation, quotes: Quotes, part: &[u8]) -> Change
     requires { ⌜ length (now part) ≤ 64 ⌝ }
-    ensures { λ r. ⌜ (length (now (part .entry)) + r .growth ≡ length (encodeOf (stringOf language quotes) (now (part .entry)))) × (r .replaced ≡ replaced (through (encodeStep (stringOf language quotes)) (now (part .entry)))) × (r .replaced ≤ 2 * length (now (part .entry))) ⌝ }
+    ensures { λ r. ⌜ (length (now (part .entry)) + r .growth ≡ length (encodeOf (writtenIn notation quotes) (now (part .entry)))) × (r .replaced ≡ replaced (through (encodeStep (writtenIn notation quotes)) (now (part .entry)))) × (r .replaced ≤ 2 * length (now (part .entry))) ⌝ }
 {
-    let single = rule::single_key(quotes);
-    let double = rule::double_key(quotes);
-    match language {
-        Language::Script => {
-            let found = weigh(single, double, rule::SEPARATOR_LEAD, part);
-            if found.odd == 0 {
-                return sum(found, 0);
-            }
-            sum(found, separators(part))
+    let single = rule::single_key(notation, quotes);
+    let double = rule::double_key(notation, quotes);
+    if rule::separates(notation) {
+        let found = weigh(single, double, rule::SEPARATOR_LEAD, part);
+        if found.odd == 0 {
+            return sum(notation, found, 0);
         }
-        Language::Style => {
-            let found = weigh(single, double, 0, part);
-            let all = sum(found, 0);
-            Change {
-                growth: all.growth - found.odd as usize,
-                replaced: all.replaced,
-            }
-        }
+        return sum(notation, found, separators(part));
+    }
+    let found = weigh(single, double, 0, part);
+    let all = sum(notation, found, 0);
+    Change {
+        growth: all.growth - found.odd as usize,
+        replaced: all.replaced,
     }
 }

@@ -1,16 +1,16 @@
-// Escapes a text for a string of a script or a style sheet.
+// Escapes a text for a string of a script, a style sheet or JSON.
 mod escapes;
 mod growth;
 mod rule;
 
-use rules::Language;
 use rules::Measured;
+use rules::Notation;
 use rules::Quotes;
 ghost use mathlib.Core.Path.{_≡_};
 ghost use Prim.Native.Nat.{_+_, _≤_, _<_};
 ghost use lib.ListN.{length};
 ghost use Rattle.rules.specs.Bytes.{over};
-ghost use Rattle.rules.specs.Contexts.{stringOf};
+ghost use Rattle.rules.specs.Contexts.{writtenIn};
 ghost use Rattle.rules.specs.Encoding.{encodeStep};
 ghost use Rattle.rules.specs.Moves.{through, replaced};
 ghost use Rattle.rules.specs.Answers.{Measures};
@@ -36,16 +36,16 @@ fn cut(text: &[u8], at: usize, step: usize) -> usize
 }
 
 // Measures the escaped text, part by part.
-pub fn measure(language: Language, quotes: Quotes, text: &[u8]) -> Measured
+pub fn measure(notation: Notation, quotes: Quotes, text: &[u8]) -> Measured
     requires { ⌜ length (now text) ≤ 65536 ⌝ }
-    ensures { λ r. ⌜ Measures r (through (encodeStep (stringOf language quotes)) (now (text .entry))) ⌝ }
+    ensures { λ r. ⌜ Measures r (through (encodeStep (writtenIn notation quotes)) (now (text .entry))) ⌝ }
 {
     let mut n: usize = 0;
     let mut places: usize = 0;
     let mut i: usize = 0;
     while i < text.len() {
         let end = cut(text, i, 64);
-        let part = growth::gained(language, quotes, &text[i..end]);
+        let part = growth::gained(notation, quotes, &text[i..end]);
         n += end - i + part.growth;
         places += part.replaced;
         i = end;
@@ -60,12 +60,12 @@ pub fn measure(language: Language, quotes: Quotes, text: &[u8]) -> Measured
 }
 
 // Does the same as `write` for a short part. One of which nothing is replaced is copied.
-fn write_part(language: Language, quotes: Quotes, part: &[u8], output: &mut [u8]) -> Measured
-    requires { ⌜ (length (now part) ≤ 64) × (length (encodeOf (stringOf language quotes) (now part)) ≤ length (now output)) ⌝ }
-    ensures { λ r. ⌜ Measures r (through (encodeStep (stringOf language quotes)) (now (part .entry))) × (now (output .exit) ≡ over (encodeOf (stringOf language quotes) (now (part .entry))) (now (output .entry))) ⌝ }
+fn write_part(notation: Notation, quotes: Quotes, part: &[u8], output: &mut [u8]) -> Measured
+    requires { ⌜ (length (now part) ≤ 64) × (length (encodeOf (writtenIn notation quotes) (now part)) ≤ length (now output)) ⌝ }
+    ensures { λ r. ⌜ Measures r (through (encodeStep (writtenIn notation quotes)) (now (part .entry))) × (now (output .exit) ≡ over (encodeOf (writtenIn notation quotes) (now (part .entry))) (now (output .entry))) ⌝ }
 {
-    let found = growth::count(quotes, part);
-    if growth::is_copied(language, quotes, found, part) {
+    let found = growth::count(notation, quotes, part);
+    if growth::is_copied(notation, quotes, found, part) {
         return Measured {
             length: base::put(part, output),
             place: part.len(),
@@ -74,27 +74,27 @@ fn write_part(language: Language, quotes: Quotes, part: &[u8], output: &mut [u8]
             reason: 0,
         };
     }
-    let written = escapes::write_bytes(language, quotes, part, output);
+    let written = escapes::write_bytes(notation, quotes, part, output);
     Measured {
         length: written,
         place: part.len(),
-        replaced: growth::places(language, found, written - part.len()),
+        replaced: growth::places(notation, found, written - part.len()),
         left: 0,
         reason: 0,
     }
 }
 
 // Writes the escaped text to the start of `output`, part by part, leaves the bytes after it as they were, and returns what `measure` does.
-pub fn write(language: Language, quotes: Quotes, text: &[u8], output: &mut [u8]) -> Measured
-    requires { ⌜ (length (now text) ≤ 65536) × (length (encodeOf (stringOf language quotes) (now text)) ≤ length (now output)) ⌝ }
-    ensures { λ r. ⌜ Measures r (through (encodeStep (stringOf language quotes)) (now (text .entry))) × (now (output .exit) ≡ over (encodeOf (stringOf language quotes) (now (text .entry))) (now (output .entry))) ⌝ }
+pub fn write(notation: Notation, quotes: Quotes, text: &[u8], output: &mut [u8]) -> Measured
+    requires { ⌜ (length (now text) ≤ 65536) × (length (encodeOf (writtenIn notation quotes) (now text)) ≤ length (now output)) ⌝ }
+    ensures { λ r. ⌜ Measures r (through (encodeStep (writtenIn notation quotes)) (now (text .entry))) × (now (output .exit) ≡ over (encodeOf (writtenIn notation quotes) (now (text .entry))) (now (output .entry))) ⌝ }
 {
     let mut at: usize = 0;
     let mut places: usize = 0;
     let mut i: usize = 0;
     while i < text.len() {
         let end = cut(text, i, 32);
-        let part = write_part(language, quotes, &text[i..end], &mut output[at..]);
+        let part = write_part(notation, quotes, &text[i..end], &mut output[at..]);
         at += part.length;
         places += part.replaced;
         i = end;

@@ -86,4 +86,4 @@ module _ (outer inner : Context) (fits : T (carries outer inner)) where
 
       gives : IsForm outer s → Seen s a o ≡ readOf outer s
       gives f = passed-view Read (Units outer) y s out a o allowed
-          (ap (λ (x : Answer). x .status) (allowed .0) ∙ passes Read (Units outer) y s out (λ q. Option·some-ne-none _ q) short (form-text outer s f) (λ no. no f) fitting)
+          (ap (λ (x : Answer). x .status) (allowed .0) ∙ passes Read (Units outer) y s out (λ q. Option·some-ne-none _ q) short (form-text outer s f) (λ no. no f) (λ q. q) fitting)

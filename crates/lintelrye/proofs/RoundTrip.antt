@@ -89,7 +89,7 @@ module _ (c : Context) where
   encodes-again : (borrows : Bool) (s out : List ℕ) (a : Answer) (o : List ℕ) → Allowed Read (Units c) borrows s out a o → a .status ≡ 0 → AlwaysGives Encode c (Seen s a o) s
   encodes-again borrows s out a o allowed fine again room b p fits got =
       let ((cs, h, f, e), short, back) = read-gives c borrows s out a o allowed fine in
-      let known = passes Encode (Units c) again (Seen s a o) room (λ q. Option·some-ne-none _ q) short (cs, h, e) (λ q. q) (subst (λ (l : List ℕ). size l ≤ size room) (sym back) fits) in
+      let known = passes Encode (Units c) again (Seen s a o) room (λ q. Option·some-ne-none _ q) short (cs, h, e) (λ q. q) (λ q. q) (subst (λ (l : List ℕ). size l ≤ size room) (sym back) fits) in
       let st = ap (λ (x : Answer). x .status) (got .0) ∙ known in
       (st, passed-view Encode (Units c) again (Seen s a o) room b p got st ∙ back)
 

@@ -7,7 +7,7 @@ ghost use Rattle.rules.specs.declared.Operation.the-variants.{Browse};
 use rules::Operation;
 
 // The names of the contexts in the order of their numbers, a line each.
-pub const CONTEXT_NAMES: [u8; 159] = *b"\
+pub const CONTEXT_NAMES: [u8; 164] = *b"\
     text_minimal\n\
     text\n\
     double_quoted\n\
@@ -21,7 +21,8 @@ pub const CONTEXT_NAMES: [u8; 159] = *b"\
     style_single\n\
     style_double\n\
     style_quoted\n\
-    script_raw\n";
+    script_raw\n\
+    json\n";
 
 // The names of the operations, a line each.
 pub const OPERATION_NAMES: [u8; 26] = *b"\

@@ -5,7 +5,7 @@
 //   length    the length of the result (after NO_ROOM the length needed, after any other refusal 0);
 //   same      1 exactly if nothing was replaced, so that the result is the text;
 //   replaced  how many places were replaced: characters by encode and take, references or escapes by decode and browse (after a refusal 0);
-//   place     after NOT_UTF8, CUT_SHORT and NOT_A_FORM the length of the longest correct prefix of the text, else 0;
+//   place     after NOT_UTF8, CUT_SHORT, NOT_A_FORM and LONE_SURROGATE the length of the longest correct prefix of the text, else 0;
 //   left      decode and browse in the HTML contexts: the place of the `&` of the first reference that stayed, 0 if none did (after a refusal 0);
 //   reason    why it stayed: 1 no `;` before the next `&` or the end, 2 an empty body, 3 an unknown name, 4 a byte that is no digit, 5 a number that is
 //             not allowed; 0 if none did (after a refusal 0).
@@ -14,13 +14,16 @@
 // The operation read, which undoes what encode writes, has two calls beside each other: `check` takes no output and returns status, length and place;
 // `take` writes.
 //
-// The refusals, in the order in which they are checked; at most one of NOT_UTF8 and CUT_SHORT applies:
-//   BAD_CONTEXT  the operation has no such context: encode has all fourteen, decode and read have 0 to 12, browse has 0 to 6;
+// The refusals, in the order in which they are checked; at most one of NOT_UTF8 and CUT_SHORT applies, and at most one of NOT_A_FORM
+// and LONE_SURROGATE:
+//   BAD_CONTEXT  the operation has no such context: encode has all fifteen, decode and read have 0 to 12 and 14, browse has 0 to 6;
 //   BAD_RANGE    a record of a page only: the part that it names leaves the text;
 //   TOO_LONG     the text is longer than 65,536 bytes;
 //   NOT_UTF8     the text is not valid UTF-8, and not cut short; `place` is the length of its longest valid prefix;
 //   CUT_SHORT    the text ends within a character that more bytes could complete, and is valid up to there; `place` is where that character begins;
-//   NOT_A_FORM   read only: encode writes no such text; `place` is the length of its longest prefix that is a sequence of the context's units;
+//   NOT_A_FORM   read: encode writes no such text; `place` is the length of its longest prefix that is a sequence of the context's units; decode of
+//                `json`: RFC 8259 allows no such string; `place` is the length of its longest prefix that it allows;
+//   LONE_SURROGATE  decode of `json` only: half a surrogate pair stands alone at `place`, where its backslash is;
 //   NO_ROOM      the output is shorter than the result; `length` is the length needed. `check` never gives it.
 //
 // Choosing a context. What is escaped for one context is not safe in another:
@@ -30,6 +33,8 @@
 //     result has to be escaped once more, for the attribute.
 //   - `script_raw` is for the whole text of a script element, in one call or by the calls for parts below: parts that are escaped one by one by
 //     `encode` can still close the element. It is no JSON encoder: it keeps the text from closing the element, and does not make a string or a value of it.
+//   - `json` is for text between the quotes of a JSON string, inside a script element or in a JSON document; not in an attribute, where the result has
+//     to be escaped once more. decode takes any string that the RFC allows, whoever wrote it.
 //
 // The contracts cite the definitions of crates/rules/specs: `Allowed` (Refusals.antt) fixes the seven numbers and every byte of the output,
 // by the rule of the operation in the context (Operations.antt); `checkOf` (Refusals.antt) fixes what `check` answers.
@@ -79,6 +84,8 @@ pub use rules::FIELD_LIMIT;
 pub use rules::FINISHED;
 pub use rules::Field;
 pub use rules::Filled;
+pub use rules::JSON;
+pub use rules::LONE_SURROGATE;
 pub use rules::NO_ROOM;
 pub use rules::NOT_A_FORM;
 pub use rules::NOT_UTF8;

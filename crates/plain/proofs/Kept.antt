@@ -16,19 +16,20 @@ use Rattle.rules.specs.Tables.{Row, key, value, rows, table, replacedChars}
 use Rattle.rules.specs.Encoding.{write, parted, encodeStep, rawStep}
 use Rattle.rules.specs.Reading.{undo, unless, readStep}
 use Rattle.rules.specs.References.{browseChar, browseStep}
+use Rattle.rules.specs.Json.{escapedOnly}
 use Rattle.rules.specs.Operations.{decodeStep, ruleOf}
 use Rattle.rules.specs.declared.Quotes.the-variants.{Single}
 use Rattle.rules.specs.declared.Context.{Context}
-use Rattle.rules.specs.declared.Context.the-variants.{InHtml, InScript, InStyle}
+use Rattle.rules.specs.declared.Context.the-variants.{InHtml, InScript, InStyle, InJson}
 use Rattle.rules.specs.declared.AnyContext.{AnyContext}
 use Rattle.rules.specs.declared.AnyContext.the-variants.{Units, ScriptRaw, Unknown}
 use Rattle.rules.specs.declared.Operation.{Operation}
 use Rattle.rules.specs.declared.Operation.the-variants.{Encode, Decode, Read, Browse}
-use Rattle.rules.proofs.Tests.{and-left, and-right, and-both, or-cases, is-false, all-in, any-in, first-none, map-in}
+use Rattle.rules.proofs.Tests.{and-left, and-right, and-both, or-cases, or-false, is-false, all-in, any-in, first-none, map-in}
 use Rattle.rules.proofs.Chars.{sequence-of-char}
 use Rattle.rules.proofs.Every.{every}
 use Rattle.rules.proofs.Below.{below}
-use Rattle.rules.proofs.Decoder.{at-mark, reference-quiet}
+use Rattle.rules.proofs.Decoder.{at-other, reference-quiet}
 use Rattle.plain.specs.Plain.{unquotedIn, unquotedAt, plain}
 
 -- ---- what is computed
@@ -134,11 +135,19 @@ module _ (c : Context) (b : ℕ) (t : T (plain (unquotedIn c) b)) where
   other : (m : ℕ) → T (oneOf (38 ∷ 60 ∷ 92 ∷ []) m) → T (eqb b m) → ⊥
   other m i h = no-mark (subst (λ (x : ℕ). T (oneOf (38 ∷ 60 ∷ 92 ∷ []) x)) (sym (eqb→eq b m h)) i)
 
+-- Nor may any of them not stand by itself in a JSON string.
+json-plain : (b : ℕ) → T (plain false b) → T (oneOf escapedOnly b) → ⊥
+unfolding plain
+json-plain b t u =
+    let (e, i, same) = any-in (eqb b) escapedOnly u in
+    T-not (plain false e) (all-in (λ (e : ℕ). not (plain false e)) escapedOnly tt e i) (subst (λ (x : ℕ). T (plain false x)) (eqb→eq b e same) t)
+
 -- decode keeps it.
 decode-kept : (c : Context) (b : ℕ) → T (plain (unquotedIn c) b) → (p : ℕ) (s : List ℕ) → decodeStep c p (b ∷ s) ≡ keep (b ∷ [])
-decode-kept (InHtml h) b t p s = at-mark (InHtml h) p b s (other (InHtml h) b t 38 tt)
-decode-kept (InScript q) b t p s = at-mark (InScript q) p b s (other (InScript q) b t 92 tt)
-decode-kept (InStyle q) b t p s = at-mark (InStyle q) p b s (other (InStyle q) b t 92 tt)
+decode-kept (InHtml h) b t p s = at-other (InHtml h) p b s (λ u. other (InHtml h) b t 38 tt (or-false (eqb b 38) u))
+decode-kept (InScript q) b t p s = at-other (InScript q) p b s (λ u. other (InScript q) b t 92 tt (or-false (eqb b 92) u))
+decode-kept (InStyle q) b t p s = at-other (InStyle q) p b s (λ u. other (InStyle q) b t 92 tt (or-false (eqb b 92) u))
+decode-kept InJson b t p s = at-other InJson p b s (json-plain b t)
 
 browse-kept : (c : Context) (b : ℕ) → T (plain (unquotedIn c) b) → (p : ℕ) (s : List ℕ) → browseStep p (b ∷ s) ≡ keep (b ∷ [])
 unfolding browseStep
@@ -161,6 +170,7 @@ module _ (rule : Rule) (b p : ℕ) (s : List ℕ) where
   plain-kept Browse (Units (InHtml h)) e t = kept-by browseStep e (browse-kept (InHtml h) b t p s)
   plain-kept Browse (Units (InScript q)) e t = absurd (Option·none-ne-some rule e)
   plain-kept Browse (Units (InStyle q)) e t = absurd (Option·none-ne-some rule e)
+  plain-kept Browse (Units InJson) e t = absurd (Option·none-ne-some rule e)
   plain-kept Encode ScriptRaw e t = kept-by rawStep e (raw-kept b t p s)
   plain-kept Decode ScriptRaw e t = absurd (Option·none-ne-some rule e)
   plain-kept Read ScriptRaw e t = absurd (Option·none-ne-some rule e)

@@ -97,11 +97,11 @@ module _ (c : Context) where
   byte-stops : (r : List ℕ) → IsText r → Ends (readStep c) r → (q : ℕ) → moves (byteStep c) q 0 r ≡ []
   unfolding readStep byteStep
   byte-stops [] t end q = refl
-  byte-stops (x ∷ s) t end q = ap (λ (m : Move). andThen m (moves (byteStep c) x (pred (length (takes m))) s)) (go (rowAt value (rows c) (x ∷ s)) (barred (replacedChars c) (x ∷ s)) (sequenceAt (x ∷ s)) refl (end .1))
+  byte-stops (x ∷ s) t end q = ap (λ (m : Move). andThen m (moves (byteStep c) x (pred (length (takes m))) s)) (go (rowAt value (rows c) (x ∷ s)) (barred (replacedChars c) (x ∷ s)) (sequenceAt (x ∷ s)) refl (end .2))
     where
-      go : (o : Option Row) (b : Bool) (w : Option (List Range)) → sequenceAt (x ∷ s) ≡ w → undo o (unless b (keepChar w (x ∷ s))) ≡ stop → undo o (unless b (keep (x ∷ []))) ≡ stop
+      go : (o : Option Row) (b : Bool) (w : Option (List Range)) → sequenceAt (x ∷ s) ≡ w → undo o (unless b (keepChar w (x ∷ s))) ≡ stop (end .1) → undo o (unless b (keep (x ∷ []))) ≡ stop (end .1)
       go (some e) b w h f = f
-      go none true w h f = refl
+      go none true w h f = f
       go none false none h f = absurd (text-begins x s t h)
       go none false (some z) h f = absurd (let z : _≡_ {A = ℕ} 0 1 = cc in omega arith)
 

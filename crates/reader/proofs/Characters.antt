@@ -18,7 +18,7 @@ use Rattle.rules.specs.Encoding.{keepByte}
 use Rattle.rules.specs.Reading.{undo, unless}
 use Rattle.rules.specs.declared.Html.{Html}
 use Rattle.rules.specs.declared.Context.{Context}
-use Rattle.rules.specs.declared.Context.the-variants.{InHtml, InScript, InStyle}
+use Rattle.rules.specs.declared.Context.the-variants.{InHtml, InScript, InStyle, InJson}
 use Rattle.rules.specs.declared.Escape.{Escape}
 use Rattle.rules.specs.declared.Escape.the-variants.{Taken, Nothing}
 use Rattle.rules.proofs.Tests.{and-left, and-right, is-false, all-in, any-in, any-intro, first-none, same-bytes, same-in, stands-self, stands-split}
@@ -75,6 +75,7 @@ abbrev separates : Context → Bool
 separates (InHtml h) = false
 separates (InScript q) = true
 separates (InStyle q) = false
+separates InJson = true
 
 abbrev separatorsIn : Bool → List (List ℕ)
 separatorsIn true = (0xE2 ∷ 0x80 ∷ 0xA8 ∷ []) ∷ (0xE2 ∷ 0x80 ∷ 0xA9 ∷ []) ∷ []
@@ -191,7 +192,7 @@ module _ (c : Context) (p : ℕ) where
   takes-unit s n ch f = f .undoes (unless (barred (replacedChars c) s) (keepByte s))
 
   -- Where one does and no unit is found, nothing can be taken.
-  pub stops-there : (s : List ℕ) → barred (replacedChars c) s ≡ true → Finds (rows c) s Nothing → byteStep c p s ≡ stop
+  pub stops-there : (s : List ℕ) → barred (replacedChars c) s ≡ true → Finds (rows c) s Nothing → byteStep c p s ≡ stop 4
   unfolding byteStep
   stops-there s e f = f .undoes (unless (barred (replacedChars c) s) (keepByte s)) ∙ ap (λ (b : Bool). unless b (keepByte s)) e
 
@@ -236,14 +237,14 @@ module _ (c : Context) (t : List ℕ) (i : ℕ) (h : i < length t) where
       record { moves = takes-unit c (before t i) (drop i t) n ch g; some = w .0; ends = w .1; shorter = w .2; scalar = w .3 }
 
   -- Where none stands at that byte, nothing can be taken,
-  pub no-unit-here : (r : Escape) → getD t i 0 ≡ markOf c → r ≡ Nothing → Finds (rows c) (drop i t) r → byteStep c (before t i) (drop i t) ≡ stop
+  pub no-unit-here : (r : Escape) → getD t i 0 ≡ markOf c → r ≡ Nothing → Finds (rows c) (drop i t) r → byteStep c (before t i) (drop i t) ≡ stop 4
   no-unit-here r m same f =
       let g : Finds (rows c) (drop i t) Nothing = rw (← same) f in
       stops-there c (before t i) (drop i t) (rw (drop-next t i h, m) (mark-replaced c (drop (i + 1) t))) g
 
   -- nor at another replaced character.
   pub no-mark-here : (bytes : (k : ℕ) → getD t k 0 < 256) (leads : List ℕ) → Leads c (isLead leads) → (getD t i 0 ≡ markOf c → ⊥) → First (replacedAt leads t) (length t) i i
-      → byteStep c (before t i) (drop i t) ≡ stop
+      → byteStep c (before t i) (drop i t) ≡ stop 4
   no-mark-here bytes leads right m f =
       stops-there c (before t i) (drop i t) (sym (replaced-there c t bytes leads right i h) ∙ f .here h)
       (finds-none (none-there 0 (λ (b : ℕ). eqb b (markOf c)) (rows c) (marks c) (drop i t) (rw (drop-next t i h) (ne-eqb (getD t i 0) (markOf c) m))))

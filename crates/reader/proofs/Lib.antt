@@ -3,3 +3,4 @@ pub mod Bytewise
 pub mod Narrow
 pub mod Placed
 pub mod Scanning
+pub mod JsonRows

@@ -75,17 +75,17 @@ module _ (q : List ℕ → Bool) (es : List Row) (d : T (distinct (unlike value)
 
   -- What is not in the larger table is not in the smaller one.
   finds-neither : Finds es s Nothing → Finds narrow s Nothing
-  finds-neither f = go (rowAt value es s) refl (f .undoes stop)
+  finds-neither f = go (rowAt value es s) refl (f .undoes (stop 4))
     where
-      go : (o : Option Row) → rowAt value es s ≡ o → undo o stop ≡ stop → Finds narrow s Nothing
+      go : (o : Option Row) → rowAt value es s ≡ o → undo o (stop 4) ≡ stop 4 → Finds narrow s Nothing
       go none e h = finds-none (narrow-row none e)
       go (some row) e h = absurd (let z : _≡_ {A = ℕ} 0 1 = cc in omega arith)
 
   module _ (n c : ℕ) (f : Finds es s (Taken n c)) where
     found : (e : Row) × (rowAt value es s ≡ some e) × (key e ≡ utf8 c)
-    found = go (rowAt value es s) refl (f .undoes stop)
+    found = go (rowAt value es s) refl (f .undoes (stop 4))
       where
-        go : (o : Option Row) → rowAt value es s ≡ o → undo o stop ≡ swap (take n s) (utf8 c) → (e : Row) × (rowAt value es s ≡ some e) × (key e ≡ utf8 c)
+        go : (o : Option Row) → rowAt value es s ≡ o → undo o (stop 4) ≡ swap (take n s) (utf8 c) → (e : Row) × (rowAt value es s ≡ some e) × (key e ≡ utf8 c)
         go none e h = absurd (let z : _≡_ {A = ℕ} 0 1 = cc in omega arith)
         go (some row) e h = (row, e, cc)
 

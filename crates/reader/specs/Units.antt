@@ -10,7 +10,7 @@ use Rattle.rules.specs.Tables.{rowAt, value, letterOrDigit, rows, replacedChars
 use Rattle.rules.specs.Encoding.{keepByte}
 use Rattle.rules.specs.Reading.{undo, unless}
 use Rattle.rules.specs.declared.Context.{Context}
-use Rattle.rules.specs.declared.Context.the-variants.{InHtml, InScript, InStyle}
+use Rattle.rules.specs.declared.Context.the-variants.{InHtml, InScript, InStyle, InJson}
 
 -- An ASCII byte that is no letter or digit, and has no name.
 abbrev pub isOther : ℕ → Bool
@@ -21,6 +21,7 @@ abbrev pub markOf : Context → ℕ
 markOf (InHtml h) = 0x26
 markOf (InScript q) = 0x5C
 markOf (InStyle q) = 0x5C
+markOf InJson = 0x5C
 
 -- read in a context, where one byte is kept in the place of one character.
 unfoldable pub byteStep : Context → Rule

@@ -50,7 +50,8 @@ fn string_leads(language: Language, quotes: Quotes) -> [u8; 8]
     }
 }
 
-// Returns the bytes that start a replaced character in any context, as `html_leads` does.
+// Returns the bytes that start a replaced character in any context, as `html_leads` does. JSON replaces the characters that a script string in double
+// quotes does.
 pub fn leads_of(c: Context) -> [u8; 8]
     ensures { λ r. ⌜ Leads c (isLead r) ⌝ }
 {
@@ -58,6 +59,7 @@ pub fn leads_of(c: Context) -> [u8; 8]
         Context::InHtml(h) => html_leads(h),
         Context::InScript(quotes) => string_leads(Language::Script, quotes),
         Context::InStyle(quotes) => string_leads(Language::Style, quotes),
+        Context::InJson => string_leads(Language::Script, Quotes::Double),
     }
 }
 
@@ -154,6 +156,7 @@ pub fn set_of(c: Context) -> [u64; 4]
         Context::InHtml(h) => html_set(h),
         Context::InScript(quotes) => string_set(Language::Script, quotes),
         Context::InStyle(quotes) => string_set(Language::Style, quotes),
+        Context::InJson => string_set(Language::Script, Quotes::Double),
     }
 }
 

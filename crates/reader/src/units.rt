@@ -7,7 +7,7 @@ ghost use lib.ListN.{length, drop};
 ghost use Rattle.rules.specs.Bytes.{ascii, oneOf, stands};
 ghost use Rattle.rules.specs.Tables.{reference, others, htmlRows, rows};
 ghost use Rattle.rules.specs.declared.Html.the-variants.{Unquoted};
-ghost use Rattle.rules.specs.declared.Context.the-variants.{InHtml};
+ghost use Rattle.rules.specs.declared.Context.the-variants.{InHtml, InJson};
 ghost use Rattle.rules.specs.Contexts.{stringOf};
 ghost use Rattle.decode_strings.specs.Finds.{Finds};
 ghost use Rattle.decode_strings.specs.Strings.{escapeOf};
@@ -151,6 +151,29 @@ fn string_unit(language: Language, quotes: Quotes, text: &[u8], at: usize) -> u3
     row_at(language, quotes, &text[at..])
 }
 
+// Reads the unit of a JSON string at the start of `rest`. Returns it packed, 0 if there is none.
+fn json_row(rest: &[u8]) -> u32
+    ensures { λ r. ⌜ Finds (rows InJson) (now (rest .entry)) (escapeOf r) ⌝ }
+{
+    let b = rows::after_slash(rest);
+    if rows::is_slashed(Quotes::Double, b) {
+        return rows::packed(2, b as u32);
+    }
+    let v = hex_between(b"\\u00", b"", rest);
+    if rows::is_hexed(Language::Script, v) {
+        return rows::packed(6, v);
+    }
+    rows::separator(Language::Script, rest)
+}
+
+// Reads the unit of a JSON string at offset `at`. Returns it packed, 0 if there is none.
+fn json_unit(text: &[u8], at: usize) -> u32
+    requires { ⌜ at ≤ length (now text) ⌝ }
+    ensures { λ r. ⌜ Finds (rows InJson) (drop at (now (text .entry))) (escapeOf r) ⌝ }
+{
+    json_row(&text[at..])
+}
+
 // Reads the unit of the context at offset `at`; `set` is that of the context. Returns it packed, 0 if there is none. It takes an offset and not a
 // slice, which would pass through memory in each turn of a loop.
 pub fn unit(c: Context, set: &[u64; 4], text: &[u8], at: usize) -> u32
@@ -161,6 +184,7 @@ pub fn unit(c: Context, set: &[u64; 4], text: &[u8], at: usize) -> u32
         Context::InHtml(h) => html_unit(h, set, text, at),
         Context::InScript(quotes) => string_unit(Language::Script, quotes, text, at),
         Context::InStyle(quotes) => string_unit(Language::Style, quotes, text, at),
+        Context::InJson => json_unit(text, at),
     }
 }
 
@@ -180,5 +204,6 @@ pub fn mark_of(c: Context) -> u8
         Context::InHtml(_) => b'&',
         Context::InScript(_) => b'\\',
         Context::InStyle(_) => b'\\',
+        Context::InJson => b'\\',
     }
 }

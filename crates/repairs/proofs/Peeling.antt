@@ -16,13 +16,13 @@ use Rattle.rules.specs.Utf8.{IsText}
 use Rattle.rules.specs.Units.{IsForm}
 use Rattle.rules.specs.Reading.{readStep}
 use Rattle.rules.specs.Operations.{encodeOf, readOf, readTo}
-use Rattle.rules.specs.Refusals.{Call, Case, bad-context, too-long, not-utf8, cut-short, not-a-form, lent, no-room, written, Given, Allowed, call, movesIn, caseOf, answerAt, outAt, textLimit, caseBy, answerOf, outOf, checkOf}
+use Rattle.rules.specs.Refusals.{Call, Case, bad-context, too-long, not-utf8, cut-short, not-a-form, lone-surrogate, lent, no-room, written, Given, Allowed, call, movesIn, caseOf, answerAt, outAt, textLimit, caseBy, answerOf, outOf, checkOf}
 use Rattle.rules.specs.declared.Answer.{Answer}
 use Rattle.rules.specs.declared.AnyContext.{AnyContext}
 use Rattle.rules.specs.declared.AnyContext.the-variants.{Units, ScriptRaw, Unknown}
 use Rattle.rules.specs.declared.Checked.{Checked}
 use Rattle.rules.specs.declared.Context.{Context}
-use Rattle.rules.specs.declared.Context.the-variants.{InHtml, InScript, InStyle}
+use Rattle.rules.specs.declared.Context.the-variants.{InHtml, InScript, InStyle, InJson}
 use Rattle.rules.specs.declared.Operation.the-variants.{Encode, Read}
 use Rattle.rules.proofs.Machine.{same-result}
 use Rattle.rules.proofs.Laws.{form-iff, form-within, form-text, form-free, read-whole, read-length, encode-read}
@@ -226,6 +226,7 @@ writable (Units (InHtml h)) t = go (ltb 8192 (size t)) refl
         (record { known = λ q. Option·some-ne-none _ q; valid = x; short = omega (arith, z, m); fits = omega (arith, core-fits (InHtml h) 3 t f, m) }, m)
 writable (Units (InScript q)) t = λ e. absurd (numbers 5 0 e tt)
 writable (Units (InStyle q)) t = λ e. absurd (numbers 5 0 e tt)
+writable (Units InJson) t = λ e. absurd (numbers 5 0 e tt)
 writable ScriptRaw t = λ e. absurd (numbers 5 0 e tt)
 writable Unknown t = λ e. absurd (numbers 5 0 e tt)
 
@@ -251,6 +252,7 @@ encoded n t out a o w r allowed = go (caseOf k) (case-given k) allowed
     go not-utf8 h q = absurd (h .0 .0 (w .valid))
     go cut-short h q = absurd (cut-no-text t (h .0) (w .valid))
     go not-a-form h q = absurd (h .0)
+    go lone-surrogate h q = absurd (h .0)
     go lent h q = absurd (untrue (h .0 .0))
     go no-room h q = absurd (over-long (size (writing n t)) (size out) r (h .0))
     go written h q = (ap (λ (a : Answer). a .length) (q .0), q .1)

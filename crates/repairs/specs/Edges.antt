@@ -45,6 +45,7 @@ edges =
     ∷ (stored (ascii "script_quoted") (ascii "a"), ascii "status=5\n")
     ∷ (stored (ascii "style_single") (unreadable 8192), ascii "status=5\n")
     ∷ (stored (ascii "script_raw") (ascii "a"), ascii "status=5\n")
+    ∷ (stored (ascii "json") (ascii "a"), ascii "status=5\n")
     -- no request
     ∷ ([], ascii "status=6\n")
     ∷ (ascii "op=read\ncontext=quoted\ntext=a", ascii "status=6\n")

@@ -60,6 +60,7 @@ fn is_html(context: Context) -> bool
         Context::InHtml(_) => true,
         Context::InScript(_) => false,
         Context::InStyle(_) => false,
+        Context::InJson => false,
     }
 }
 

@@ -12,7 +12,7 @@ use lib.Dec.{T, eqb, leb, ltb, leb→le}
 use lib.ListN.{length as size, take, drop, length-take}
 use lib.Seq.{take-all, take-nil}
 use Rattle.rules.specs.Bytes.{ascii, all, first, stands}
-use Rattle.rules.specs.Moves.{Rule, through, result, replaced, place}
+use Rattle.rules.specs.Moves.{Rule, through, result, replaced, place, whyAt}
 use Rattle.rules.specs.Utf8.{validTo, isCut}
 use Rattle.rules.specs.Contexts.{Label, contextNames, operationNames}
 use Rattle.rules.specs.Operations.{ruleOf}
@@ -58,7 +58,7 @@ module _ (t : List ℕ) (long : 8192 < size t) where
   long-text none = refl
   long-text (some rule) =
       λ i. prints (some rule)
-      (chosen (lt-ltb 8192 (size t) long i) (ltb (validTo t) (size t)) (isCut (drop (validTo t) t)) (ltb (place (through rule t)) (size t)) (false && eqb (replaced (through rule t)) 0)
+      (chosen (lt-ltb 8192 (size t) long i) (ltb (validTo t) (size t)) (isCut (drop (validTo t) t)) (ltb (place (through rule t)) (size t)) (eqb (whyAt rule t) 10) (false && eqb (replaced (through rule t)) 0)
       (ltb (6 * 8192) (size (result (through rule t)))))
 
 -- The call of a text.

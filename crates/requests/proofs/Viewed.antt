@@ -10,7 +10,7 @@ use lib.ListN.{length as size}
 use Rattle.rules.specs.Moves.{Move, result}
 use Rattle.rules.specs.Contexts.{contextOf}
 use Rattle.rules.specs.Operations.{ruleOf}
-use Rattle.rules.specs.Refusals.{Call, Case, bad-context, too-long, not-utf8, cut-short, not-a-form, lent, no-room, written, Given, movesIn, caseOf, answerAt, outAt, viewOf}
+use Rattle.rules.specs.Refusals.{Call, Case, bad-context, too-long, not-utf8, cut-short, not-a-form, lone-surrogate, lent, no-room, written, Given, movesIn, caseOf, answerAt, outAt, viewOf}
 use Rattle.rules.specs.Program.{shown, printed, printedCall}
 use Rattle.rules.specs.declared.Answer.{Answer}
 use Rattle.rules.specs.declared.Operation.{Operation}
@@ -50,6 +50,7 @@ module _ (o : Operation) (number : ℕ) (t out : List ℕ) where
       go not-utf8 e h = nothing t out
       go cut-short e h = nothing t out
       go not-a-form e h = nothing t out
+      go lone-surrogate e h = nothing t out
       go lent e h = absurd (true-false (h .0 .0))
       go no-room e h = rw (lt-leb (size (result ms)) (size out) (h .0))
       go written e h =
@@ -67,9 +68,10 @@ module _ (o : Operation) (number : ℕ) (t out : List ℕ) where
       go not-utf8 h = omega arith
       go cut-short h = omega arith
       go not-a-form h = omega arith
+      go lone-surrogate h = omega arith
       go lent h = absurd (true-false (h .0 .0))
       go no-room h = omega arith
-      go written h = not-below (size (result ms)) (size out) (h .1 .1 .1 .1 .1 .1 .1 .0)
+      go written h = not-below (size (result ms)) (size out) (h .1 .1 .1 .1 .1 .1 .1 .1 .0)
 
   -- What the program prints: the lines of the answer, and then what view gives.
   pub said : (a : Answer) (after view : List ℕ) → 49152 ≡ size out → a ≡ answerTo k → after ≡ outputOf k out → view ≡ viewOf t after (a .same) (a .length)

@@ -1,7 +1,7 @@
 -- What read and decode give back of what encode wrote, what read refuses, and where decode and read agree: a form is read as one run of units, and
 -- the table refuses nothing else within the limit of a text.
 -- Assumes nothing.
-use mathlib.Core.Bool.{Bool, not, _&&_, cond}
+use mathlib.Core.Bool.{Bool, false, not, _&&_, cond}
 use mathlib.Core.Logic.{_↔_}
 use mathlib.Core.Option.{none, some, Option·some-ne-none}
 use mathlib.Core.Path.{_≡_, refl, sym, ap, _∙_, subst}
@@ -9,17 +9,19 @@ use mathlib.Core.List.{List}
 use Prim.Native.Nat.{ℕ, _≤_, _<_}
 use native.Mathlib.Nat.{le-trans}
 use native.Mathlib.Omega.{arith}
+use borrow.Author.Tests.{le-ltb}
 use lib.Dec.{eqb, ltb}
 use lib.ListN.{length as size, drop}
 use Rattle.rules.specs.Bytes.{over}
-use Rattle.rules.specs.Moves.{Move, Rule, through, result, replaced, place, lefts, firstOf}
+use Rattle.rules.specs.Moves.{Move, Rule, through, result, replaced, place, lefts, firstOf, whyAt}
 use Rattle.rules.specs.Utf8.{IsText, IsFree, validTo, isCut}
 use Rattle.rules.specs.Units.{IsForm, unread, undecoded}
 use Rattle.rules.specs.Reading.{readStep}
-use Rattle.rules.specs.Operations.{decodeStep, ruleOf, encodeOf, readOf}
-use Rattle.rules.specs.Refusals.{Call, Case, bad-context, too-long, not-utf8, cut-short, not-a-form, lent, no-room, written, NoForm, Given, movesIn, caseOf, refusal, success, answerAt, outAt, textLimit, judge, caseBy, call, answerOf, outOf, Allowed, viewOf}
+use Rattle.rules.specs.Operations.{decodeStep, ruleOf, encodeOf, readOf, readTo}
+use Rattle.rules.specs.Refusals.{Call, Case, bad-context, too-long, not-utf8, cut-short, not-a-form, lone-surrogate, lent, no-room, written, Lone, NoForm, Given, movesIn, caseOf, refusal, success, answerAt, outAt, textLimit, judge, caseBy, call, answerOf, outOf, Allowed, viewOf}
 use Rattle.rules.specs.declared.Answer.{Answer}
 use Rattle.rules.specs.declared.Context.{Context}
+use Rattle.rules.specs.declared.Context.the-variants.{InHtml, InScript, InStyle, InJson}
 use Rattle.rules.specs.declared.Operation.{Operation}
 use Rattle.rules.specs.declared.Operation.the-variants.{Decode, Read}
 use Rattle.rules.specs.declared.AnyContext.{AnyContext}
@@ -27,15 +29,17 @@ use Rattle.rules.specs.declared.AnyContext.the-variants.{Units}
 use Rattle.rules.proofs.Machine.{taken-cut, result-cut, replaced-cut, lefts-cut}
 use Rattle.rules.proofs.Laws.{form-iff, form-within, form-free, form-encoded, read-length, encode-form, encode-any, encode-read, form-text, read-encode, decode-encode, decode-moves}
 use Rattle.rules.proofs.Cut.{cut-no-text}
+use Rattle.rules.proofs.JsonWritten.{encode-content}
+use Rattle.rules.proofs.Json.{content-alone}
 use Rattle.rules.proofs.Refused.{case-given, case-iff}
 use Rattle.rules.proofs.Calls.{numbers, passed, passed-given, passed-view, status-allowed}
 
 -- ---- what read and decode give back
 
 -- A call passes where the table has nothing against it.
-pub passes : (o : Operation) (n : AnyContext) (borrows : Bool) (t out : List ℕ) → (ruleOf o n ≡ none → ⊥) → size t ≤ textLimit → IsText t → (NoForm o n t → ⊥)
+pub passes : (o : Operation) (n : AnyContext) (borrows : Bool) (t out : List ℕ) → (ruleOf o n ≡ none → ⊥) → size t ≤ textLimit → IsText t → (NoForm o n t → ⊥) → (Lone o n t → ⊥)
     → size (result (movesIn (call o n borrows t out))) ≤ size out → answerOf o n borrows t out .status ≡ 0
-passes o n borrows t out known short text form room = go (caseOf (call o n borrows t out)) (case-given (call o n borrows t out))
+passes o n borrows t out known short text form lone room = go (caseOf (call o n borrows t out)) (case-given (call o n borrows t out))
   where
     over-long : (a b : ℕ) → a ≤ b → b < a → ⊥
     over-long a b h q = omega arith
@@ -46,9 +50,17 @@ passes o n borrows t out known short text form room = go (caseOf (call o n borro
     go not-utf8 h = absurd (h .0 .0 text)
     go cut-short h = absurd (cut-no-text t (h .0) text)
     go not-a-form h = absurd (form (h .0))
+    go lone-surrogate h = absurd (lone (h .0))
     go lent h = refl
     go no-room h = absurd (over-long (size (result (movesIn (call o n borrows t out)))) (size out) room (h .0))
     go written h = refl
+
+-- What encode wrote decode does not refuse.
+fine : (c : Context) (t : List ℕ) → IsFree (undecoded c) t → (NoForm Decode (Units c) (encodeOf c t) → ⊥) × (Lone Decode (Units c) (encodeOf c t) → ⊥)
+fine (InHtml h) t f = (λ no. no, λ no. no)
+fine (InScript q) t f = (λ no. no, λ no. no)
+fine (InStyle q) t f = (λ no. no, λ no. no)
+fine InJson t f = let (cs, h, b, e) = f in let content = encode-content t (cs, h, e) in (λ no. no .0 content, content-alone (encodeOf InJson t) content)
 
 -- An operation takes a text from what was written: the call passes, and view gives that text.
 pub record TakesBack (o : Operation) (c : Context) (borrows : Bool) (form t out : List ℕ) : Type 0 where
@@ -59,21 +71,21 @@ module _ (c : Context) (borrows : Bool) (t out : List ℕ) where
   some-rule : {r : Rule} → some r ≡ none → ⊥
   some-rule {r} e = Option·some-ne-none r e
 
-  takes-back : (o : Operation) → (ruleOf o (Units c) ≡ none → ⊥) → IsText (encodeOf c t) → (NoForm o (Units c) (encodeOf c t) → ⊥)
+  takes-back : (o : Operation) → (ruleOf o (Units c) ≡ none → ⊥) → IsText (encodeOf c t) → (NoForm o (Units c) (encodeOf c t) → ⊥) → (Lone o (Units c) (encodeOf c t) → ⊥)
       → result (movesIn (call o (Units c) borrows (encodeOf c t) out)) ≡ t
       → size (encodeOf c t) ≤ textLimit → size t ≤ size out → TakesBack o c borrows (encodeOf c t) t out
-  takes-back o known text form back short room =
-      let st = passes o (Units c) borrows (encodeOf c t) out known short text form (subst (λ (l : List ℕ). size l ≤ size out) (sym back) room) in
+  takes-back o known text form lone back short room =
+      let st = passes o (Units c) borrows (encodeOf c t) out known short text form lone (subst (λ (l : List ℕ). size l ≤ size out) (sym back) room) in
       record { status = st; view = passed o (Units c) borrows (encodeOf c t) out st .view ∙ back }
 
   -- What encode wrote is what read takes back, where it is within the limit of a text and the output has room.
   pub read-back : IsFree (unread c) t → size (encodeOf c t) ≤ textLimit → size t ≤ size out → TakesBack Read c borrows (encodeOf c t) t out
-  read-back f = takes-back Read some-rule (form-text c (encodeOf c t) (encode-form c t f)) (λ no. no (encode-form c t f)) (read-encode c t f)
+  read-back f = takes-back Read some-rule (form-text c (encodeOf c t) (encode-form c t f)) (λ no. no (encode-form c t f)) (λ no. no) (read-encode c t f)
 
   -- And it is what decode takes back, but for the stated exceptions.
   pub decode-back : IsFree (undecoded c) t → size (encodeOf c t) ≤ textLimit → size t ≤ size out → TakesBack Decode c borrows (encodeOf c t) t out
   decode-back f = let (cs, h, b, e) = f in
-      takes-back Decode some-rule (form-text c (encodeOf c t) (encode-any c t (cs, h, e))) (λ no. no) (decode-encode c t f)
+      takes-back Decode some-rule (form-text c (encodeOf c t) (encode-any c t (cs, h, e))) (fine c t f .0) (fine c t f .1) (decode-encode c t f)
 
   -- Where the limit bites: what encode wrote is too long to be read or decoded, and is refused as such, not as no form.
   pub back-long : (o : Operation) → (ruleOf o (Units c) ≡ none → ⊥) → textLimit < size (encodeOf c t) → answerOf o (Units c) borrows (encodeOf c t) out ≡ refusal 1 0 0
@@ -94,6 +106,7 @@ module _ (c : Context) (borrows : Bool) (s out : List ℕ) where
   row-form not-utf8 e = absurd (numbers 2 4 e tt)
   row-form cut-short e = absurd (numbers 7 4 e tt)
   row-form not-a-form e = refl
+  row-form lone-surrogate e = absurd (numbers 10 4 e tt)
   row-form lent e = absurd (numbers 0 4 e tt)
   row-form no-room e = absurd (numbers 3 4 e tt)
   row-form written e = absurd (numbers 0 4 e tt)
@@ -129,15 +142,19 @@ module _ (c : Context) (borrows : Bool) (s out : List ℕ) where
 -- ---- decode and read agree
 
 -- Moves that end at the same place, replace as many places, leave the same references and give the same have the same answer and leave the same output.
-module _ (borrows : Bool) (t out : List ℕ) (ms ns : List Move) (p : place ms ≡ place ns) (q : replaced ms ≡ replaced ns) (f : lefts ms ≡ lefts ns) (e : result ms ≡ result ns) where
-  abbrev judged : List Move → Case
-  judged ms = judge borrows textLimit t ms (size out)
+module _ (borrows : Bool) (t out : List ℕ) (ms ns : List Move) (p : place ms ≡ place ns) (q : replaced ms ≡ replaced ns) (f : lefts ms ≡ lefts ns) (e : result ms ≡ result ns)
+    (whole : ltb (place ns) (size t) ≡ false) (v w : ℕ) where
+  abbrev judged : List Move → ℕ → Case
+  judged ms w = judge borrows textLimit t ms w (size out)
 
-  same-case : judged ms ≡ judged ns
+  same-case : judged ms v ≡ judged ns w
   same-case =
-      λ i. cond (ltb textLimit (size t)) too-long
+      (λ i. cond (ltb textLimit (size t)) too-long
       (cond (ltb (validTo t) (size t)) (cond (isCut (drop (validTo t) t)) cut-short not-utf8)
-      (cond (ltb (p i) (size t)) not-a-form (cond (borrows && eqb (q i) 0) lent (cond (ltb (size out) (size (e i))) no-room written))))
+      (cond ((ap (λ (n : ℕ). ltb n (size t)) p ∙ whole) i) (cond (eqb v 10) lone-surrogate not-a-form) (cond (borrows && eqb (q i) 0) lent (cond (ltb (size out) (size (e i))) no-room written)))))
+      ∙ sym (λ i. cond (ltb textLimit (size t)) too-long
+      (cond (ltb (validTo t) (size t)) (cond (isCut (drop (validTo t) t)) cut-short not-utf8)
+      (cond (whole i) (cond (eqb w 10) lone-surrogate not-a-form) (cond (borrows && eqb (replaced ns) 0) lent (cond (ltb (size out) (size (result ns))) no-room written)))))
 
   same-answer : (row : Case) → answerAt row t ms ≡ answerAt row t ns
   same-answer bad-context = refl
@@ -145,6 +162,7 @@ module _ (borrows : Bool) (t out : List ℕ) (ms ns : List Move) (p : place ms �
   same-answer not-utf8 = refl
   same-answer cut-short = refl
   same-answer not-a-form = λ i. refusal 4 0 (p i)
+  same-answer lone-surrogate = λ i. refusal 10 0 (p i)
   same-answer lent = λ i. success (size (e i)) 0 (firstOf (f i))
   same-answer no-room = λ i. refusal 3 (size (e i)) 0
   same-answer written = λ i. success (size (e i)) (q i) (firstOf (f i))
@@ -155,14 +173,15 @@ module _ (borrows : Bool) (t out : List ℕ) (ms ns : List Move) (p : place ms �
   same-out not-utf8 = refl
   same-out cut-short = refl
   same-out not-a-form = refl
+  same-out lone-surrogate = refl
   same-out lent = refl
   same-out no-room = refl
   same-out written = λ i. over (e i) out
 
-  alike : (answerAt (judged ms) t ms ≡ answerAt (judged ns) t ns) × (outAt (judged ms) ms out ≡ outAt (judged ns) ns out)
+  alike : (answerAt (judged ms v) t ms ≡ answerAt (judged ns w) t ns) × (outAt (judged ms v) ms out ≡ outAt (judged ns w) ns out)
   alike = (
-    ap (λ (row : Case). answerAt row t ms) same-case ∙ same-answer (judged ns),
-    ap (λ (row : Case). outAt row ms out) same-case ∙ same-out (judged ns),
+    ap (λ (row : Case). answerAt row t ms) same-case ∙ same-answer (judged ns w),
+    ap (λ (row : Case). outAt row ms out) same-case ∙ same-out (judged ns w),
   )
 
 -- On a form of a text that decode gives back, decode and read agree in the whole answer and the whole output.
@@ -174,3 +193,4 @@ decode-as-read c borrows s out form free =
     let ms = through (readStep c) s in
     alike borrows s out (through (decodeStep c) s) ms
     (ap place m ∙ ap size (taken-cut ms)) (ap replaced m ∙ replaced-cut ms) (ap lefts m ∙ lefts-cut 0 ms) (ap result m ∙ result-cut ms)
+    (le-ltb (readTo c s) (size s) (omega (arith, form-iff c s .0 form))) (whyAt (decodeStep c) s) (whyAt (readStep c) s)

@@ -24,7 +24,7 @@ replaced-append [] ns = omega arith
 replaced-append (keep a ∷ ms) ns = replaced-append ms ns
 replaced-append (swap a b ∷ ms) ns = omega (arith, replaced-append ms ns)
 replaced-append (leave r a ∷ ms) ns = replaced-append ms ns
-replaced-append (stop ∷ ms) ns = replaced-append ms ns
+replaced-append (stop w ∷ ms) ns = replaced-append ms ns
 
 -- At the head of s, where b follows it, the rule makes the move that it makes where nothing does, and this takes some bytes of s.
 abbrev pub Local : Rule → List ℕ → List ℕ → Type 0

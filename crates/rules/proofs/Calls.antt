@@ -16,16 +16,16 @@ use Rattle.rules.specs.Bytes.{over}
 use Rattle.rules.specs.Moves.{Move, through, result, replaced, growth, shrinkage, taken, place, firstLeft}
 use Rattle.rules.specs.Utf8.{IsText, validTo}
 use Rattle.rules.specs.Operations.{ruleOf, encodeOf}
-use Rattle.rules.specs.Refusals.{Call, Case, bad-context, too-long, not-utf8, cut-short, not-a-form, lent, no-room, written, Given, movesOf, movesIn, caseOf, success, answerAt, outAt, textLimit, call, answerOf, outOf, Allowed, viewOf}
+use Rattle.rules.specs.Refusals.{Call, Case, bad-context, too-long, not-utf8, cut-short, not-a-form, lone-surrogate, lent, no-room, written, Given, movesOf, movesIn, caseOf, success, answerAt, outAt, textLimit, call, answerOf, outOf, Allowed, viewOf}
 use Rattle.rules.specs.declared.Answer.{Answer}
-use Rattle.rules.specs.declared.Context.the-variants.{InHtml, InScript, InStyle}
+use Rattle.rules.specs.declared.Context.the-variants.{InHtml, InScript, InStyle, InJson}
 use Rattle.rules.specs.declared.Operation.{Operation}
 use Rattle.rules.specs.declared.Operation.the-variants.{Encode, Decode, Read, Browse}
 use Rattle.rules.specs.declared.AnyContext.{AnyContext}
 use Rattle.rules.specs.declared.AnyContext.the-variants.{Units, ScriptRaw, Unknown}
 use Rattle.rules.proofs.Machine.{same-result}
 use Rattle.rules.proofs.Growth.{encode-whole, raw-whole, balance}
-use Rattle.rules.proofs.Whole.{decode-whole, browse-whole}
+use Rattle.rules.proofs.Whole.{decode-whole-if, browse-whole}
 use Rattle.rules.proofs.Laws.{form-iff, form-free, read-whole, encode-any, form-text}
 use Rattle.rules.proofs.Valid.{valid-iff}
 use Rattle.rules.proofs.Texts.{decode-text, browse-text, raw-text}
@@ -61,7 +61,7 @@ taken-all : (o : Operation) (n : AnyContext) (t : List ℕ) → size t ≤ place
 taken-all Encode (Units c) t h = encode-whole c t
 taken-all Encode ScriptRaw t h = raw-whole t
 taken-all Encode Unknown t h = none-taken t h
-taken-all Decode (Units c) t h = decode-whole c t
+taken-all Decode (Units c) t h = decode-whole-if c t h
 taken-all Decode ScriptRaw t h = none-taken t h
 taken-all Decode Unknown t h = none-taken t h
 taken-all Read (Units c) t h = read-whole c t h
@@ -70,6 +70,7 @@ taken-all Read Unknown t h = none-taken t h
 taken-all Browse (Units (InHtml k)) t h = browse-whole t
 taken-all Browse (Units (InScript q)) t h = none-taken t h
 taken-all Browse (Units (InStyle q)) t h = none-taken t h
+taken-all Browse (Units InJson) t h = none-taken t h
 taken-all Browse ScriptRaw t h = none-taken t h
 taken-all Browse Unknown t h = none-taken t h
 
@@ -92,11 +93,12 @@ module _ (o : Operation) (n : AnyContext) (borrows : Bool) (t out : List ℕ) wh
       go not-utf8 h = refl
       go cut-short h = refl
       go not-a-form h = refl
+      go lone-surrogate h = refl
       go lent h = refl
       go no-room h = refl
       go written h =
           length-append (result ms) (drop (size (result ms)) out) ∙ ap (λ (m : ℕ). size (result ms) + m) (length-drop (size (result ms)) out)
-          ∙ add-back (size (result ms)) (size out) (h .1 .1 .1 .1 .1 .1 .1 .0)
+          ∙ add-back (size (result ms)) (size out) (h .1 .1 .1 .1 .1 .1 .1 .1 .0)
 
   -- On any refusal same, replaced, left and reason are 0 and the output is unchanged.
   pub refused-unchanged : (answerOf o n borrows t out .status ≡ 0 → ⊥)
@@ -111,6 +113,7 @@ module _ (o : Operation) (n : AnyContext) (borrows : Bool) (t out : List ℕ) wh
       go not-utf8 h = (refl, refl, refl, refl, refl)
       go cut-short h = (refl, refl, refl, refl, refl)
       go not-a-form h = (refl, refl, refl, refl, refl)
+      go lone-surrogate h = (refl, refl, refl, refl, refl)
       go lent h = absurd (h refl)
       go no-room h = (refl, refl, refl, refl, refl)
       go written h = absurd (h refl)
@@ -155,12 +158,13 @@ module _ (o : Operation) (n : AnyContext) (borrows : Bool) (t out : List ℕ) wh
       go not-utf8 h e = absurd (suc-ne-zero 1 e)
       go cut-short h e = absurd (suc-ne-zero 6 e)
       go not-a-form h e = absurd (suc-ne-zero 3 e)
+      go lone-surrogate h e = absurd (suc-ne-zero 9 e)
       go lent h e =
-          let w = taken-all o n t (case-taken k (h .1 .0) (h .1 .1 .1 .1 .1 .0)) in
+          let w = taken-all o n t (case-taken k (h .1 .0) (h .1 .1 .1 .1 .1 .0) (h .1 .1 .1 .1 .1 .1 .0)) in
           record { whole = w; long = refl; nowhere = refl; count = sym (h .0 .1); same = (λ q. refl, λ q. refl); first = (refl, refl); view = sym (same-result ms (h .0 .1) ∙ w); head = λ q. absurd (q (h .0)); tail = refl }
       go no-room h e = absurd (suc-ne-zero 2 e)
       go written h e =
-          let w = taken-all o n t (case-taken k (h .1 .0) (h .1 .1 .1 .1 .1 .0)) in
+          let w = taken-all o n t (case-taken k (h .1 .0) (h .1 .1 .1 .1 .1 .0) (h .1 .1 .1 .1 .1 .1 .0)) in
           record {
             whole = w;
             long = refl;
@@ -168,7 +172,7 @@ module _ (o : Operation) (n : AnyContext) (borrows : Bool) (t out : List ℕ) wh
             count = refl;
             same = same-iff (replaced ms);
             first = (refl, refl);
-            view = view-written (h .1 .1 .1 .1 .1 .1 .1 .0) w;
+            view = view-written (h .1 .1 .1 .1 .1 .1 .1 .1 .0) w;
             head = λ q. take-append-seam (result ms) (drop (size (result ms)) out);
             tail = drop-append-seam (result ms) (drop (size (result ms)) out);
           }
@@ -179,7 +183,7 @@ module _ (o : Operation) (n : AnyContext) (borrows : Bool) (t out : List ℕ) wh
 
   -- In a borrowing call NO_ROOM comes only where something is replaced.
   pub borrow-room : borrows ≡ true → caseOf k ≡ no-room → replaced ms ≡ 0 → ⊥
-  borrow-room b e z = case-iff k no-room .0 e .1 .1 .1 .1 .1 .1 .0 (b, z)
+  borrow-room b e z = case-iff k no-room .0 e .1 .1 .1 .1 .1 .1 .1 .0 (b, z)
 
   -- A borrowing call leaves the output alone where nothing is replaced.
   pub lent-alone : borrows ≡ true → replaced ms ≡ 0 → outOf o n borrows t out ≡ out
@@ -191,17 +195,18 @@ module _ (o : Operation) (n : AnyContext) (borrows : Bool) (t out : List ℕ) wh
       go not-utf8 h = refl
       go cut-short h = refl
       go not-a-form h = refl
+      go lone-surrogate h = refl
       go lent h = refl
       go no-room h = refl
-      go written h = absurd (h .1 .1 .1 .1 .1 .1 .0 (b, z))
+      go written h = absurd (h .1 .1 .1 .1 .1 .1 .1 .0 (b, z))
 
 -- The length that NO_ROOM names is the length needed: the call passes exactly if the output has at least that many bytes.
 pub room-needed : (o : Operation) (n : AnyContext) (borrows : Bool) (t out other : List ℕ) → caseOf (call o n borrows t out) ≡ no-room
     → (answerOf o n borrows t out .length ≤ size other) ↔ (caseOf (call o n borrows t other) ≡ written)
 room-needed o n borrows t out other e = (
   λ h. case-iff (call o n borrows t other) written .1
-      (tt, (g .1 .0, (g .1 .1 .0, (g .1 .1 .1 .0, (g .1 .1 .1 .1 .0, (g .1 .1 .1 .1 .1 .0, (g .1 .1 .1 .1 .1 .1 .0, ((λ q. over-long _ _ (subst (λ (m : ℕ). m ≤ size other) long h) q), tt)))))))),
-  λ q. subst (λ (m : ℕ). m ≤ size other) (sym long) (not-below _ _ (case-iff (call o n borrows t other) written .0 q .1 .1 .1 .1 .1 .1 .1 .0)),
+      (tt, (g .1 .0, (g .1 .1 .0, (g .1 .1 .1 .0, (g .1 .1 .1 .1 .0, (g .1 .1 .1 .1 .1 .0, (g .1 .1 .1 .1 .1 .1 .0, (g .1 .1 .1 .1 .1 .1 .1 .0, ((λ q. over-long _ _ (subst (λ (m : ℕ). m ≤ size other) long h) q), tt))))))))),
+  λ q. subst (λ (m : ℕ). m ≤ size other) (sym long) (not-below _ _ (case-iff (call o n borrows t other) written .0 q .1 .1 .1 .1 .1 .1 .1 .1 .0)),
 )
   where
     g : Given (call o n borrows t out) no-room
@@ -232,6 +237,7 @@ passed-given o n borrows t out = go (caseOf (call o n borrows t out)) (case-give
     go not-utf8 h e = absurd (numbers 2 0 e tt)
     go cut-short h e = absurd (numbers 7 0 e tt)
     go not-a-form h e = absurd (numbers 4 0 e tt)
+    go lone-surrogate h e = absurd (numbers 10 0 e tt)
     go lent h e = (valid (λ n. h .1 .1 .1 .0 (n, h .1 .1 .1 .1 .0)), not-below _ _ (h .1 .1 .0))
     go no-room h e = absurd (numbers 3 0 e tt)
     go written h e = (valid (λ n. h .1 .1 .1 .0 (n, h .1 .1 .1 .1 .0)), not-below _ _ (h .1 .1 .0))
@@ -241,7 +247,7 @@ result-text : (o : Operation) (n : AnyContext) (t : List ℕ) → IsText t → t
 result-text Encode (Units c) t h w = form-text c (encodeOf c t) (encode-any c t h)
 result-text Encode ScriptRaw t h w = raw-text t h
 result-text Encode Unknown t h w = ([], tt, refl)
-result-text Decode (Units c) t h w = decode-text c t h
+result-text Decode (Units c) t h w = decode-text c t h w
 result-text Decode ScriptRaw t h w = ([], tt, refl)
 result-text Decode Unknown t h w = ([], tt, refl)
 result-text Read (Units c) t h w = let (cs, i, b, e) = form-free c t (form-iff c t .1 (ap size w)) in (cs, i, e)
@@ -250,6 +256,7 @@ result-text Read Unknown t h w = ([], tt, refl)
 result-text Browse (Units (InHtml k)) t h w = browse-text t h
 result-text Browse (Units (InScript q)) t h w = ([], tt, refl)
 result-text Browse (Units (InStyle q)) t h w = ([], tt, refl)
+result-text Browse (Units InJson) t h w = ([], tt, refl)
 result-text Browse ScriptRaw t h w = ([], tt, refl)
 result-text Browse Unknown t h w = ([], tt, refl)
 

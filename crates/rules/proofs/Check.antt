@@ -10,11 +10,11 @@ use native.Mathlib.Omega.{arith}
 use borrow.Author.Tests.{eqb-true, eqb-false}
 use lib.Dec.{eqb, ltb}
 use lib.ListN.{length as size, drop}
-use Rattle.rules.specs.Moves.{Move, Rule, through, result, replaced, place}
+use Rattle.rules.specs.Moves.{Move, Rule, through, result, replaced, place, whyAt}
 use Rattle.rules.specs.Utf8.{IsText, IsFree, validTo, isCut}
 use Rattle.rules.specs.Units.{IsForm, unread}
 use Rattle.rules.specs.Operations.{ruleOf, encodeOf, readOf}
-use Rattle.rules.specs.Refusals.{Call, Case, bad-context, too-long, not-utf8, cut-short, not-a-form, lent, no-room, written, Given, movesOf, movesIn, caseBy, caseOf, refusal, answerAt, outAt, call, answerBy, answerOf, outOf, textLimit, checkedAs, checked, checkOf}
+use Rattle.rules.specs.Refusals.{Call, Case, bad-context, too-long, not-utf8, cut-short, not-a-form, lone-surrogate, lent, no-room, written, Given, movesOf, movesIn, caseBy, caseOf, refusal, answerAt, outAt, call, answerBy, answerOf, outOf, textLimit, checkedAs, checked, checkOf}
 use Rattle.rules.specs.declared.Answer.{Answer}
 use Rattle.rules.specs.declared.Checked.{Checked}
 use Rattle.rules.specs.declared.Context.{Context}
@@ -29,14 +29,15 @@ use Rattle.rules.proofs.Back.{passes, read-back, read-refuses}
 -- ---- the pair agrees
 
 -- Whatever the tests of lending and room say, the check is the same.
-same-check : (t : List ℕ) (ms : List Move) (a b x c d e f g : Bool) → checked (answerAt (chosen a b x c d e) t ms) ≡ checked (answerAt (chosen a b x c f g) t ms)
-same-check t ms true b x c d e f g = refl
-same-check t ms false true true c d e f g = refl
-same-check t ms false true false c d e f g = refl
-same-check t ms false false x true d e f g = refl
-same-check t ms false false x false d e f g = passes-check d e ∙ sym (passes-check f g)
+same-check : (t : List ℕ) (ms : List Move) (a b x c y d e f g : Bool) → checked (answerAt (chosen a b x c y d e) t ms) ≡ checked (answerAt (chosen a b x c y f g) t ms)
+same-check t ms true b x c y d e f g = refl
+same-check t ms false true true c y d e f g = refl
+same-check t ms false true false c y d e f g = refl
+same-check t ms false false x true true d e f g = refl
+same-check t ms false false x true false d e f g = refl
+same-check t ms false false x false y d e f g = passes-check d e ∙ sym (passes-check f g)
   where
-    passes-check : (d e : Bool) → checked (answerAt (chosen false false x false d e) t ms) ≡ checkedAs 0 (size (result ms)) 0
+    passes-check : (d e : Bool) → checked (answerAt (chosen false false x false y d e) t ms) ≡ checkedAs 0 (size (result ms)) 0
     passes-check true e = refl
     passes-check false true = refl
     passes-check false false = refl
@@ -47,7 +48,7 @@ unfolding caseBy
 alike none borrows lends t out other = refl
 alike (some rule) borrows lends t out other =
     let ms = through rule t in
-    same-check t ms (ltb textLimit (size t)) (ltb (validTo t) (size t)) (isCut (drop (validTo t) t)) (ltb (place ms) (size t))
+    same-check t ms (ltb textLimit (size t)) (ltb (validTo t) (size t)) (isCut (drop (validTo t) t)) (ltb (place ms) (size t)) (eqb (whyAt rule t) 10)
     (borrows && eqb (replaced ms) 0) (ltb (size out) (size (result ms))) (lends && eqb (replaced ms) 0) (ltb (size other) (size (result ms)))
 
 -- check agrees with every taking call on the same text, copying or borrowing, into any output: in status, length and place, but for NO_ROOM.
@@ -85,6 +86,7 @@ check-take n borrows t out room =
     go not-utf8 h r = refl
     go cut-short h r = refl
     go not-a-form h r = refl
+    go lone-surrogate h r = refl
     go lent h r = refl
     go no-room h r = absurd (over-long (size (result (movesIn k))) (size out) r (h .0))
     go written h r = refl
@@ -110,6 +112,7 @@ check-refused n borrows t out h =
     go not-utf8 q = (refl, refl)
     go cut-short q = (refl, refl)
     go not-a-form q = (refl, refl)
+    go lone-surrogate q = (refl, refl)
     go lent q = absurd (q refl)
     go no-room q = absurd (q refl)
     go written q = absurd (q refl)
@@ -134,6 +137,7 @@ passed-take n t e = sym (check-take n false t (result ms) (at-most (caseOf (call
     at-most not-utf8 = omega arith
     at-most cut-short = omega arith
     at-most not-a-form = omega arith
+    at-most lone-surrogate = omega arith
     at-most lent = omega arith
     at-most no-room = omega arith
     at-most written = omega arith
@@ -147,7 +151,7 @@ module _ (c : Context) (t : List ℕ) where
     λ e. let st = passed-take (Units c) t e in
         (form-iff c t .1 (ap size (passed Read (Units c) false t (readOf c t) st .whole)), passed-given Read (Units c) false t (readOf c t) st .1),
     λ f. ap (λ (k : Checked). k .status) (check-passed (Units c) false t (readOf c t)
-        (passes Read (Units c) false t (readOf c t) (λ q. Option·some-ne-none _ q) (f .1) (form-text c t (f .0)) (λ no. no (f .0)) (omega arith))),
+        (passes Read (Units c) false t (readOf c t) (λ q. Option·some-ne-none _ q) (f .1) (form-text c t (f .0)) (λ no. no (f .0)) (λ no. no) (omega arith))),
   )
 
   -- Its length is then that of the text that the form represents.

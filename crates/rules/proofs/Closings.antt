@@ -12,11 +12,11 @@ use borrow.Author.Tests.{ltb-true, ltb-false, le-ltb, lt-ltb}
 use lib.Dec.{eqb, ltb}
 use lib.ListN.{length as size, drop, length-append}
 use Rattle.rules.specs.Bytes.{ascii}
-use Rattle.rules.specs.Moves.{Rule, through, result, place, replaced}
+use Rattle.rules.specs.Moves.{Rule, through, result, place, replaced, whyAt}
 use Rattle.rules.specs.Utf8.{IsText, charStep, validTo, isCut}
 use Rattle.rules.specs.Encoding.{rawStep}
 use Rattle.rules.specs.Operations.{rawOf}
-use Rattle.rules.specs.Refusals.{Case, bad-context, too-long, not-utf8, cut-short, not-a-form, lent, no-room, written, Given, answerAt, textLimit, caseBy, caseOf, call, answerBy, answerOf, Allowed, viewOf}
+use Rattle.rules.specs.Refusals.{Case, bad-context, too-long, not-utf8, cut-short, not-a-form, lone-surrogate, lent, no-room, written, Given, answerAt, textLimit, caseBy, caseOf, call, answerBy, answerOf, Allowed, viewOf}
 use Rattle.rules.specs.ScriptData.{closingTag}
 use Rattle.rules.specs.Closings.{closing, closingAt, closingOf}
 use Rattle.rules.specs.declared.Answer.{Answer}
@@ -71,7 +71,7 @@ unfolding closingOf caseBy
 closing-refused rule borrows t out =
     let ms = through rule t in
     go (ltb textLimit (size t)) (ltb (validTo t) (size t)) (isCut (drop (validTo t) t))
-    (cond (ltb (place ms) (size t)) not-a-form (cond (borrows && eqb (replaced ms) 0) lent (cond (ltb (size out) (size (result ms))) no-room written)))
+    (cond (ltb (place ms) (size t)) (cond (eqb (whyAt rule t) 10) lone-surrogate not-a-form) (cond (borrows && eqb (replaced ms) 0) lent (cond (ltb (size out) (size (result ms))) no-room written)))
   where
     go : (x y z : Bool) (rest : Case)
         → (cond x (closing 1 0 0) (cond y (closing (cond z 7 2) 0 (validTo t)) (closingAt (closingTag t))) .status ≡ 0 → ⊥)
@@ -135,8 +135,9 @@ module _ (borrows : Bool) (t out : List ℕ) (a : Answer) (o : List ℕ) (allowe
       go not-utf8 h = absurd (h .0 .0 (passed-text Encode ScriptRaw borrows t out a o allowed fine))
       go cut-short h = absurd (cut-no-text wrote (h .0) (passed-text Encode ScriptRaw borrows t out a o allowed fine))
       go not-a-form h = absurd (h .0)
+      go lone-surrogate h = absurd (h .0)
       go lent h = refl
-      go no-room h = absurd (crowded roomy (h .1 .1 .1 .1 .1 .1 .0) (h .0))
+      go no-room h = absurd (crowded roomy (h .1 .1 .1 .1 .1 .1 .1 .0) (h .0))
       go written h = refl
 
       st : b .status ≡ 0

@@ -13,27 +13,30 @@ use Rattle.rules.specs.Moves.{Move, keep, swap, leave, stop, gives, take
 use Rattle.rules.specs.Tables.{Row, rowAt, key, value, htmlRows, rows, replacedChars}
 use Rattle.rules.specs.Units.{left, undecoded}
 use Rattle.rules.specs.declared.Context.{Context}
-use Rattle.rules.specs.declared.Context.the-variants.{InHtml, InScript, InStyle}
+use Rattle.rules.specs.declared.Context.the-variants.{InHtml, InScript, InStyle, InJson}
 use Rattle.rules.specs.Units.{IsUnit}
 use Rattle.rules.specs.Encoding.{closes, anyCase, terminators}
 use Rattle.rules.specs.Reading.{undo}
 use Rattle.rules.specs.Names.{names}
 use Rattle.rules.specs.References.{onto, bodyOf, meaning, refer, atAmp, referenceBy, decodeChar, referenceStep}
 use Rattle.rules.specs.Escapes.{afterLess, escapeBy}
+use Rattle.rules.specs.Json.{escapedOnly, jsonStep}
 use Rattle.rules.specs.Operations.{decodeStep, decodeOf}
-use Rattle.rules.proofs.Tests.{and-left, and-right, and-both, or-cases, or-false, is-false, all-in, first-none, same-bytes, same-in, in-append}
+use Rattle.rules.proofs.Tests.{and-left, and-right, and-both, or-cases, or-left, or-false, is-false, all-in, any-in, first-none, same-bytes, same-in, in-append}
 use Rattle.rules.proofs.Machine.{Makes, Follows, singly, cut, cut-moves, result-cut}
 use Rattle.rules.proofs.Chars.{isTail, taken-singles, char-singly}
 use Rattle.rules.proofs.Tables.{bar-stops, row-length, row-first}
 use Rattle.rules.proofs.Every.{every, values-code}
+use Rattle.rules.proofs.Json.{element-keeps, json-row}
 
--- ---- at any byte but one the decoder of a family keeps the byte
+-- ---- at any byte but a few the decoder of a family keeps the byte
 
--- `&` or `\`.
-abbrev mark : Context → ℕ
-mark (InHtml h) = 38
-mark (InScript q) = 92
-mark (InStyle q) = 92
+-- `&`; `\`; in a JSON string all that may not stand by itself.
+abbrev pub halts : Context → List ℕ
+halts (InHtml h) = 38 ∷ []
+halts (InScript q) = 92 ∷ []
+halts (InStyle q) = 92 ∷ []
+halts InJson = escapedOnly
 
 abbrev begins : ℕ → List ℕ → Bool
 begins b [] = false
@@ -58,22 +61,26 @@ escape-quiet name rs ok p x s h =
     (is-false (eqb p 60 && closes (ascii "\\/" ++ name) (x ∷ s))
     (λ t. h (or-false (eqb x 92) (and-left (oneOf (92 ∷ []) x) (fits oneOf (map anyCase (ascii "/" ++ name) ++ terminators ∷ []) s) (and-right (eqb p 60) (closes (ascii "\\/" ++ name) (x ∷ s)) t)))))
 
-decode-quiet : (c : Context) → T (all (λ (e : Row). begins (mark c) (value e)) (rows c)) → (p x : ℕ) (s : List ℕ) → (T (eqb x (mark c)) → ⊥)
-    → decodeStep c p (x ∷ s) ≡ keep (x ∷ [])
+-- Every value of a script or style string begins with the backslash.
+abbrev slashed : Context → Bool
+slashed (InHtml h) = true
+slashed (InScript q) = all (λ (e : Row). begins 92 (value e)) (rows (InScript q))
+slashed (InStyle q) = all (λ (e : Row). begins 92 (value e)) (rows (InStyle q))
+slashed InJson = true
+
+decode-quiet : (c : Context) (p x : ℕ) (s : List ℕ) → (T (oneOf (halts c) x) → ⊥) → decodeStep c p (x ∷ s) ≡ keep (x ∷ [])
 unfolding decodeStep referenceStep
-decode-quiet (InHtml h) ok = reference-quiet decodeChar
-decode-quiet (InScript q) ok = escape-quiet (ascii "script") (rows (InScript q)) ok
-decode-quiet (InStyle q) ok = escape-quiet (ascii "style") (rows (InStyle q)) ok
+decode-quiet (InHtml h) p x s n = reference-quiet decodeChar p x s (λ t. n (or-left (eqb x 38) false t))
+decode-quiet (InScript q) p x s n = escape-quiet (ascii "script") (rows (InScript q)) (every slashed tt (InScript q)) p x s (λ t. n (or-left (eqb x 92) false t))
+decode-quiet (InStyle q) p x s n = escape-quiet (ascii "style") (rows (InStyle q)) (every slashed tt (InStyle q)) p x s (λ t. n (or-left (eqb x 92) false t))
+decode-quiet InJson p x s n = element-keeps p x s n
 
--- Every value begins with that byte, which is no byte 80 to BF and is no plain character of the context.
-abbrev marked : Context → Bool
-marked c = all (λ (e : Row). begins (mark c) (value e)) (rows c)
+-- None of these bytes is a plain character of the context, or a byte 80 to BF.
+abbrev haltsBarred : Context → Bool
+haltsBarred c = all (λ (b : ℕ). any (sameBytes (b ∷ [])) (replacedChars c)) (halts c)
 
-abbrev markBarred : Context → Bool
-markBarred c = any (sameBytes (mark c ∷ [])) (replacedChars c)
-
-abbrev markLeads : Context → Bool
-markLeads c = not (isTail (mark c))
+abbrev haltsLead : Context → Bool
+haltsLead c = all (λ (b : ℕ). not (isTail b)) (halts c)
 
 -- ---- a reference that is read is read whatever follows
 
@@ -93,14 +100,14 @@ abbrev undoes : Move → Row → Bool
 undoes (keep a) e = false
 undoes (swap a b) e = sameBytes a (value e) && sameBytes b (key e)
 undoes (leave r a) e = false
-undoes stop e = false
+undoes (stop w) e = false
 
 undoes-row : (m : Move) (e : Row) → T (undoes m e) → m ≡ swap (value e) (key e)
 undoes-row (keep a) e t = absurd t
 undoes-row (leave r a) e t = absurd t
 undoes-row (swap a b) e t =
     λ i. swap (same-bytes a (value e) (and-left (sameBytes a (value e)) (sameBytes b (key e)) t) i) (same-bytes b (key e) (and-right (sameBytes a (value e)) (sameBytes b (key e)) t) i)
-undoes-row stop e t = absurd t
+undoes-row (stop w) e t = absurd t
 
 reference-append : (p : ℕ) (s r : List ℕ) (e : Row) → T (undoes (referenceStep 0 s) e) → referenceStep p (s ++ r) ≡ swap (value e) (key e)
 unfolding referenceStep
@@ -118,14 +125,15 @@ abbrev refers : List (List ℕ) → Row → Bool
 refers bad e = any (sameBytes (key e)) bad || undoes (referenceStep 0 (value e)) e
 
 abbrev refersIn : Context → Bool
-unfolding names referenceStep
+unfolding names referenceStep jsonStep
 refersIn (InHtml h) = all (refers (left h)) (htmlRows h)
 refersIn (InScript q) = true
 refersIn (InStyle q) = true
+refersIn InJson = all (λ (e : Row). undoes (jsonStep 0 (value e)) e) (rows InJson)
 
 decode-row : (c : Context) (e : Row) → In e (rows c) → (In (key e) (undecoded c) → ⊥) → (r : List ℕ)
     → rowAt value (rows c) (value e ++ r) ≡ some e → (p : ℕ) → decodeStep c p (value e ++ r) ≡ swap (value e) (key e)
-unfolding decodeStep referenceStep names
+unfolding decodeStep referenceStep names jsonStep
 decode-row (InHtml h) e i n r w p = go (or-cases (any (sameBytes (key e)) (left h)) (undoes (referenceStep 0 (value e)) e) (all-in (refers (left h)) (htmlRows h) (every refersIn tt (InHtml h)) e i))
   where
     go : T (any (sameBytes (key e)) (left h)) ⊎ T (undoes (referenceStep 0 (value e)) e) → referenceStep p (value e ++ r) ≡ swap (value e) (key e)
@@ -133,6 +141,8 @@ decode-row (InHtml h) e i n r w p = go (or-cases (any (sameBytes (key e)) (left 
     go (inr t) = reference-append p (value e) r e t
 decode-row (InScript q) e i n r w p = ap (λ (o : Option Row). undo o (afterLess (ascii "script") p (value e ++ r))) w
 decode-row (InStyle q) e i n r w p = ap (λ (o : Option Row). undo o (afterLess (ascii "style") p (value e ++ r))) w
+decode-row InJson e i n r w p =
+    json-row (value e) (key e) r p (undoes-row (jsonStep 0 (value e)) e (all-in (λ (e : Row). undoes (jsonStep 0 (value e)) e) (rows InJson) (every refersIn tt InJson) e i))
 
 -- ---- through a form
 
@@ -141,20 +151,25 @@ abbrev pub IsDecoded : Context → Move → Type 0
 IsDecoded c u = IsUnit (rows c) (replacedChars c) u × (In (gives u) (undecoded c) → ⊥)
 
 module _ (c : Context) where
-  -- At any other byte than its mark a decoder keeps the byte.
-  pub at-mark : (p x : ℕ) (s : List ℕ) → (T (eqb x (mark c)) → ⊥) → decodeStep c p (x ∷ s) ≡ keep (x ∷ [])
-  at-mark = decode-quiet c (every marked tt c)
+  -- At any other byte than these a decoder keeps the byte.
+  pub at-other : (p x : ℕ) (s : List ℕ) → (T (oneOf (halts c) x) → ⊥) → decodeStep c p (x ∷ s) ≡ keep (x ∷ [])
+  at-other = decode-quiet c
 
   decode-keeps : (a : List ℕ) → IsDecoded c (keep a) → (r : List ℕ) → Follows (decodeStep c) (singly a) r
   decode-keeps [] u r = tt
-  decode-keeps (x ∷ a) u r =
-      char-singly (decodeStep c) (λ p y s t. at-mark p y s (λ h. T-not (isTail (mark c)) (every markLeads tt c) (subst (λ (z : ℕ). T (isTail z)) (eqb→eq y (mark c) h) t)))
-      x a r (u .0 .0) (λ p. at-mark p x (a ++ r) no-mark)
+  decode-keeps (x ∷ a) u r = char-singly (decodeStep c) (λ p y s t. at-other p y s (no-tail y t)) x a r (u .0 .0) (λ p. at-other p x (a ++ r) no-halt)
     where
-      no-mark : T (eqb x (mark c)) → ⊥
-      no-mark h =
-          bar-stops value (rows c) (replacedChars c) (values-code c) (x ∷ a) r (u .0) (mark c ∷ []) (same-in (mark c ∷ []) (replacedChars c) (every markBarred tt c))
-          (subst (λ (z : ℕ). T (stands (z ∷ []) (x ∷ (a ++ r)))) (eqb→eq x (mark c) h) (and-both (eqb x x) true (eqb-refl x) tt))
+      no-tail : (y : ℕ) → T (isTail y) → T (oneOf (halts c) y) → ⊥
+      no-tail y t h =
+          let (b, i, e) = any-in (eqb y) (halts c) h in
+          T-not (isTail b) (all-in (λ (b : ℕ). not (isTail b)) (halts c) (every haltsLead tt c) b i) (subst (λ (z : ℕ). T (isTail z)) (eqb→eq y b e) t)
+
+      no-halt : T (oneOf (halts c) x) → ⊥
+      no-halt h =
+          let (b, i, e) = any-in (eqb x) (halts c) h in
+          bar-stops value (rows c) (replacedChars c) (values-code c) (x ∷ a) r (u .0) (b ∷ [])
+          (same-in (b ∷ []) (replacedChars c) (all-in (λ (b : ℕ). any (sameBytes (b ∷ [])) (replacedChars c)) (halts c) (every haltsBarred tt c) b i))
+          (subst (λ (z : ℕ). T (stands (z ∷ []) (x ∷ (a ++ r)))) (eqb→eq x b e) (and-both (eqb x x) true (eqb-refl x) tt))
 
   decode-swaps : (v k : List ℕ) → IsDecoded c (swap v k) → (r : List ℕ) → Makes (decodeStep c) (swap v k) r
   decode-swaps v k u r = (

@@ -91,7 +91,7 @@ module _ (c : Context) where
   turned (keep a ∷ us) g = (g .0, turned us (g .1))
   turned (swap v k ∷ us) g = (g .0, turned us (g .1))
   turned (leave r a ∷ us) g = absurd (g .0)
-  turned (stop ∷ us) g = absurd (g .0)
+  turned (stop w ∷ us) g = absurd (g .0)
 
   -- Through the text of a run the encoder goes the run back, byte by byte.
   pub encode-moves : (us : List Move) → All (IsUnit (table c) (replacedChars c)) us → through (encodeStep c) (result us) ≡ cut (map turn us)
@@ -140,7 +140,7 @@ module _ (c : Context) where
   readable : (u : Move) → IsUnit (table c) (replacedChars c) u → (In (gives u) (unread c) → ⊥) → IsUnit (rows c) (replacedChars c) u
   readable (keep a) i s = i
   readable (leave r a) i s = i
-  readable stop i s = i
+  readable (stop w) i s = i
   readable (swap v k) i s = go (in-append (k, v) (lossy c) (rows c) i)
     where
       go : In (k, v) (lossy c) ⊎ In (k, v) (rows c) → In (k, v) (rows c)
@@ -167,7 +167,7 @@ module _ (c : Context) where
       let (cs, h, f, e) = run-free us (g .1) in
       (k ∷ cs, (key-char (k, v) (in-right (k, v) (lossy c) (rows c) (g .0)), h), ((λ i. rows-readable (k, v) (g .0) i), f), ap (λ (s : List ℕ). k ++ s) e)
   run-free (leave r a ∷ us) g = absurd (g .0)
-  run-free (stop ∷ us) g = absurd (g .0)
+  run-free (stop w ∷ us) g = absurd (g .0)
 
   -- The units of a form are units of the whole table.
   pub wide : (us : List Move) → IsRun c us → All (IsUnit (table c) (replacedChars c)) us
@@ -175,7 +175,7 @@ module _ (c : Context) where
   wide (keep a ∷ us) g = (g .0, wide us (g .1))
   wide (swap v k ∷ us) g = (in-right (k, v) (lossy c) (rows c) (g .0), wide us (g .1))
   wide (leave r a ∷ us) g = absurd (g .0)
-  wide (stop ∷ us) g = absurd (g .0)
+  wide (stop w ∷ us) g = absurd (g .0)
 
   -- Any text is what a run of units of the whole table gives.
   pub table-run : (cs : List (List ℕ)) → All IsChar cs → (us : List Move) × All (IsUnit (table c) (replacedChars c)) us × (join cs ≡ result us)
@@ -205,7 +205,7 @@ module _ (c : Context) where
       go (inl i) vs h e = (keep v ∷ vs, (lossy-plain (k, v) i, h), ap (λ (s : List ℕ). v ++ s) e)
       go (inr i) vs h e = (swap v k ∷ vs, (i, h), ap (λ (s : List ℕ). v ++ s) e)
   plain-run (leave r a ∷ us) g = absurd (g .0)
-  plain-run (stop ∷ us) g = absurd (g .0)
+  plain-run (stop w ∷ us) g = absurd (g .0)
 
   -- A form is a text.
   pub run-text : (us : List Move) → IsRun c us → IsText (taken us)
@@ -213,4 +213,4 @@ module _ (c : Context) where
   run-text (keep a ∷ us) g = let (cs, h, e) = run-text us (g .1) in (a ∷ cs, (g .0 .0, h), ap (λ (s : List ℕ). a ++ s) e)
   run-text (swap v k ∷ us) g = text-append v (taken us) (value-text c (k, v) (g .0)) (run-text us (g .1))
   run-text (leave r a ∷ us) g = absurd (g .0)
-  run-text (stop ∷ us) g = absurd (g .0)
+  run-text (stop w ∷ us) g = absurd (g .0)

@@ -13,7 +13,7 @@ use Rattle.rules.specs.Contexts.{Label, contextNames, operationNames}
 use Rattle.rules.specs.Operations.{ruleOf, decodeOf, readOf, readTo, browseOf}
 use Rattle.rules.specs.Refusals.{Call, no-room, movesOf, movesIn, caseOf}
 use Rattle.rules.specs.Program.{line, textOf, contextLine, requestOf}
-use Rattle.rules.specs.declared.Context.the-variants.{InHtml, InScript, InStyle}
+use Rattle.rules.specs.declared.Context.the-variants.{InHtml, InScript, InStyle, InJson}
 use Rattle.rules.specs.declared.AnyContext.{AnyContext}
 use Rattle.rules.specs.declared.AnyContext.the-variants.{Units, ScriptRaw, Unknown}
 use Rattle.rules.specs.declared.Operation.{Operation}
@@ -35,6 +35,7 @@ result-length Read Unknown t = omega arith
 result-length Browse (Units (InHtml h)) t = omega (arith, browse-length t)
 result-length Browse (Units (InScript q)) t = omega arith
 result-length Browse (Units (InStyle q)) t = omega arith
+result-length Browse (Units InJson) t = omega arith
 result-length Browse ScriptRaw t = omega arith
 result-length Browse Unknown t = omega arith
 

@@ -95,7 +95,7 @@ replaced-cons : (m : Move) (ms : List Move) → replaced (m ∷ ms) ≡ replaced
 replaced-cons (keep a) ms = omega arith
 replaced-cons (swap a b) ms = omega arith
 replaced-cons (leave r a) ms = omega arith
-replaced-cons stop ms = omega arith
+replaced-cons (stop w) ms = omega arith
 
 pub at-least : (ms : List Move) → All Grows ms → replaced ms + length (taken ms) ≤ length (result ms)
 at-least [] g = omega arith
@@ -119,7 +119,7 @@ balance (swap a b ∷ ms) =
     (swap-balance (length a) (length b) (length (result ms)) (length (taken ms)) (growth ms) (shrinkage ms) (balance ms))
 balance (leave r a ∷ ms) =
     rw (length-append a (result ms), length-append a (taken ms)) (keep-balance (length a) (length (result ms)) (length (taken ms)) (growth ms) (shrinkage ms) (balance ms))
-balance (stop ∷ ms) = balance ms
+balance (stop w ∷ ms) = balance ms
 
 no-loss : (a b k : ℕ) → 1 + a ≤ b → k ≡ 0 → a - b + k ≡ 0
 no-loss a b k h e = omega arith
@@ -130,7 +130,7 @@ none-shrinks [] g = refl
 none-shrinks (keep a ∷ ms) g = none-shrinks ms (g .1)
 none-shrinks (swap a b ∷ ms) g = no-loss (length a) (length b) (shrinkage ms) (g .0 .1) (none-shrinks ms (g .1))
 none-shrinks (leave r a ∷ ms) g = none-shrinks ms (g .1)
-none-shrinks (stop ∷ ms) g = none-shrinks ms (g .1)
+none-shrinks (stop w ∷ ms) g = none-shrinks ms (g .1)
 
 none-left : (n a b : ℕ) → n + a ≤ b → b ≡ a → n ≡ 0
 none-left n a b h e = omega arith

@@ -9,7 +9,7 @@ use native.Mathlib.Omega.{arith}
 use lib.Dec.{T, leb, leb→le}
 use lib.ListN.{length, take, length-append}
 use Rattle.rules.specs.Bytes.{ascii, In, All, all, any, sameBytes}
-use Rattle.rules.specs.Moves.{Move, keep, swap, leave, stop, gives, taken, result, replaced, growth, through}
+use Rattle.rules.specs.Moves.{Move, keep, swap, leave, stop, gives, taken, result, replaced, growth, place, through}
 use Rattle.rules.specs.Utf8.{IsText, IsFree}
 use Rattle.rules.specs.Tables.{Row, key, value, rows, replacedChars}
 use Rattle.rules.specs.Units.{IsUnit, IsRun, IsForm, unread, undecoded}
@@ -17,6 +17,7 @@ use Rattle.rules.specs.Encoding.{encodeStep, rawStep}
 use Rattle.rules.specs.Reading.{readStep}
 use Rattle.rules.specs.Names.{names}
 use Rattle.rules.specs.References.{referenceStep, browseStep}
+use Rattle.rules.specs.Json.{jsonStep}
 use Rattle.rules.specs.Operations.{decodeStep, encodeOf, decodeOf, readOf, browseOf, rawOf, readTo}
 use Rattle.rules.specs.declared.Html.the-variants.{Text, Quoted}
 use Rattle.rules.specs.declared.Context.{Context}
@@ -29,7 +30,7 @@ use Rattle.rules.proofs.Every.{every, values-code}
 use Rattle.rules.proofs.Encoder.{encode-run, run-of, run-free, wide, table-run, plain-run, run-text}
 use Rattle.rules.proofs.Decoder.{IsDecoded, decode-cut, decode-run}
 use Rattle.rules.proofs.Growth.{encode-whole, encode-none, encode-six, encode-sum, raw-whole, raw-none, raw-six, raw-sum}
-use Rattle.rules.proofs.Whole.{decode-whole, decode-fifth, browse-whole, browse-fifth}
+use Rattle.rules.proofs.Whole.{decode-whole-if, decode-fifth, browse-whole, browse-fifth}
 
 -- A row's key is no longer than its value.
 abbrev noLonger : Row → Bool
@@ -179,15 +180,15 @@ module _ (c : Context) where
       rw (length-append k (result us), length-append v (taken us))
       (omega (arith, shorter us (g .1), leb→le (length k) (length v) (all-in noLonger (rows c) (every (λ (c : Context). all noLonger (rows c)) tt c) (k, v) (g .0))))
   shorter (leave r a ∷ us) g = absurd (g .0)
-  shorter (stop ∷ us) g = absurd (g .0)
+  shorter (stop w ∷ us) g = absurd (g .0)
 
   -- What read gives is no longer than what it takes.
   pub read-length : (s : List ℕ) → length (readOf c s) ≤ readTo c s
   read-length s = shorter (through (readStep c) s) (moves-fair (IsUnit (rows c) (replacedChars c)) (readStep c) (units-reads .fair) 0 0 s .0)
 
-  -- Where decode replaces nothing, its result is the text.
-  pub decode-same : (s : List ℕ) → replaced (through (decodeStep c) s) ≡ 0 → decodeOf c s ≡ s
-  decode-same s z = same-result (through (decodeStep c) s) z ∙ decode-whole c s
+  -- Where decode takes the text and replaces nothing, its result is the text.
+  pub decode-same : (s : List ℕ) → length s ≤ place (through (decodeStep c) s) → replaced (through (decodeStep c) s) ≡ 0 → decodeOf c s ≡ s
+  decode-same s h z = same-result (through (decodeStep c) s) z ∙ decode-whole-if c s h
 
 -- What script_raw writes is the text exactly if nothing is replaced.
 pub raw-same : (s : List ℕ) → (replaced (through rawStep s) ≡ 0) ↔ (rawOf s ≡ s)
@@ -213,13 +214,13 @@ browse-length = browse-fifth
 
 -- Each character that decode does not give back is not given back, and each that read does not give back is not.
 abbrev pub fails : Context → Bool
-unfolding encodeStep decodeStep readStep referenceStep names
+unfolding encodeStep decodeStep readStep referenceStep names jsonStep
 fails c =
     all (λ (a : List ℕ). not (sameBytes (decodeOf c (encodeOf c a)) a)) (undecoded c)
     && all (λ (a : List ℕ). not (sameBytes (readOf c (encodeOf c a)) a)) (unread c)
 
 pub exceptions-fail : (c : Context) → T (fails c)
-unfolding encodeStep decodeStep readStep referenceStep names
+unfolding encodeStep decodeStep readStep referenceStep names jsonStep
 exceptions-fail = every fails tt
 
 -- `'` in a quoted attribute is written six times as long, and `&nGt;` stands for a text that is a fifth longer.

@@ -8,6 +8,7 @@ pub mod Cut
 pub mod Every
 pub mod EveryByte
 pub mod Encoder
+pub mod Json
 pub mod Decoder
 pub mod Search
 pub mod Reasons
@@ -18,6 +19,7 @@ pub mod Numbers
 pub mod Characters
 pub mod Texts
 pub mod Laws
+pub mod JsonWritten
 pub mod Refused
 pub mod Calls
 pub mod Back

@@ -41,10 +41,10 @@ from-next rule t i k m h e z =
     rw (d, e′, z) (ap (andThen m) (skip-past rule (getD t i 0) k (drop (i + 1) t) ∙ rw (past-before, drop-drop, a)) ∙ and-then m k (from rule t (i + suc k)) z)
 
 -- A stop ends it.
-pub from-stop : (rule : Rule) (t : List ℕ) (i : ℕ) → i < length t → rule (before t i) (drop i t) ≡ stop → from rule t i ≡ []
-from-stop rule t i h e =
+pub from-stop : (rule : Rule) (t : List ℕ) (i : ℕ) {w : ℕ} → i < length t → rule (before t i) (drop i t) ≡ stop w → from rule t i ≡ []
+from-stop rule t i {w} h e =
     let d = drop-next t i h in
-    let e′ : rule (before t i) (getD t i 0 ∷ drop (i + 1) t) ≡ stop = rw d at e in
+    let e′ : rule (before t i) (getD t i 0 ∷ drop (i + 1) t) ≡ stop w = rw d at e in
     rw (d, e′)
 
 -- The end of the text ends it.

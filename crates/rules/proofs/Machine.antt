@@ -33,7 +33,7 @@ pub and-then : (m : Move) (k : ℕ) (ms : List Move) → length (takes m) ≡ su
 and-then (keep a) k ms e = refl
 and-then (swap a b) k ms e = refl
 and-then (leave r a) k ms e = refl
-and-then stop k ms e = absurd (suc-ne-zero k (sym e))
+and-then (stop w) k ms e = absurd (suc-ne-zero k (sym e))
 
 -- One move, and then the moves from its end on.
 pub one-move : (rule : Rule) (p : ℕ) (m : Move) (r : List ℕ) → Makes rule m r → (q : ℕ) × (moves rule p 0 (takes m ++ r) ≡ m ∷ moves rule q 0 r)
@@ -82,19 +82,26 @@ abbrev pub Fair : (Move → Type 0) → Move → List ℕ → Type 0
 Fair good (keep a) s = Stands good (keep a) s
 Fair good (swap a b) s = Stands good (swap a b) s
 Fair good (leave r a) s = Stands good (leave r a) s
-Fair good stop s = Unit {0}
+Fair good (stop w) s = Unit {0}
+
+-- What is good in one way is fair in another that it implies.
+pub fair-map : {good other : Move → Type 0} → ((m : Move) → good m → other m) → (m : Move) (s : List ℕ) → Fair good m s → Fair other m s
+fair-map f (keep a) s h = let (g, r, e, k, l) = h in (f (keep a) g, r, e, k, l)
+fair-map f (swap a b) s h = let (g, r, e, k, l) = h in (f (swap a b) g, r, e, k, l)
+fair-map f (leave r a) s h = let (g, t, e, k, l) = h in (f (leave r a) g, t, e, k, l)
+fair-map f (stop w) s h = tt
 
 -- The text ends here, or the rule stops.
 abbrev pub Ends : Rule → List ℕ → Type 0
 Ends rule [] = Unit {0}
-Ends rule (x ∷ xs) = (p : ℕ) × (rule p (x ∷ xs) ≡ stop)
+Ends rule (x ∷ xs) = (p : ℕ) × (w : ℕ) × (rule p (x ∷ xs) ≡ stop w)
 
 -- No stop.
 abbrev pub Goes : Move → Type 0
 Goes (keep a) = Unit {0}
 Goes (swap a b) = Unit {0}
 Goes (leave r a) = Unit {0}
-Goes stop = ⊥
+Goes (stop w) = ⊥
 
 module _ (good : Move → Type 0) (rule : Rule) (fair : (p : ℕ) (s : List ℕ) → Fair good (rule p s) s) where
   -- The moves of a fair rule are good, take what stands at the head of the text, and end at its end or at a stop.
@@ -124,7 +131,7 @@ module _ (good : Move → Type 0) (rule : Rule) (fair : (p : ℕ) (s : List ℕ)
       go (keep a) e f ih = step (keep a) f ih
       go (swap a b) e f ih = step (swap a b) f ih
       go (leave r a) e f ih = step (leave r a) f ih
-      go stop e f ih = (tt, x ∷ xs, refl, (p, e))
+      go (stop w) e f ih = (tt, x ∷ xs, refl, (p, w, e))
 
   -- A rule that never stops takes the whole text.
   pub whole : ((p x : ℕ) (xs : List ℕ) → Goes (rule p (x ∷ xs))) → (s : List ℕ) → taken (through rule s) ≡ s
@@ -132,7 +139,7 @@ module _ (good : Move → Type 0) (rule : Rule) (fair : (p : ℕ) (s : List ℕ)
     where
       go : (r : List ℕ) → Ends rule r → s ≡ taken (through rule s) ++ r → taken (through rule s) ≡ s
       go [] end e = sym (e ∙ append-nil (taken (through rule s)))
-      go (x ∷ xs) end e = absurd (subst Goes (end .1) (goes (end .0) x xs))
+      go (x ∷ xs) end e = absurd (subst Goes (end .2) (goes (end .0) x xs))
 
   -- A rule that takes as many bytes as the text has takes the text.
   pub whole-if : (s : List ℕ) → length s ≤ place (through rule s) → taken (through rule s) ≡ s
@@ -157,7 +164,7 @@ same-result [] e = refl
 same-result (keep a ∷ ms) e = ap (λ (s : List ℕ). a ++ s) (same-result ms e)
 same-result (swap a b ∷ ms) e = absurd (suc-ne-zero (replaced ms) e)
 same-result (leave r a ∷ ms) e = ap (λ (s : List ℕ). a ++ s) (same-result ms e)
-same-result (stop ∷ ms) e = same-result ms e
+same-result (stop w ∷ ms) e = same-result ms e
 
 -- ---- the other way round, and byte by byte
 
@@ -166,21 +173,21 @@ abbrev pub turn : Move → Move
 turn (keep a) = keep a
 turn (swap a b) = swap b a
 turn (leave r a) = leave r a
-turn stop = stop
+turn (stop w) = stop w
 
 pub taken-turn : (ms : List Move) → taken (map turn ms) ≡ result ms
 taken-turn [] = refl
 taken-turn (keep a ∷ ms) = ap (λ (s : List ℕ). a ++ s) (taken-turn ms)
 taken-turn (swap a b ∷ ms) = ap (λ (s : List ℕ). b ++ s) (taken-turn ms)
 taken-turn (leave r a ∷ ms) = ap (λ (s : List ℕ). a ++ s) (taken-turn ms)
-taken-turn (stop ∷ ms) = taken-turn ms
+taken-turn (stop w ∷ ms) = taken-turn ms
 
 pub result-turn : (ms : List Move) → result (map turn ms) ≡ taken ms
 result-turn [] = refl
 result-turn (keep a ∷ ms) = ap (λ (s : List ℕ). a ++ s) (result-turn ms)
 result-turn (swap a b ∷ ms) = ap (λ (s : List ℕ). a ++ s) (result-turn ms)
 result-turn (leave r a ∷ ms) = ap (λ (s : List ℕ). a ++ s) (result-turn ms)
-result-turn (stop ∷ ms) = result-turn ms
+result-turn (stop w ∷ ms) = result-turn ms
 
 -- Each byte kept by itself.
 abbrev pub singly : List ℕ → List Move
@@ -192,7 +199,7 @@ cut [] = []
 cut (keep a ∷ ms) = singly a ++ cut ms
 cut (swap a b ∷ ms) = swap a b ∷ cut ms
 cut (leave r a ∷ ms) = leave r a ∷ cut ms
-cut (stop ∷ ms) = cut ms
+cut (stop w ∷ ms) = cut ms
 
 pub taken-singly : (a : List ℕ) (ms : List Move) → taken (singly a ++ ms) ≡ a ++ taken ms
 taken-singly [] ms = refl
@@ -207,14 +214,14 @@ taken-cut [] = refl
 taken-cut (keep a ∷ ms) = taken-singly a (cut ms) ∙ ap (λ (s : List ℕ). a ++ s) (taken-cut ms)
 taken-cut (swap a b ∷ ms) = ap (λ (s : List ℕ). a ++ s) (taken-cut ms)
 taken-cut (leave r a ∷ ms) = ap (λ (s : List ℕ). a ++ s) (taken-cut ms)
-taken-cut (stop ∷ ms) = taken-cut ms
+taken-cut (stop w ∷ ms) = taken-cut ms
 
 pub result-cut : (ms : List Move) → result (cut ms) ≡ result ms
 result-cut [] = refl
 result-cut (keep a ∷ ms) = result-singly a (cut ms) ∙ ap (λ (s : List ℕ). a ++ s) (result-cut ms)
 result-cut (swap a b ∷ ms) = ap (λ (s : List ℕ). b ++ s) (result-cut ms)
 result-cut (leave r a ∷ ms) = ap (λ (s : List ℕ). a ++ s) (result-cut ms)
-result-cut (stop ∷ ms) = result-cut ms
+result-cut (stop w ∷ ms) = result-cut ms
 
 replaced-singly : (a : List ℕ) (ms : List Move) → replaced (singly a ++ ms) ≡ replaced ms
 replaced-singly [] ms = refl
@@ -225,7 +232,7 @@ replaced-cut [] = refl
 replaced-cut (keep a ∷ ms) = replaced-singly a (cut ms) ∙ replaced-cut ms
 replaced-cut (swap a b ∷ ms) = ap suc (replaced-cut ms)
 replaced-cut (leave r a ∷ ms) = replaced-cut ms
-replaced-cut (stop ∷ ms) = replaced-cut ms
+replaced-cut (stop w ∷ ms) = replaced-cut ms
 
 -- Bytes that are kept one by one leave nothing,
 pub lefts-singly : (i : ℕ) (a : List ℕ) (ms : List Move) → leftsAt i (singly a ++ ms) ≡ leftsAt (i + length a) ms
@@ -239,7 +246,7 @@ lefts-cut i [] = refl
 lefts-cut i (keep a ∷ ms) = lefts-singly i a (cut ms) ∙ lefts-cut (i + length a) ms
 lefts-cut i (swap a b ∷ ms) = lefts-cut (i + length a) ms
 lefts-cut i (leave r a ∷ ms) = ap (λ (ls : List (ℕ × Reason)). (i, r) ∷ ls) (lefts-cut (i + length a) ms)
-lefts-cut i (stop ∷ ms) = lefts-cut i ms
+lefts-cut i (stop w ∷ ms) = lefts-cut i ms
 
 -- A rule that keeps each byte of what is kept, and makes each swap, has these moves byte by byte, if none leaves a reference.
 module _ (rule : Rule) (unit : Move → Type 0) (keeps : (a : List ℕ) → unit (keep a) → (r : List ℕ) → Follows rule (singly a) r)
@@ -249,7 +256,7 @@ module _ (rule : Rule) (unit : Move → Type 0) (keeps : (a : List ℕ) → unit
   follows-cut (keep a ∷ ms) g r = follows-append rule (singly a) (cut ms) r (keeps a (g .0) (taken (cut ms) ++ r)) (follows-cut ms (g .1) r)
   follows-cut (swap a b ∷ ms) g r = (swaps a b (g .0) (taken (cut ms) ++ r), follows-cut ms (g .1) r)
   follows-cut (leave w a ∷ ms) g r = absurd (none w a (g .0))
-  follows-cut (stop ∷ ms) g r = follows-cut ms (g .1) r
+  follows-cut (stop w ∷ ms) g r = follows-cut ms (g .1) r
 
   -- The moves of such a rule are these, byte by byte.
   pub cut-moves : (p : ℕ) (ms : List Move) → All unit ms → moves rule p 0 (taken ms) ≡ cut ms

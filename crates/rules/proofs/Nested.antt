@@ -85,7 +85,7 @@ module _ (o i : Context) (fits : T (carries o i)) where
       (a ∷ cs, (g .0 .0, h), ((λ j. g .0 .1 (hidden a j)), f), ap (λ (s : List ℕ). a ++ s) e)
   run-carried (swap v k ∷ us) g = free-append (undecoded o) v (taken us) (spared (k, v) (g .0)) (run-carried us (g .1))
   run-carried (leave r a ∷ us) g = absurd (g .0)
-  run-carried (stop ∷ us) g = absurd (g .0)
+  run-carried (stop w ∷ us) g = absurd (g .0)
 
   -- Nor has what the inner context writes.
   pub inner-carried : (t : List ℕ) → IsText t → IsFree (undecoded o) (encodeOf i t)
@@ -151,8 +151,8 @@ abbrev carried : List Context → List (List Context)
 carried [] = []
 carried (o ∷ os) = only (carries o) contexts ∷ carried os
 
--- Of the 169 pairs 145 carry. The other 24 have an HTML context other than `unquoted`, which copies controls, inside `unquoted` or a style string.
-pub pairs-carry : T (eqb 145 (length (join (carried contexts))))
+-- Of the 196 pairs 172 carry. The other 24 have an HTML context other than `unquoted`, which copies controls, inside `unquoted` or a style string.
+pub pairs-carry : T (eqb 172 (length (join (carried contexts))))
 pairs-carry = tt
 
 -- The table of the twelve pairs holds, of the very text that it names.

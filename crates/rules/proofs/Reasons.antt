@@ -22,10 +22,11 @@ use Rattle.rules.specs.Names.{names}
 use Rattle.rules.specs.References.{onto, bodyOf, digit, hexDigitAt, digits, number, numberOf, browseChar, valueOf, lookup, meaning, whyDigits, why, refer, atAmp, referenceBy, browseStep}
 use Rattle.rules.specs.Reasons.{Ampless, Endless, Closed, Body, Undigit, Hexed, Because, Stays, StaysAt, reasonIn, leftHere, leftsIn}
 use Rattle.rules.specs.Escapes.{escapeBy}
+use Rattle.rules.specs.Json.{IsElement, jsonStep}
 use Rattle.rules.specs.Operations.{decodeStep, ruleOf}
 use Rattle.rules.specs.Refusals.{movesOf}
 use Rattle.rules.specs.declared.Context.{Context}
-use Rattle.rules.specs.declared.Context.the-variants.{InHtml, InScript, InStyle}
+use Rattle.rules.specs.declared.Context.the-variants.{InHtml, InScript, InStyle, InJson}
 use Rattle.rules.specs.declared.AnyContext.{AnyContext}
 use Rattle.rules.specs.declared.AnyContext.the-variants.{Units, ScriptRaw, Unknown}
 use Rattle.rules.specs.declared.Operation.{Operation}
@@ -36,6 +37,8 @@ use Rattle.rules.proofs.Tests.{or-cases, or-left, or-right, is-false, f
 use Rattle.rules.proofs.Below.{eqb-comm}
 use Rattle.rules.proofs.Names.{empty-unnamed, hash-unnamed}
 use Rattle.rules.proofs.Search.{body-none, body-some}
+use Rattle.rules.proofs.Machine.{Fair}
+use Rattle.rules.proofs.Json.{json-fair}
 
 -- One more byte that is not c before bytes that are not.
 none-more : (x : ℕ) (a : List ℕ) (c : ℕ) → ((y : ℕ) → In y a → T (eqb y c) → ⊥) → eqb x c ≡ false → (y : ℕ) → In y (x ∷ a) → T (eqb y c) → ⊥
@@ -409,7 +412,7 @@ lefts-after i (keep a ∷ ms) j r k = omega (arith, lefts-after (i + length a) m
 lefts-after i (swap a b ∷ ms) j r k = omega (arith, lefts-after (i + length a) ms j r k)
 lefts-after i (leave w a ∷ ms) j r (inl e) = let z : j ≡ i = ap (λ (l : ℕ × Reason). l .0) e in omega arith
 lefts-after i (leave w a ∷ ms) j r (inr k) = omega (arith, lefts-after (i + length a) ms j r k)
-lefts-after i (stop ∷ ms) j r k = lefts-after i ms j r k
+lefts-after i (stop w ∷ ms) j r k = lefts-after i ms j r k
 
 -- No other stays before it.
 pub first-least : (ms : List Move) (j : ℕ) (r : Reason) → In (j, r) (lefts ms) → firstLeft ms .0 ≤ j
@@ -420,7 +423,7 @@ first-least ms = go 0 ms
     go i (keep a ∷ ms) j r k = go (i + length a) ms j r k
     go i (swap a b ∷ ms) j r k = go (i + length a) ms j r k
     go i (leave w a ∷ ms) j r k = lefts-after i (leave w a ∷ ms) j r k
-    go i (stop ∷ ms) j r k = go i ms j r k
+    go i (stop w ∷ ms) j r k = go i ms j r k
 
 -- It is one of them; reason 0 says that there is none.
 pub first-in : (ms : List Move) → ((lefts ms ≡ []) × (firstLeft ms ≡ (0, 0))) ⊎ ((r : Reason) × In (firstLeft ms .0, r) (lefts ms) × (firstLeft ms .1 ≡ reasonNumber r))
@@ -452,7 +455,7 @@ no-lefts rule h i p zero (x ∷ s) = go (rule p (x ∷ s)) (h p (x ∷ s)) (λ i
     go (keep a) e ih = ih (i + length a) (pred (length a))
     go (swap a b) e ih = ih (i + length a) (pred (length a))
     go (leave r a) e ih = absurd (Option·some-ne-none r e)
-    go stop e ih = refl
+    go (stop w) e ih = refl
 
 byte-none : (s : List ℕ) → reasonIn (keepByte s) ≡ none
 byte-none [] = refl
@@ -495,18 +498,33 @@ escape-leaveless name rs p s = go (rowAt value rs s) (eqb p 60 && stands (ascii 
     go none false true = refl
     go none false false = byte-none s
 
+-- decode in a JSON string.
+pub json-leaveless : Leaveless jsonStep
+json-leaveless p s = go (jsonStep p s) (json-fair p s)
+  where
+    go : (m : Move) → Fair IsElement m s → reasonIn m ≡ none
+    go (keep a) h = refl
+    go (swap a b) h = refl
+    go (leave r a) h = absurd (h .0)
+    go (stop w) h = refl
+
+pub json-left : (t : List ℕ) → firstLeft (through jsonStep t) ≡ (0, 0)
+json-left t = ap firstOf (no-lefts jsonStep json-leaveless 0 0 0 t)
+
 -- Not decode or browse in one of the HTML seven.
 abbrev pub Outside : Operation → AnyContext → Type 0
 Outside Encode n = Unit {0}
 Outside Decode (Units (InHtml h)) = ⊥
 Outside Decode (Units (InScript q)) = Unit {0}
 Outside Decode (Units (InStyle q)) = Unit {0}
+Outside Decode (Units InJson) = Unit {0}
 Outside Decode ScriptRaw = Unit {0}
 Outside Decode Unknown = Unit {0}
 Outside Read n = Unit {0}
 Outside Browse (Units (InHtml h)) = ⊥
 Outside Browse (Units (InScript q)) = Unit {0}
 Outside Browse (Units (InStyle q)) = Unit {0}
+Outside Browse (Units InJson) = Unit {0}
 Outside Browse ScriptRaw = Unit {0}
 Outside Browse Unknown = Unit {0}
 
@@ -519,6 +537,7 @@ outside Encode Unknown t h = refl
 outside Decode (Units (InHtml k)) t h = absurd h
 outside Decode (Units (InScript q)) t h = ap firstOf (no-lefts (decodeStep (InScript q)) (escape-leaveless (ascii "script") (rows (InScript q))) 0 0 0 t)
 outside Decode (Units (InStyle q)) t h = ap firstOf (no-lefts (decodeStep (InStyle q)) (escape-leaveless (ascii "style") (rows (InStyle q))) 0 0 0 t)
+outside Decode (Units InJson) t h = json-left t
 outside Decode ScriptRaw t h = refl
 outside Decode Unknown t h = refl
 outside Read (Units c) t h = ap firstOf (no-lefts (readStep c) (read-leaveless c) 0 0 0 t)
@@ -527,5 +546,6 @@ outside Read Unknown t h = refl
 outside Browse (Units (InHtml k)) t h = absurd h
 outside Browse (Units (InScript q)) t h = refl
 outside Browse (Units (InStyle q)) t h = refl
+outside Browse (Units InJson) t h = refl
 outside Browse ScriptRaw t h = refl
 outside Browse Unknown t h = refl

@@ -79,7 +79,7 @@ module _ (rows : List Row) (bars : List (List ℕ)) (ok : T (isCode value rows b
     λ p. ap (λ (o : Option Row). undo o (unless (barred bars (v ++ r)) (keepChar (sequenceAt (v ++ r)) (v ++ r)))) (row-first value rows bars ok (k, v) i r),
   )
   read-finds (leave w a) i r = absurd i
-  read-finds stop i r = absurd i
+  read-finds (stop w) i r = absurd i
   read-finds (keep a) u r =
       let (q, i, h, len) = u .0 in (
         pred (length q),

@@ -2,13 +2,15 @@
 -- the bytes before, between and after such places are still whole characters.
 -- Assumes nothing.
 use mathlib.Core.Bool.{Bool, true, false, not, _&&_, _||_, cond}
+use mathlib.Core.Logic.{inl, inr}
 use mathlib.Core.Option.{Option, none, some, Option·none-ne-some, Option·some-injective}
 use mathlib.Core.Path.{_≡_, refl, sym, ap, _∙_, subst}
 use mathlib.Core.List.{List, [], _∷_, _++_, append-nil}
 use Prim.Native.Nat.{ℕ, pred, _<_, _≤_}
 use native.Mathlib.Nat.{suc-ne-zero}
 use native.Mathlib.Omega.{arith}
-use lib.Dec.{T, leb, ltb, eqb, leb→le, ltb→lt, eqb→eq}
+use borrow.Author.Tests.{leb-false, lt-ltb}
+use lib.Dec.{T, leb, ltb, eqb, leb→le, le→leb, ltb→lt, eqb→eq}
 use lib.ListN.{length, drop, getD}
 use Rattle.rules.specs.Bytes.{ascii, In, All, all, fits, join, Range, inside, oneOf}
 use Rattle.rules.specs.Moves.{Move, keep, swap, leave, stop, taken, result, through}
@@ -18,17 +20,19 @@ use Rattle.rules.specs.Tables.{Row, key, value, rows}
 use Rattle.rules.specs.Encoding.{rawStep, parted}
 use Rattle.rules.specs.Names.{names}
 use Rattle.rules.specs.References.{scalar, decodeChar, renumbering, standsFor, browseChar, numberOf, lookup, meaning, referenceStep, browseStep}
+use Rattle.rules.specs.Json.{shortEscapes, Spells, highs, lows, pairOf, IsElement, jsonStep}
 use Rattle.rules.specs.Operations.{decodeStep, decodeOf, browseOf, rawOf}
 use Rattle.rules.specs.declared.Context.{Context}
-use Rattle.rules.specs.declared.Context.the-variants.{InHtml, InScript, InStyle}
+use Rattle.rules.specs.declared.Context.the-variants.{InHtml, InScript, InStyle, InJson}
 use Rattle.rules.proofs.Tests.{and-left, and-right, and-both, all-in}
-use Rattle.rules.proofs.Machine.{Fair, moves-fair}
+use Rattle.rules.proofs.Machine.{Fair, fair-map, moves-fair}
 use Rattle.rules.proofs.Chars.{isChar, is-char, isTail, char-tails, sequence-pos}
 use Rattle.rules.proofs.Valid.{valid-iff}
 use Rattle.rules.proofs.Every.{every}
 use Rattle.rules.proofs.Encoder.{text-append}
 use Rattle.rules.proofs.Growth.{raw-whole}
-use Rattle.rules.proofs.Whole.{reference-fair, escape-fair, decode-whole, browse-whole}
+use Rattle.rules.proofs.Whole.{reference-fair, escape-fair, browse-whole}
+use Rattle.rules.proofs.Json.{spelled-digits, json-fair}
 use Rattle.rules.proofs.Names.{value-valid}
 use Rattle.rules.proofs.Numbers.{stands-scalar}
 use Rattle.rules.proofs.Characters.{utf8-char, char-text}
@@ -122,7 +126,7 @@ Regroups (keep (x ∷ [])) = Unit {0}
 Regroups (keep (x ∷ y ∷ a)) = ⊥
 Regroups (swap a v) = T (edged a) × IsText v
 Regroups (leave r a) = T (edged a) × IsText a
-Regroups stop = ⊥
+Regroups (stop w) = ⊥
 
 no-edge : (a s zs : List ℕ) (z : ℕ) → T (edged a) → T (isTail z) → a ++ s ≡ z ∷ zs → ⊥
 no-edge [] s zs z t y e = t
@@ -161,7 +165,7 @@ regroup (keep (x ∷ []) ∷ ms) [] ((z ∷ zs) ∷ cs) g y h e =
     ((z ∷ zs) ++ w, text-append (z ∷ zs) w (char-text (z ∷ zs) (h .0)) t, λ i. same-head x z (taken ms) (zs ++ join cs) e i ∷ q i)
 regroup (swap a v ∷ ms) ys cs g y h e = edged-text a v ms ys cs (g .0 .0) (g .0 .1) y h e (λ ds i q. regroup ms [] ds (g .1) tt i q)
 regroup (leave r a ∷ ms) ys cs g y h e = edged-text a a ms ys cs (g .0 .0) (g .0 .1) y h e (λ ds i q. regroup ms [] ds (g .1) tt i q)
-regroup (stop ∷ ms) ys cs g y h e = absurd (g .0)
+regroup (stop w ∷ ms) ys cs g y h e = absurd (g .0)
 
 -- What such moves give of a text is a text.
 pub moves-text : (ms : List Move) → All Regroups ms → IsText (taken ms) → IsText (result ms)
@@ -219,6 +223,66 @@ bang = (tt, char-text (ascii "!") (is-char (ascii "!") tt))
 slash : Regroups (swap (ascii "\\/") (ascii "/"))
 slash = (tt, char-text (ascii "/") (is-char (ascii "/") tt))
 
+-- The escape of a number begins and ends with ASCII, and so does that of a pair.
+spelled-edged : (n : ℕ) (v : List ℕ) → Spells n v → T (edged v)
+spelled-edged n v s = let (a, b, c, d, e, small, low) = spelled-digits n v s in subst (λ (l : List ℕ). T (edged l)) (sym e) (subst T (sym (lt-ltb d 0x80 low)) tt)
+
+pair-edged : (h l : ℕ) (a b : List ℕ) → Spells h a → Spells l b → T (edged (a ++ b))
+pair-edged h l a b s t =
+    let (p, q, r, u, e, small, low) = spelled-digits h a s in
+    let (p′, q′, r′, u′, e′, small′, low′) = spelled-digits l b t in
+    subst (λ (x : List ℕ). T (edged x)) (sym (λ i. e i ++ e′ i)) (subst T (sym (lt-ltb u′ 0x80 low′)) tt)
+
+-- Its number is that of a character.
+single-scalar : (n : ℕ) (v : List ℕ) → Spells n v → (T (inside highs n) → ⊥) → (T (inside lows n) → ⊥) → T (scalar n)
+single-scalar n v s h l =
+    let (a, b, c, d, e, small, low) = spelled-digits n v s in
+    and-both (leb n 0x10FFFF) (not (inside (0xD800, 0xDFFF) n)) (le→leb n 0x10FFFF (omega arith)) (not-inside (inside (0xD800, 0xDFFF) n) refl)
+  where
+    within : (lo hi : ℕ) → lo ≤ n → n ≤ hi → T (inside (lo, hi) n)
+    within lo hi a b = and-both (leb lo n) (leb n hi) (le→leb lo n a) (le→leb n hi b)
+
+    half : (x : Bool) → leb n 0xDBFF ≡ x → 0xD800 ≤ n → n ≤ 0xDFFF → ⊥
+    half true e a b = h (within 0xD800 0xDBFF a (leb→le n 0xDBFF (subst T (sym e) tt)))
+    half false e a b = l (within 0xDC00 0xDFFF (leb-false n 0xDBFF e) b)
+
+    not-inside : (x : Bool) → inside (0xD800, 0xDFFF) n ≡ x → T (not x)
+    not-inside false e = tt
+    not-inside true e =
+        let t = subst T (sym e) tt in
+        half (leb n 0xDBFF) refl (leb→le 0xD800 n (and-left (leb 0xD800 n) (leb n 0xDFFF) t)) (leb→le n 0xDFFF (and-right (leb 0xD800 n) (leb n 0xDFFF) t))
+
+pair-scalar : (h l : ℕ) → T (inside highs h) → T (inside lows l) → T (scalar (pairOf h l))
+pair-scalar h l a b =
+    let hi = leb→le h 0xDBFF (and-right (leb 0xD800 h) (leb h 0xDBFF) a) in
+    let lo = leb→le l 0xDFFF (and-right (leb 0xDC00 l) (leb l 0xDFFF) b) in
+    and-both (leb (pairOf h l) 0x10FFFF) (not (inside (0xD800, 0xDFFF) (pairOf h l))) (le→leb (pairOf h l) 0x10FFFF (most h l hi lo)) (beyond (inside (0xD800, 0xDFFF) (pairOf h l)) refl)
+  where
+    most : (h l : ℕ) → h ≤ 0xDBFF → l ≤ 0xDFFF → pairOf h l ≤ 0x10FFFF
+    most h l a b = omega arith
+
+    above : (h l : ℕ) → pairOf h l ≤ 0xDFFF → ⊥
+    above h l a = omega arith
+
+    beyond : (x : Bool) → inside (0xD800, 0xDFFF) (pairOf h l) ≡ x → T (not x)
+    beyond false e = tt
+    beyond true e = absurd (above h l (leb→le (pairOf h l) 0xDFFF (and-right (leb 0xD800 (pairOf h l)) (leb (pairOf h l) 0xDFFF) (subst T (sym e) tt))))
+
+-- An element of a JSON string.
+element-regroups : (m : Move) → IsElement m → Regroups m
+element-regroups (keep a) (b, e, h) = subst (λ (l : List ℕ). Regroups (keep l)) (sym e) tt
+element-regroups (swap v k) (inl i) =
+    let t = all-in rowEdged shortEscapes tt (k, v) i in
+    (and-left (edged v) (isChar k) t, char-text k (is-char k (and-right (edged v) (isChar k) t)))
+element-regroups (swap v k) (inr (inl u)) =
+    let (n, s, h, l, e) = u in
+    (spelled-edged n v s, subst IsText (sym e) (scalar-text n (single-scalar n v s h l)))
+element-regroups (swap v k) (inr (inr u)) =
+    let (h, l, a, b, s, t, ih, il, e, q) = u in
+    (subst (λ (x : List ℕ). T (edged x)) (sym e) (pair-edged h l a b s t), subst IsText (sym q) (scalar-text (pairOf h l) (pair-scalar h l ih il)))
+element-regroups (leave r a) i = absurd i
+element-regroups (stop w) i = absurd i
+
 -- ---- the operations
 
 decode-regroups : (c : Context) (p : ℕ) (s : List ℕ) → Fair Regroups (decodeStep c p s) s
@@ -226,6 +290,7 @@ unfolding decodeStep referenceStep
 decode-regroups (InHtml h) = reference-fair Regroups (λ x. tt) left-regroups decodeChar (reference-regroups decodeChar decode-char)
 decode-regroups (InScript q) = escape-fair Regroups (λ x. tt) bang slash (InScript q) (row-regroups (InScript q)) (ascii "script")
 decode-regroups (InStyle q) = escape-fair Regroups (λ x. tt) bang slash (InStyle q) (row-regroups (InStyle q)) (ascii "style")
+decode-regroups InJson = λ p s. fair-map element-regroups (jsonStep p s) s (json-fair p s)
 
 browse-regroups : (p : ℕ) (s : List ℕ) → Fair Regroups (browseStep p s) s
 unfolding browseStep
@@ -245,9 +310,9 @@ raw-regroups p (b ∷ s) = go (eqb b 60 && parted s) refl
         valid-less = text-append (ascii "<") (ascii "\\") (char-text (ascii "<") (is-char (ascii "<") tt)) (char-text (ascii "\\") (is-char (ascii "\\") tt))
     go false e = (tt, s, refl, 0, refl)
 
--- What decode gives of a valid text is valid UTF-8.
-pub decode-text : (c : Context) (s : List ℕ) → IsText s → IsText (decodeOf c s)
-decode-text c s t = moves-text (through (decodeStep c) s) (moves-fair Regroups (decodeStep c) (decode-regroups c) 0 0 s .0) (subst IsText (sym (decode-whole c s)) t)
+-- What decode gives of a valid text that it takes as a whole is valid UTF-8.
+pub decode-text : (c : Context) (s : List ℕ) → IsText s → taken (through (decodeStep c) s) ≡ s → IsText (decodeOf c s)
+decode-text c s t w = moves-text (through (decodeStep c) s) (moves-fair Regroups (decodeStep c) (decode-regroups c) 0 0 s .0) (subst IsText (sym w) t)
 
 -- What browse gives is.
 pub browse-text : (s : List ℕ) → IsText s → IsText (browseOf s)

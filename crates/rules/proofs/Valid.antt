@@ -26,7 +26,7 @@ run-chars [] g = ([], tt, refl)
 run-chars (keep a ∷ us) g = let (cs, h, e) = run-chars us (g .1) in (a ∷ cs, (g .0 .0, h), ap (λ (s : List ℕ). a ++ s) e)
 run-chars (swap v k ∷ us) g = absurd (g .0)
 run-chars (leave r a ∷ us) g = absurd (g .0)
-run-chars (stop ∷ us) g = absurd (g .0)
+run-chars (stop w ∷ us) g = absurd (g .0)
 
 text-written : (s : List ℕ) → IsText s → IsWritten (IsUnit [] []) s
 text-written s t = let (cs, h, e) = t in let (us, g, q) = chars-run cs h in (us, g, e ∙ q)

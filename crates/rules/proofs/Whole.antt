@@ -1,6 +1,7 @@
--- decode and browse take the whole text, and what a reference or an escape stands for is at most a fifth longer than it.
+-- browse takes the whole text, and so does decode but of JSON strings; and what a reference or an escape stands for is at most a fifth longer than it.
 -- Assumes nothing.
 use mathlib.Core.Bool.{Bool, true, false, not, _&&_, _||_, cond}
+use mathlib.Core.Logic.{inl, inr}
 use mathlib.Core.Option.{Option, none, some, Option·none-ne-some, Option·some-injective}
 use mathlib.Core.Path.{_≡_, refl, sym, ap, _∙_, subst}
 use mathlib.Core.List.{List, [], _∷_, _++_, map, append-assoc}
@@ -9,23 +10,25 @@ use native.Mathlib.Omega.{arith}
 use lib.Dec.{T, leb, ltb, eqb, eqb→eq, leb→le}
 use lib.ListN.{length, length-append}
 use Rattle.rules.specs.Bytes.{ascii, In, All, all, first, fits, stands, sameBytes, oneOf}
-use Rattle.rules.specs.Moves.{Move, keep, swap, leave, takes, gives, taken, result, through}
+use Rattle.rules.specs.Moves.{Move, keep, swap, leave, stop, takes, gives, taken, place, result, through}
 use Rattle.rules.specs.Utf8.{utf8}
 use Rattle.rules.specs.Tables.{Row, rowAt, key, value, rows, replacedChars}
 use Rattle.rules.specs.Names.{names}
 use Rattle.rules.specs.declared.Context.{Context}
-use Rattle.rules.specs.declared.Context.the-variants.{InHtml, InScript, InStyle}
+use Rattle.rules.specs.declared.Context.the-variants.{InHtml, InScript, InStyle, InJson}
 use Rattle.rules.specs.declared.Reason.{Reason}
 use Rattle.rules.specs.declared.Reason.the-variants.{NoEnd}
 use Rattle.rules.specs.Encoding.{keepByte, closes, anyCase, terminators}
 use Rattle.rules.specs.Reading.{undo}
 use Rattle.rules.specs.References.{digit, hexDigitAt, number, onto, bodyOf, numberOf, scalar, decodeChar, renumbering, standsFor, browseChar, valueOf, lookup, meaning, why, refer, atAmp, referenceBy, referenceStep, browseStep}
 use Rattle.rules.specs.Escapes.{afterLess, escapeBy}
+use Rattle.rules.specs.Json.{shortEscapes, pairOf, IsElement, jsonStep}
 use Rattle.rules.specs.Operations.{decodeStep}
 use Rattle.rules.proofs.Tests.{and-left, and-right, or-false, all-in, first-sound, stands-split, same-bytes}
-use Rattle.rules.proofs.Machine.{Fair, Goes, moves-fair, whole}
+use Rattle.rules.proofs.Machine.{Fair, fair-map, Goes, moves-fair, whole, whole-if, place-within}
 use Rattle.rules.proofs.Tables.{row-length}
 use Rattle.rules.proofs.Every.{every, values-code}
+use Rattle.rules.proofs.Json.{spelled-long, pair-long, json-fair}
 
 -- A move gives at most a fifth more than it takes.
 abbrev pub Fifth : Move → Type 0
@@ -226,21 +229,53 @@ shortRow e = leb (5 * length (key e)) (6 * length (value e))
 row-fifth : (c : Context) (row : Row) → In row (rows c) → Fifth (swap (value row) (key row))
 row-fifth c row i = leb→le (5 * length (key row)) (6 * length (value row)) (all-in shortRow (rows c) (every (λ (c : Context). all shortRow (rows c)) tt c) row i)
 
+-- So it is with each element of a JSON string.
+element-fifth : (m : Move) → IsElement m → Fifth m
+element-fifth (keep a) (b, e, h) = subst (λ (l : List ℕ). 5 * length l ≤ 6 * length l) (sym e) (leb→le 5 6 tt)
+element-fifth (swap v k) (inl i) = leb→le (5 * length k) (6 * length v) (all-in shortRow shortEscapes tt (k, v) i)
+element-fifth (swap v k) (inr (inl u)) =
+    let (n, s, h, l, e) = u in
+    many (length k) (length v) (subst (λ (l : List ℕ). length l ≤ 4) (sym e) (utf8-four n)) (omega (arith, spelled-long n v s))
+  where
+    many : (k v : ℕ) → k ≤ 4 → 6 ≤ v → 5 * k ≤ 6 * v
+    many k v h l = omega arith
+element-fifth (swap v k) (inr (inr u)) =
+    let (h, l, a, b, s, t, ih, il, e, q) = u in
+    many (length k) (length v) (subst (λ (l : List ℕ). length l ≤ 4) (sym q) (utf8-four (pairOf h l))) (omega (arith, pair-long v k u))
+  where
+    many : (k v : ℕ) → k ≤ 4 → 6 ≤ v → 5 * k ≤ 6 * v
+    many k v h l = omega arith
+element-fifth (leave r a) i = absurd i
+element-fifth (stop w) i = absurd i
+
 -- What decode takes at a place is there, and what it gives is at most a fifth longer.
 pub decode-fair : (c : Context) (p : ℕ) (s : List ℕ) → Fair Fifth (decodeStep c p s) s
 unfolding decodeStep referenceStep
 decode-fair (InHtml h) = reference-fair Fifth kept-fifth left-fifth decodeChar (reference-fifth decodeChar decode-short)
 decode-fair (InScript q) = escape-fair Fifth kept-fifth (leb→le 5 12 tt) (leb→le 5 12 tt) (InScript q) (row-fifth (InScript q)) (ascii "script")
 decode-fair (InStyle q) = escape-fair Fifth kept-fifth (leb→le 5 12 tt) (leb→le 5 12 tt) (InStyle q) (row-fifth (InStyle q)) (ascii "style")
+decode-fair InJson = λ p s. fair-map element-fifth (jsonStep p s) s (json-fair p s)
 
-decode-goes : (c : Context) (p x : ℕ) (xs : List ℕ) → Goes (decodeStep c p (x ∷ xs))
+-- The contexts whose decoder goes on to the end of every text: all but json.
+abbrev pub Endless : Context → Type 0
+Endless (InHtml h) = Unit {0}
+Endless (InScript q) = Unit {0}
+Endless (InStyle q) = Unit {0}
+Endless InJson = ⊥
+
+decode-goes : (c : Context) → Endless c → (p x : ℕ) (xs : List ℕ) → Goes (decodeStep c p (x ∷ xs))
 unfolding decodeStep referenceStep
-decode-goes (InHtml h) = reference-goes decodeChar
-decode-goes (InScript q) = escape-goes (rows (InScript q)) (ascii "script")
-decode-goes (InStyle q) = escape-goes (rows (InStyle q)) (ascii "style")
+decode-goes (InHtml h) w p x xs = reference-goes decodeChar p x xs
+decode-goes (InScript q) w p x xs = escape-goes (rows (InScript q)) (ascii "script") p x xs
+decode-goes (InStyle q) w p x xs = escape-goes (rows (InStyle q)) (ascii "style") p x xs
+decode-goes InJson w p x xs = absurd w
 
-pub decode-whole : (c : Context) (s : List ℕ) → taken (through (decodeStep c) s) ≡ s
-decode-whole c = whole Fifth (decodeStep c) (decode-fair c) (decode-goes c)
+pub decode-whole : (c : Context) → Endless c → (s : List ℕ) → taken (through (decodeStep c) s) ≡ s
+decode-whole c w = whole Fifth (decodeStep c) (decode-fair c) (decode-goes c w)
+
+-- In every context: where it takes as many bytes as the text has, it takes the text.
+pub decode-whole-if : (c : Context) (s : List ℕ) → length s ≤ place (through (decodeStep c) s) → taken (through (decodeStep c) s) ≡ s
+decode-whole-if c = whole-if Fifth (decodeStep c) (decode-fair c)
 
 -- The same of browse.
 pub browse-fair : (p : ℕ) (s : List ℕ) → Fair Fifth (browseStep p s) s
@@ -264,8 +299,11 @@ at-most (m ∷ ms) g =
 
 pub decode-fifth : (c : Context) (s : List ℕ) → 5 * length (result (through (decodeStep c) s)) ≤ 6 * length s
 decode-fifth c s =
-    subst (λ (l : List ℕ). 5 * length (result (through (decodeStep c) s)) ≤ 6 * length l) (decode-whole c s)
-    (at-most (through (decodeStep c) s) (moves-fair Fifth (decodeStep c) (decode-fair c) 0 0 s .0))
+    within (length (result (through (decodeStep c) s))) (place (through (decodeStep c) s)) (length s)
+    (at-most (through (decodeStep c) s) (moves-fair Fifth (decodeStep c) (decode-fair c) 0 0 s .0)) (place-within Fifth (decodeStep c) (decode-fair c) s)
+  where
+    within : (a b c : ℕ) → 5 * a ≤ 6 * b → b ≤ c → 5 * a ≤ 6 * c
+    within a b c h k = omega arith
 
 pub browse-fifth : (s : List ℕ) → 5 * length (result (through browseStep s)) ≤ 6 * length s
 browse-fifth s =

@@ -13,7 +13,7 @@ use Rattle.rules.specs.Moves.{Move, swap, leave, result, replaced, place
 use Rattle.rules.specs.Utf8.{utf8, substitute}
 use Rattle.rules.specs.Tables.{Row, key, value, slashed, hexRow, lineSeparator, paragraphSeparator}
 use Rattle.rules.specs.Encoding.{keepByte}
-use Rattle.rules.specs.declared.Language.{Language}
+use Rattle.rules.specs.declared.Notation.{Notation}
 use Rattle.rules.specs.declared.Measured.{Measured}
 use Rattle.rules.specs.declared.DecodedEntityValue.{DecodedEntityValue}
 use Rattle.rules.specs.declared.DecodedEntityValue.the-variants.{Named, Character}
@@ -57,18 +57,18 @@ escapeMove s NoEscape = keepByte s
 abbrev pub writeRow : Row → Move
 writeRow row = swap (key row) (value row)
 
--- The move of a replacement at the head of s, in a string of a language.
+-- The move of a replacement at the head of s, in a string that is written so.
 -- U+2028 ends in A8, U+2029 in A9.
-abbrev pub replacementMove : Language → List ℕ → Replacement → Move
-replacementMove language s Slashed = writeRow (slashed (getD s 0 0))
-replacementMove language s Hex = writeRow (hexRow language (getD s 0 0))
-replacementMove language s Separator = writeRow (cond (eqb (getD s 2 0) 0xA8) lineSeparator paragraphSeparator)
-replacementMove language s Substitute = swap (take 1 s) substitute
+abbrev pub replacementMove : Notation → List ℕ → Replacement → Move
+replacementMove notation s Slashed = writeRow (slashed (getD s 0 0))
+replacementMove notation s Hex = writeRow (hexRow notation (getD s 0 0))
+replacementMove notation s Separator = writeRow (cond (eqb (getD s 2 0) 0xA8) lineSeparator paragraphSeparator)
+replacementMove notation s Substitute = swap (take 1 s) substitute
 
 -- The move at the head of s, where the encoder of strings was asked.
-abbrev pub replacedMove : Language → List ℕ → Replaced → Move
-replacedMove language s (By r) = replacementMove language s r
-replacedMove language s NoReplacement = keepByte s
+abbrev pub replacedMove : Notation → List ℕ → Replaced → Move
+replacedMove notation s (By r) = replacementMove notation s r
+replacedMove notation s NoReplacement = keepByte s
 
 -- What a pass over a text finds is read off the moves through it.
 pub record Measures (found : Measured) (ms : List Move) : Type 0 where

@@ -1,5 +1,5 @@
 -- RULES 4. The contexts with their names and numbers, and the operations with their names.
--- The types are those of the code: thirteen contexts have units, script_raw has none. view is with the refusal table.
+-- The types are those of the code: fourteen contexts have units, script_raw has none. view is with the refusal table.
 -- Assumes nothing.
 use mathlib.Core.List.{List, [], _∷_}
 use Prim.Native.Nat.{ℕ}
@@ -10,8 +10,10 @@ use Rattle.rules.specs.declared.Quotes.the-variants.{Single, Double, Bot
 use Rattle.rules.specs.declared.Quotes.{Quotes}
 use Rattle.rules.specs.declared.Language.{Language}
 use Rattle.rules.specs.declared.Language.the-variants.{Script, Style}
+use Rattle.rules.specs.declared.Notation.{Notation}
+use Rattle.rules.specs.declared.Notation.the-variants.{Script as ScriptString, Style as StyleString, Json as JsonString}
 use Rattle.rules.specs.declared.Context.{Context}
-use Rattle.rules.specs.declared.Context.the-variants.{InHtml, InScript, InStyle}
+use Rattle.rules.specs.declared.Context.the-variants.{InHtml, InScript, InStyle, InJson}
 use Rattle.rules.specs.declared.AnyContext.{AnyContext}
 use Rattle.rules.specs.declared.AnyContext.the-variants.{Units, ScriptRaw, Unknown}
 use Rattle.rules.specs.declared.Operation.{Operation}
@@ -26,7 +28,7 @@ pub record Label (A : Type 0) : Type 0 where
 abbrev pub label : {A : Type 0} → List ℕ → A → Label A
 label n a = record { name = n; names = a }
 
--- The fourteen contexts in the order of their numbers: the HTML seven, the script strings, the style strings, script_raw.
+-- The fifteen contexts in the order of their numbers: the HTML seven, the script strings, the style strings, script_raw, json.
 abbrev pub contextNames : List (Label AnyContext)
 contextNames =
     label (ascii "text_minimal") (Units (InHtml TextMinimal))
@@ -43,6 +45,7 @@ contextNames =
     ∷ label (ascii "style_double") (Units (InStyle Double))
     ∷ label (ascii "style_quoted") (Units (InStyle Both))
     ∷ label (ascii "script_raw") ScriptRaw
+    ∷ label (ascii "json") (Units InJson)
     ∷ []
 
 -- The context of a number: its place in that list, from 0; any other number names none.
@@ -53,6 +56,12 @@ contextOf n = getD contextNames n (label [] Unknown) .names
 abbrev pub stringOf : Language → Quotes → Context
 stringOf Script q = InScript q
 stringOf Style q = InStyle q
+
+-- The context of a string, by how it is written and the quotes that it escapes; a JSON string escapes the double quote.
+abbrev pub writtenIn : Notation → Quotes → Context
+writtenIn ScriptString q = InScript q
+writtenIn StyleString q = InStyle q
+writtenIn JsonString q = InJson
 
 -- The operations that go through a text, by name.
 abbrev pub operationNames : List (Label Operation)

@@ -19,7 +19,7 @@ use Rattle.rules.specs.Program.{printed, entityOf, reasonsOf}
 use Rattle.rules.specs.Examples.{Example, passesIn, example, stays, leaving, refusedIn, refused, holds}
 use Rattle.rules.specs.declared.Html.the-variants.{TextMinimal, Text, Quoted, Safe, Unquoted}
 use Rattle.rules.specs.declared.Quotes.the-variants.{Single, Double, Both}
-use Rattle.rules.specs.declared.Context.the-variants.{InHtml, InScript, InStyle}
+use Rattle.rules.specs.declared.Context.the-variants.{InHtml, InScript, InStyle, InJson}
 use Rattle.rules.specs.declared.AnyContext.{AnyContext}
 use Rattle.rules.specs.declared.AnyContext.the-variants.{Units, ScriptRaw, Unknown}
 use Rattle.rules.specs.declared.Operation.{Operation}
@@ -28,7 +28,7 @@ use Rattle.rules.specs.declared.DecodedEntityValue.the-variants.{Named a
 use Rattle.rules.specs.declared.Reason.the-variants.{NoEnd, Empty, UnknownName, NoDigit, NotAllowed}
 use Rattle.rules.specs.declared.Reference.the-variants.{Found, Left}
 use Rattle.rules.specs.declared.Escape.the-variants.{Taken, Nothing as NoEscape}
-use Rattle.rules.specs.declared.Language.the-variants.{Script, Style}
+use Rattle.rules.specs.declared.Notation.the-variants.{Script, Style, Json}
 use Rattle.rules.specs.declared.Replacement.the-variants.{Slashed, Hex, Separator, Substitute}
 use Rattle.rules.specs.declared.Replaced.the-variants.{By, Nothing as NoReplacement}
 
@@ -151,7 +151,7 @@ aroundSeparators = join (map utf8 (count 0x2027 4))
 abbrev pub everyByte : List ℕ
 everyByte = bytes 0 127 ++ aroundSeparators
 
--- The control bytes as references, in a script string, and in a style string.
+-- The control bytes as references, in a script string, in a style string, and in a JSON string.
 abbrev pub controlReferences : List ℕ
 controlReferences =
     ascii "&#x00;&#x01;&#x02;&#x03;&#x04;&#x05;&#x06;&#x07;&#x08;&#x09;&#x0A;&#x0B;&#x0C;&#x0D;&#x0E;&#x0F;"
@@ -167,6 +167,11 @@ controlsInStyle =
     substitute
     ++ ascii "\\01 \\02 \\03 \\04 \\05 \\06 \\07 \\08 \\09 \\0A \\0B \\0C \\0D \\0E \\0F "
     ++ ascii "\\10 \\11 \\12 \\13 \\14 \\15 \\16 \\17 \\18 \\19 \\1A \\1B \\1C \\1D \\1E \\1F "
+
+abbrev pub controlsInJson : List ℕ
+controlsInJson =
+    ascii "\\u0000\\u0001\\u0002\\u0003\\u0004\\u0005\\u0006\\u0007\\u0008\\u0009\\u000A\\u000B\\u000C\\u000D\\u000E\\u000F"
+    ++ ascii "\\u0010\\u0011\\u0012\\u0013\\u0014\\u0015\\u0016\\u0017\\u0018\\u0019\\u001A\\u001B\\u001C\\u001D\\u001E\\u001F"
 
 -- DEL and the four as they are, and with the separators escaped.
 abbrev pub delKept : List ℕ
@@ -204,6 +209,7 @@ encoders =
     ∷ (ascii "style_double", 35, written controlsInStyle " !\\\"#$%&'()*+,-./" ":;\\3C =>?@" "[\\\\]^_`" "{|}~" delKept)
     ∷ (ascii "style_quoted", 36, written controlsInStyle " !\\\"#$%&\\'()*+,-./" ":;\\3C =>?@" "[\\\\]^_`" "{|}~" delKept)
     ∷ (ascii "script_raw", 0, written (bytes 0 31) " !\"#$%&'()*+,-./" ":;<=>?@" "[\\]^_`" "{|}~" delKept)
+    ∷ (ascii "json", 37, written controlsInJson " !\\\"#$%&'()*+,-./" ":;\\u003C=>?@" "[\\\\]^_`" "{|}~" delInScript)
     ∷ []
 
 -- The lines of a request, and its text.
@@ -216,7 +222,7 @@ writes n name k r = holds (example Encode (contextOf n) everyByte r k) && sameBy
 
 -- The contexts from number n on do so.
 abbrev pub writeFrom : ℕ → List (List ℕ × ℕ × List ℕ) → Bool
-writeFrom n [] = eqb n 14
+writeFrom n [] = eqb n 15
 writeFrom n ((name, k, r) ∷ es) = writes n name k r && writeFrom (suc n) es
 
 -- ---- closing tags
@@ -303,6 +309,87 @@ escapes =
     ∷ stays Decode (Units (InScript Both)) (ascii "\\")
     ∷ stays Decode (Units (InStyle Both)) (ascii "\\")
     ∷ stays Decode (Units (InScript Both)) (ascii "\\a")
+    ∷ []
+
+-- ---- JSON strings
+
+-- decode of json that gives a character by its number, in so many replaced places.
+abbrev pub spells : String → ℕ → Example
+spells v n = example Decode (Units InJson) (ascii v) (utf8 n) 1
+
+-- Every escape in both letter cases, the halves of pairs and their neighbours, what may stand by itself, and each refusal with its place; then what
+-- read takes of it, which is what encode writes alone.
+abbrev pub jsonStrings : List Example
+jsonStrings =
+    example Decode (Units InJson) (ascii "\\\"\\\\\\/\\b\\f\\n\\r\\t") (ascii "\"\\/" ++ 0x08 ∷ 0x0C ∷ 0x0A ∷ 0x0D ∷ 0x09 ∷ []) 8
+    ∷ example Decode (Units InJson) (ascii "\\u0000\\u001f\\u001F\\u003c\\u003C\\u00e9\\u00E9") (0x00 ∷ 0x1F ∷ 0x1F ∷ ascii "<<" ++ utf8 0xE9 ++ utf8 0xE9) 7
+    ∷ spells "\\u0123" 0x0123
+    ∷ spells "\\u4567" 0x4567
+    ∷ spells "\\u89AB" 0x89AB
+    ∷ spells "\\ucdef" 0xCDEF
+    ∷ spells "\\uCDEF" 0xCDEF
+    ∷ spells "\\u89ab" 0x89AB
+    ∷ spells "\\uD7FF" 0xD7FF
+    ∷ spells "\\ud7ff" 0xD7FF
+    ∷ spells "\\uE000" 0xE000
+    ∷ spells "\\ue000" 0xE000
+    ∷ spells "\\uFFFF" 0xFFFF
+    ∷ spells "\\uffff" 0xFFFF
+    ∷ spells "\\uD800\\uDC00" 0x10000
+    ∷ spells "\\uD800\\uDFFF" 0x103FF
+    ∷ spells "\\uDBFF\\uDC00" 0x10FC00
+    ∷ spells "\\uDBFF\\uDFFF" 0x10FFFF
+    ∷ spells "\\udbff\\udfff" 0x10FFFF
+    ∷ spells "\\ud83D\\uDe00" 0x1F600
+    ∷ stays Decode (Units InJson) (ascii " !#'/<[]~" ++ 0x7F ∷ utf8 0x80 ++ utf8 0x2028 ++ utf8 0x2029 ++ utf8 0x10FFFF)
+    ∷ refused Decode (Units InJson) (ascii "ab\"") 4 2
+    ∷ refused Decode (Units InJson) (ascii "a" ++ 0x00 ∷ []) 4 1
+    ∷ refused Decode (Units InJson) (utf8 0x1F600 ++ 0x1F ∷ []) 4 4
+    ∷ refused Decode (Units InJson) (ascii "a\\") 4 1
+    ∷ refused Decode (Units InJson) (ascii "\\u") 4 0
+    ∷ refused Decode (Units InJson) (ascii "\\u12") 4 0
+    ∷ refused Decode (Units InJson) (ascii "\\u123") 4 0
+    ∷ refused Decode (Units InJson) (ascii "\\u123g") 4 0
+    ∷ refused Decode (Units InJson) (ascii "\\u12\"4") 4 0
+    ∷ refused Decode (Units InJson) (ascii "\\U0041") 4 0
+    ∷ refused Decode (Units InJson) (ascii "\\x41") 4 0
+    ∷ refused Decode (Units InJson) (ascii "\\'") 4 0
+    ∷ refused Decode (Units InJson) (ascii "\\0") 4 0
+    ∷ refused Decode (Units InJson) (ascii "\\N") 4 0
+    ∷ refused Decode (Units InJson) (ascii "\\n\\a") 4 2
+    ∷ refused Decode (Units InJson) (ascii "\"\\uD83D") 4 0
+    ∷ refused Decode (Units InJson) (ascii "\\uDC00") 10 0
+    ∷ refused Decode (Units InJson) (ascii "a\\uDFFF") 10 1
+    ∷ refused Decode (Units InJson) (ascii "\\udc00\\ud800") 10 0
+    ∷ refused Decode (Units InJson) (ascii "\\uD800") 10 0
+    ∷ refused Decode (Units InJson) (ascii "\\n\\uDBFF") 10 2
+    ∷ refused Decode (Units InJson) (ascii "\\uD800\\uDBFF") 10 0
+    ∷ refused Decode (Units InJson) (ascii "\\uD800\\uE000") 10 0
+    ∷ refused Decode (Units InJson) (ascii "\\uD83D\\uZZZZ") 10 0
+    ∷ refused Decode (Units InJson) (ascii "\\uD83D\"") 10 0
+    ∷ refused Decode (Units InJson) (ascii "\\uD83D\\n") 10 0
+    ∷ refused Decode (Units InJson) (ascii "\\uD83D\\u12") 10 0
+    ∷ refused Decode (Units InJson) (ascii "\\uD83Da\\uDE00") 10 0
+    ∷ refused Decode (Units InJson) (ascii "\\uD83D\\uDE00\\uDE00\"") 10 12
+    ∷ refusedIn 0 Decode (Units InJson) (ascii "abc\\uD800") 10 0 3
+    ∷ refusedIn 0 Decode (Units InJson) (ascii "abc\"") 4 0 3
+    ∷ refused Decode (Units InJson) (ascii "\"" ++ 0xC3 ∷ []) 7 1
+    ∷ refused Decode (Units InJson) (ascii "\\uD800" ++ 0x80 ∷ []) 2 6
+    ∷ example Read (Units InJson) (ascii "\\\"\\\\\\u0000\\u001F\\u003C\\u2028\\u2029/'") (ascii "\"\\" ++ 0x00 ∷ 0x1F ∷ ascii "<" ++ utf8 0x2028 ++ utf8 0x2029 ++ ascii "/'") 7
+    ∷ refused Read (Units InJson) (ascii "a\\n") 4 1
+    ∷ refused Read (Units InJson) (ascii "\\/") 4 0
+    ∷ refused Read (Units InJson) (ascii "\\u001f") 4 0
+    ∷ refused Read (Units InJson) (ascii "\\u003c") 4 0
+    ∷ refused Read (Units InJson) (ascii "\\u0020") 4 0
+    ∷ refused Read (Units InJson) (ascii "\\u0041") 4 0
+    ∷ refused Read (Units InJson) (ascii "\\u202A") 4 0
+    ∷ refused Read (Units InJson) (ascii "\\x3C") 4 0
+    ∷ refused Read (Units InJson) (ascii "\\uD83D\\uDE00") 4 0
+    ∷ refused Read (Units InJson) (ascii "a\\uD800") 4 1
+    ∷ refused Read (Units InJson) (ascii "a<") 4 1
+    ∷ refused Read (Units InJson) (utf8 0x2028) 4 0
+    ∷ refused Read (Units InJson) (ascii "\"") 4 0
+    ∷ refused Read (Units InJson) (0x1F ∷ []) 4 0
     ∷ []
 
 -- ---- references
@@ -484,12 +571,12 @@ renumberingDigest = 658272577
 
 -- ---- answers that are enums
 
--- What kind of move it is: a reference that stays has the number of its reason.
+-- What kind of move it is: a reference that stays has the number of its reason, and a stop adds the status of its refusal.
 abbrev pub kind : Move → ℕ
 kind (keep a) = 0
 kind (leave r a) = reasonNumber r
 kind (swap a b) = 6
-kind stop = 7
+kind (stop w) = 7 + w
 
 -- Two moves are the same.
 abbrev pub sameMove : Move → Move → Bool
@@ -501,6 +588,7 @@ papers =
     (replacedMove Script (ascii "'a") (By Slashed), swap (ascii "'") (ascii "\\'"))
     ∷ (replacedMove Script (0x1F ∷ []) (By Hex), swap (0x1F ∷ []) (ascii "\\x1F"))
     ∷ (replacedMove Style (0x1F ∷ []) (By Hex), swap (0x1F ∷ []) (ascii "\\1F "))
+    ∷ (replacedMove Json (0x1F ∷ []) (By Hex), swap (0x1F ∷ []) (ascii "\\u001F"))
     ∷ (replacedMove Script (0xE2 ∷ 0x80 ∷ 0xA8 ∷ ascii "a") (By Separator), swap (0xE2 ∷ 0x80 ∷ 0xA8 ∷ []) (ascii "\\u2028"))
     ∷ (replacedMove Script (0xE2 ∷ 0x80 ∷ 0xA9 ∷ ascii "a") (By Separator), swap (0xE2 ∷ 0x80 ∷ 0xA9 ∷ []) (ascii "\\u2029"))
     ∷ (replacedMove Style (0x00 ∷ ascii "a") (By Substitute), swap (0x00 ∷ []) (0xEF ∷ 0xBF ∷ 0xBD ∷ []))
@@ -561,14 +649,15 @@ readings =
 
 -- ---- refusals
 
--- An operation has the contexts below a number, and no others.
-abbrev pub contextsBelow : Operation → ℕ → List Example
-contextsBelow o n = map (λ (k : ℕ). passesIn 0 o (contextOf k) [] [] 0) (count 0 n) ++ map (λ (k : ℕ). refused o (contextOf k) [] 5 0) (count n (16 - n))
+-- Of the numbers 0 to 16 an operation passes the empty text in the contexts of these, and has no other context.
+abbrev pub inContexts : Operation → List ℕ → List Example
+inContexts o ns =
+    map (λ (k : ℕ). passesIn 0 o (contextOf k) [] [] 0) ns ++ map (λ (k : ℕ). refused o (contextOf k) [] 5 0) (only (λ (k : ℕ). not (oneOf ns k)) (bytes 0 16))
 
 -- Which contexts each operation has; and of any two rows of the table the earlier.
 abbrev pub refusals : List Example
 refusals =
-    contextsBelow Encode 14 ++ contextsBelow Decode 13 ++ contextsBelow Read 13 ++ contextsBelow Browse 7
+    inContexts Encode (bytes 0 14) ++ inContexts Decode (bytes 0 12 ++ 14 ∷ []) ++ inContexts Read (bytes 0 12 ++ 14 ∷ []) ++ inContexts Browse (bytes 0 6)
     ++ refused Decode ScriptRaw (map (λ (b : ℕ). 0x80) (count 0 65537)) 5 0
     ∷ refused Read (Units (InHtml Text)) (0x26 ∷ 0x80 ∷ []) 2 1
     ∷ refusedIn 0 Read (Units (InHtml Text)) (ascii "a&") 4 0 1
@@ -678,7 +767,7 @@ borrowing = passesIn 2 Encode (Units (InHtml Text)) (ascii "abc") (ascii "abc") 
 -- ---- all of these that are examples
 
 abbrev pub edges : List Example
-edges = closings ++ tags ++ escapes ++ references ++ browsed ++ leavings ++ highNumbers ++ readings ++ refusals ++ cuts
+edges = closings ++ tags ++ escapes ++ jsonStrings ++ references ++ browsed ++ leavings ++ highNumbers ++ readings ++ refusals ++ cuts
 
 -- ---- check
 
@@ -690,6 +779,8 @@ checks =
     ∷ (Units (InHtml Quoted), ascii "&#x27;&amp;", 0, 2, 0)
     ∷ (Units (InScript Both), ascii "\\x3C\\u2028", 0, 4, 0)
     ∷ (Units (InStyle Both), ascii "\\3C " ++ 0xEF ∷ 0xBF ∷ 0xBD ∷ [], 0, 4, 0)
+    ∷ (Units InJson, ascii "\\u003C\\u2028", 0, 4, 0)
+    ∷ (Units InJson, ascii "a\\uD800", 4, 0, 1)
     ∷ (Units (InHtml Text), ascii "a&lt;b<", 4, 0, 6)
     ∷ (Units (InHtml Text), 0x26 ∷ 0x80 ∷ [], 2, 0, 1)
     ∷ (Units (InHtml Text), ascii "a&" ++ 0xE2 ∷ 0x82 ∷ [], 7, 0, 2)
@@ -728,6 +819,8 @@ requests =
     -- refusals
     ∷ (request (ascii "decode") (ascii "script_raw") (map (λ (b : ℕ). 0x80) (count 0 8193)), ascii "status=5\nlength=0\nsame=0\nreplaced=0\nplace=0\ntext=")
     ∷ (request (ascii "browse") (ascii "script_single") [], prints 5 0)
+    ∷ (request (ascii "browse") (ascii "json") [], prints 5 0)
+    ∷ (request (ascii "decode") (ascii "json") (ascii "a\\uD800"), ascii "status=10\nlength=0\nsame=0\nreplaced=0\nplace=1\ntext=")
     ∷ (request (ascii "encode") (ascii "text") (0x80 ∷ map (λ (b : ℕ). 0x61) (count 0 8191)), prints 2 0)
     ∷ (request (ascii "encode") (ascii "text") (0x80 ∷ map (λ (b : ℕ). 0x61) (count 0 8192)), prints 1 0)
     ∷ (request (ascii "read") (ascii "text") (ascii "a&" ++ 0xE2 ∷ 0x82 ∷ []), ascii "status=7\nlength=0\nsame=0\nreplaced=0\nplace=2\ntext=")
@@ -742,7 +835,7 @@ requests =
     ∷ (ascii " op=encode\ncontext=text\ntext=", prints 6 0)
     ∷ (ascii "OP=encode\ncontext=text\ntext=", prints 6 0)
     ∷ (ascii "op=view\ncontext=text\ntext=", prints 6 0)
-    ∷ (ascii "op=encode\ncontext=json\ntext=", prints 6 0)
+    ∷ (ascii "op=encode\ncontext=JSON\ntext=", prints 6 0)
     ∷ (ascii "op=encode\ncontext=texts\ntext=", prints 6 0)
     ∷ (ascii "op=encode\ncontext=text\n\ntext=", prints 6 0)
     ∷ (ascii "context=text\nop=encode\ntext=", prints 6 0)

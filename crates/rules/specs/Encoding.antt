@@ -13,7 +13,7 @@ use Rattle.rules.specs.declared.Context.{Context}
 
 -- One byte is kept.
 abbrev pub keepByte : List ℕ → Move
-keepByte [] = stop
+keepByte [] = stop 4
 keepByte (b ∷ s) = keep (b ∷ [])
 
 -- The row's key gives way to its value; where there is no row, the other move.
@@ -53,5 +53,5 @@ parted s = stands (ascii "!--") s || closes (ascii "/script") s || closesAtEnd (
 
 -- encode in script_raw: a backslash goes in after each `<` that is followed by such bytes.
 unfoldable pub rawStep : Rule
-rawStep prev [] = stop
+rawStep prev [] = stop 4
 rawStep prev (b ∷ s) = cond (is "<" b && parted s) (swap (b ∷ []) (b ∷ ascii "\\")) (keep (b ∷ []))

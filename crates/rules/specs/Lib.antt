@@ -11,6 +11,7 @@ pub mod Names
 pub mod References
 pub mod Reasons
 pub mod Escapes
+pub mod Json
 pub mod Operations
 pub mod Refusals
 pub mod Answers

@@ -6,26 +6,27 @@ use lib.ListN.{length, drop, getD}
 use Rattle.rules.specs.declared.Reason.{Reason}
 use Rattle.rules.specs.declared.Reason.the-variants.{NoEnd, Empty, UnknownName, NoDigit, NotAllowed}
 
--- One move: bytes are kept as they are; bytes give way to others; a reference stays for a reason, and its `&` is kept; or nothing can be taken here.
+-- One move: bytes are kept as they are; bytes give way to others; a reference stays for a reason, and its `&` is kept; or nothing can be taken here, and
+-- the number is the status of the refusal.
 pub data Move : Type 0 where
   keep : List ℕ → Move
   swap : List ℕ → List ℕ → Move
   leave : Reason → List ℕ → Move
-  stop : Move
+  stop : ℕ → Move
 
 -- The bytes of the text that a move takes.
 abbrev pub takes : Move → List ℕ
 takes (keep a) = a
 takes (swap a b) = a
 takes (leave r a) = a
-takes stop = []
+takes (stop w) = []
 
 -- The bytes of the result that it gives.
 abbrev pub gives : Move → List ℕ
 gives (keep a) = a
 gives (swap a b) = b
 gives (leave r a) = a
-gives stop = []
+gives (stop w) = []
 
 -- A rule says the move at a place from the byte before (0 at the start) and the text from there on.
 abbrev pub Rule : Type 0
@@ -36,7 +37,7 @@ abbrev pub andThen : Move → List Move → List Move
 andThen (keep a) ms = keep a ∷ ms
 andThen (swap a b) ms = swap a b ∷ ms
 andThen (leave r a) ms = leave r a ∷ ms
-andThen stop ms = []
+andThen (stop w) ms = []
 
 -- The moves of a rule through a text: the rule's move here, and then the moves from behind what it takes.
 -- prev is the byte before, and skip bytes still belong to the move before.
@@ -69,7 +70,7 @@ replaced [] = 0
 replaced (keep a ∷ ms) = replaced ms
 replaced (swap a b ∷ ms) = suc (replaced ms)
 replaced (leave r a ∷ ms) = replaced ms
-replaced (stop ∷ ms) = replaced ms
+replaced (stop w ∷ ms) = replaced ms
 
 -- Place and reason of each reference that stays, in the order of the text, where the moves begin at place i.
 abbrev pub leftsAt : ℕ → List Move → List (ℕ × Reason)
@@ -77,7 +78,7 @@ leftsAt i [] = []
 leftsAt i (keep a ∷ ms) = leftsAt (i + length a) ms
 leftsAt i (swap a b ∷ ms) = leftsAt (i + length a) ms
 leftsAt i (leave r a ∷ ms) = (i, r) ∷ leftsAt (i + length a) ms
-leftsAt i (stop ∷ ms) = leftsAt i ms
+leftsAt i (stop w ∷ ms) = leftsAt i ms
 
 -- Those of the moves through a text.
 abbrev pub lefts : List Move → List (ℕ × Reason)
@@ -106,7 +107,7 @@ growth [] = 0
 growth (keep a ∷ ms) = growth ms
 growth (swap a b ∷ ms) = (length b - length a) + growth ms
 growth (leave r a ∷ ms) = growth ms
-growth (stop ∷ ms) = growth ms
+growth (stop w ∷ ms) = growth ms
 
 -- By how much those that shrink do so.
 abbrev pub shrinkage : List Move → ℕ
@@ -114,7 +115,7 @@ shrinkage [] = 0
 shrinkage (keep a ∷ ms) = shrinkage ms
 shrinkage (swap a b ∷ ms) = (length a - length b) + shrinkage ms
 shrinkage (leave r a ∷ ms) = shrinkage ms
-shrinkage (stop ∷ ms) = shrinkage ms
+shrinkage (stop w ∷ ms) = shrinkage ms
 
 -- The byte before place i of the text, 0 at the start.
 abbrev pub before : List ℕ → ℕ → ℕ
@@ -124,3 +125,14 @@ before text (suc i) = getD text i 0
 -- The moves from place i on, as a loop meets them.
 abbrev pub from : Rule → List ℕ → ℕ → List Move
 from rule text i = moves rule (before text i) 0 (drop i text)
+
+-- The status of a stop; 0 of any other move.
+abbrev pub why : Move → ℕ
+why (keep a) = 0
+why (swap a b) = 0
+why (leave r a) = 0
+why (stop w) = w
+
+-- Why a rule takes no more of a text: the status of its stop where its moves end.
+abbrev pub whyAt : Rule → List ℕ → ℕ
+whyAt rule text = let p = place (through rule text) in why (rule (before text p) (drop p text))

@@ -10,24 +10,28 @@ use Rattle.rules.specs.Encoding.{encodeStep, rawStep}
 use Rattle.rules.specs.Reading.{readStep}
 use Rattle.rules.specs.References.{referenceStep, browseStep}
 use Rattle.rules.specs.Escapes.{escapeBy}
+use Rattle.rules.specs.Json.{jsonStep}
 use Rattle.rules.specs.declared.Context.{Context}
-use Rattle.rules.specs.declared.Context.the-variants.{InHtml, InScript, InStyle}
+use Rattle.rules.specs.declared.Context.the-variants.{InHtml, InScript, InStyle, InJson}
 use Rattle.rules.specs.declared.AnyContext.{AnyContext}
 use Rattle.rules.specs.declared.AnyContext.the-variants.{Units, ScriptRaw, Unknown}
 use Rattle.rules.specs.declared.Operation.{Operation}
 use Rattle.rules.specs.declared.Operation.the-variants.{Encode, Decode, Read, Browse}
 
--- decode: the HTML seven share one decoder; a string's escapes are those that its context writes.
+-- decode: the HTML seven share one decoder; a string's escapes are those that its context writes; a JSON string has those of
+-- the RFC.
 unfoldable pub decodeStep : Context → Rule
 decodeStep (InHtml h) = referenceStep
 decodeStep (InScript q) = escapeBy (ascii "script") (rows (InScript q))
 decodeStep (InStyle q) = escapeBy (ascii "style") (rows (InStyle q))
+decodeStep InJson = jsonStep
 
 -- browse: the HTML seven only.
 abbrev pub browseIn : Context → Option Rule
 browseIn (InHtml h) = some browseStep
 browseIn (InScript q) = none
 browseIn (InStyle q) = none
+browseIn InJson = none
 
 -- The rule of each operation in a context that has units.
 abbrev pub ruleIn : Operation → Context → Option Rule

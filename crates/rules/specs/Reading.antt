@@ -17,7 +17,7 @@ undo none other = other
 
 -- Where the test holds nothing can be taken.
 abbrev pub unless : Bool → Move → Move
-unless true m = stop
+unless true m = stop 4
 unless false m = m
 
 -- The first row whose value stands here is undone; else one plain character is kept; else stop.

@@ -72,7 +72,7 @@ abbrev pub reasonIn : Move → Option Reason
 reasonIn (keep a) = none
 reasonIn (swap a b) = none
 reasonIn (leave r a) = some r
-reasonIn stop = none
+reasonIn (stop w) = none
 
 -- One more before those that stay, if it does.
 abbrev pub leftHere : ℕ → Option Reason → List (ℕ × Reason) → List (ℕ × Reason)

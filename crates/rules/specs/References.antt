@@ -148,7 +148,7 @@ atAmp char (some body) = refer body (meaning char body)
 
 -- The rule: an `&` begins a reference; any other byte is kept.
 abbrev pub referenceBy : (ℕ → Option (List ℕ)) → Rule
-referenceBy char prev [] = stop
+referenceBy char prev [] = stop 4
 referenceBy char prev (b ∷ s) = cond (is "&" b) (atAmp char (bodyOf s)) (keep (b ∷ []))
 
 -- decode in the HTML seven.

@@ -8,12 +8,14 @@ use Prim.Native.Nat.{ℕ, _<_}
 use lib.Dec.{ltb, leb, eqb}
 use lib.ListN.{length as size, take, drop}
 use Rattle.rules.specs.Bytes.{All, over}
-use Rattle.rules.specs.Moves.{Move, Rule, through, result, place as placeOf, replaced, firstLeft}
+use Rattle.rules.specs.Moves.{Move, Rule, through, result, place as placeOf, replaced, firstLeft, whyAt}
 use Rattle.rules.specs.Utf8.{IsText, IsCut, validTo, isCut}
 use Rattle.rules.specs.Units.{IsForm}
+use Rattle.rules.specs.Json.{IsContent, IsLone}
 use Rattle.rules.specs.Operations.{ruleOf}
 use Rattle.rules.specs.declared.Answer.{Answer}
 use Rattle.rules.specs.declared.Checked.{Checked}
+use Rattle.rules.specs.declared.Context.the-variants.{InHtml, InScript, InStyle, InJson}
 use Rattle.rules.specs.declared.AnyContext.{AnyContext}
 use Rattle.rules.specs.declared.AnyContext.the-variants.{Units, ScriptRaw, Unknown}
 use Rattle.rules.specs.declared.Operation.{Operation}
@@ -50,6 +52,11 @@ movesOf (some rule) t = through rule t
 abbrev pub movesIn : Call → List Move
 movesIn k = movesOf (ruleOf (k .operation) (k .context)) (k .text)
 
+-- The status of the stop where a rule goes no further; 0 without a rule.
+abbrev pub whyOf : Option Rule → List ℕ → ℕ
+whyOf none t = 0
+whyOf (some rule) t = whyAt rule t
+
 -- What becomes of a call: the rows of the table, and the two ways to pass it. BAD_REQUEST is the program's.
 pub data Case : Type 0 where
   bad-context : Case
@@ -57,13 +64,15 @@ pub data Case : Type 0 where
   not-utf8 : Case
   cut-short : Case
   not-a-form : Case
+  lone-surrogate : Case
   lent : Case
   no-room : Case
   written : Case
 
 -- ---- the table in its own words
 
--- The order in which the rows are checked. NOT_UTF8 and CUT_SHORT have the same rank: their words exclude each other. A borrowing call needs no room
+-- The order in which the rows are checked. NOT_UTF8 and CUT_SHORT have the same rank, and so have NOT_A_FORM and LONE_SURROGATE: their words exclude
+-- each other. A borrowing call needs no room
 -- where nothing is replaced, so `lent` goes before NO_ROOM.
 abbrev pub earlier : Case → List Case
 earlier bad-context = []
@@ -71,14 +80,32 @@ earlier too-long = bad-context ∷ []
 earlier not-utf8 = bad-context ∷ too-long ∷ []
 earlier cut-short = bad-context ∷ too-long ∷ []
 earlier not-a-form = bad-context ∷ too-long ∷ not-utf8 ∷ cut-short ∷ []
-earlier lent = bad-context ∷ too-long ∷ not-utf8 ∷ cut-short ∷ not-a-form ∷ []
-earlier no-room = bad-context ∷ too-long ∷ not-utf8 ∷ cut-short ∷ not-a-form ∷ lent ∷ []
-earlier written = bad-context ∷ too-long ∷ not-utf8 ∷ cut-short ∷ not-a-form ∷ lent ∷ no-room ∷ []
+earlier lone-surrogate = bad-context ∷ too-long ∷ not-utf8 ∷ cut-short ∷ []
+earlier lent = bad-context ∷ too-long ∷ not-utf8 ∷ cut-short ∷ not-a-form ∷ lone-surrogate ∷ []
+earlier no-room = bad-context ∷ too-long ∷ not-utf8 ∷ cut-short ∷ not-a-form ∷ lone-surrogate ∷ lent ∷ []
+earlier written = bad-context ∷ too-long ∷ not-utf8 ∷ cut-short ∷ not-a-form ∷ lone-surrogate ∷ lent ∷ no-room ∷ []
 
--- In read, the text is no run of the context's units.
+-- In decode of a JSON string, half a surrogate pair stands alone, and nothing that the RFC forbids comes before it.
+abbrev pub Lone : Operation → AnyContext → List ℕ → Type 0
+Lone Encode n t = ⊥
+Lone Decode (Units (InHtml h)) t = ⊥
+Lone Decode (Units (InScript q)) t = ⊥
+Lone Decode (Units (InStyle q)) t = ⊥
+Lone Decode (Units InJson) t = IsLone t
+Lone Decode ScriptRaw t = ⊥
+Lone Decode Unknown t = ⊥
+Lone Read n t = ⊥
+Lone Browse n t = ⊥
+
+-- In read, the text is no run of the context's units; in decode of a JSON string, it is no content, and no such half comes first.
 abbrev pub NoForm : Operation → AnyContext → List ℕ → Type 0
 NoForm Encode n t = ⊥
-NoForm Decode n t = ⊥
+NoForm Decode (Units (InHtml h)) t = ⊥
+NoForm Decode (Units (InScript q)) t = ⊥
+NoForm Decode (Units (InStyle q)) t = ⊥
+NoForm Decode (Units InJson) t = (IsContent t → ⊥) × (IsLone t → ⊥)
+NoForm Decode ScriptRaw t = ⊥
+NoForm Decode Unknown t = ⊥
 NoForm Read (Units c) t = IsForm c t → ⊥
 NoForm Read ScriptRaw t = ⊥
 NoForm Read Unknown t = ⊥
@@ -91,6 +118,7 @@ Says k too-long = k .limit < size (k .text)
 Says k not-utf8 = (IsText (k .text) → ⊥) × (IsCut (k .text) → ⊥)
 Says k cut-short = IsCut (k .text)
 Says k not-a-form = NoForm (k .operation) (k .context) (k .text)
+Says k lone-surrogate = Lone (k .operation) (k .context) (k .text)
 Says k lent = (k .borrows ≡ true) × (replaced (movesIn k) ≡ 0)
 Says k no-room = k .room < size (result (movesIn k))
 Says k written = Unit {0}
@@ -101,19 +129,20 @@ Given k row = Says k row × All (λ (other : Case). Says k other → ⊥) (earli
 
 -- ---- the table as a computation
 
--- The tests of the table, in its order, of a text t that the moves ms go through, in a call that borrows or not, with a limit and an output of room bytes.
-abbrev pub judge : Bool → ℕ → List ℕ → List Move → ℕ → Case
-judge borrows limit t ms room =
+-- The tests of the table, in its order, of a text t that the moves ms go through, where the status of the stop is w, in a call that borrows or not,
+-- with a limit and an output of room bytes.
+abbrev pub judge : Bool → ℕ → List ℕ → List Move → ℕ → ℕ → Case
+judge borrows limit t ms w room =
     cond (ltb limit (size t)) too-long
     (cond (ltb (validTo t) (size t)) (cond (isCut (drop (validTo t) t)) cut-short not-utf8)
-    (cond (ltb (placeOf ms) (size t)) not-a-form
+    (cond (ltb (placeOf ms) (size t)) (cond (eqb w 10) lone-surrogate not-a-form)
     (cond (borrows && eqb (replaced ms) 0) lent
     (cond (ltb room (size (result ms))) no-room written))))
 
 -- The same where there is a rule; where there is none, BAD_CONTEXT.
 unfoldable pub caseBy : Option Rule → Bool → ℕ → List ℕ → ℕ → Case
 caseBy none borrows limit t room = bad-context
-caseBy (some rule) borrows limit t room = judge borrows limit t (through rule t) room
+caseBy (some rule) borrows limit t room = judge borrows limit t (through rule t) (whyAt rule t) room
 
 -- The case of a call.
 abbrev pub caseOf : Call → Case
@@ -126,6 +155,7 @@ answerAt too-long t ms = refusal 1 0 0
 answerAt not-utf8 t ms = refusal 2 0 (validTo t)
 answerAt cut-short t ms = refusal 7 0 (validTo t)
 answerAt not-a-form t ms = refusal 4 0 (placeOf ms)
+answerAt lone-surrogate t ms = refusal 10 0 (placeOf ms)
 answerAt lent t ms = success (size (result ms)) 0 (firstLeft ms)
 answerAt no-room t ms = refusal 3 (size (result ms)) 0
 answerAt written t ms = success (size (result ms)) (replaced ms) (firstLeft ms)
@@ -137,6 +167,7 @@ outAt too-long ms out = out
 outAt not-utf8 ms out = out
 outAt cut-short ms out = out
 outAt not-a-form ms out = out
+outAt lone-surrogate ms out = out
 outAt lent ms out = out
 outAt no-room ms out = out
 outAt written ms out = over (result ms) out

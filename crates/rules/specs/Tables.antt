@@ -12,10 +12,10 @@ use Rattle.rules.specs.declared.Html.{Html}
 use Rattle.rules.specs.declared.Html.the-variants.{TextMinimal, Text, DoubleQuoted, SingleQuoted, Quoted, Safe, Unquoted}
 use Rattle.rules.specs.declared.Quotes.{Quotes}
 use Rattle.rules.specs.declared.Quotes.the-variants.{Single, Double, Both}
-use Rattle.rules.specs.declared.Language.{Language}
-use Rattle.rules.specs.declared.Language.the-variants.{Script, Style}
+use Rattle.rules.specs.declared.Notation.{Notation}
+use Rattle.rules.specs.declared.Notation.the-variants.{Script, Style, Json}
 use Rattle.rules.specs.declared.Context.{Context}
-use Rattle.rules.specs.declared.Context.the-variants.{InHtml, InScript, InStyle}
+use Rattle.rules.specs.declared.Context.the-variants.{InHtml, InScript, InStyle, InJson}
 
 -- A row: the key gives way to the value.
 abbrev pub Row : Type 0
@@ -121,14 +121,25 @@ scriptRows = map scriptHex (bytes 0 31 ++ ascii "<") ++ lineSeparator ∷ paragr
 abbrev pub styleHex : ℕ → Row
 styleHex b = (b ∷ [], ascii "\\" ++ hexPair b ++ ascii " ")
 
--- The row of a byte that a string of a language writes in hex.
-abbrev pub hexRow : Language → ℕ → Row
-hexRow Script b = scriptHex b
-hexRow Style b = styleHex b
-
 -- Bytes 1 to 31 and `<` in a style string.
 abbrev pub styleRows : List Row
 styleRows = map styleHex (bytes 1 31 ++ ascii "<")
+
+-- ---- JSON strings
+
+-- A byte →`\u00HH`
+abbrev pub jsonHex : ℕ → Row
+jsonHex b = (b ∷ [], ascii "\\u00" ++ hexPair b)
+
+-- The row of a byte that a string writes in hex.
+abbrev pub hexRow : Notation → ℕ → Row
+hexRow Script b = scriptHex b
+hexRow Style b = styleHex b
+hexRow Json b = jsonHex b
+
+-- Bytes 0 to 31 and `<`, U+2028 and U+2029 in a JSON string; its quotation mark and backslash are written as in a double-quoted string.
+abbrev pub jsonRows : List Row
+jsonRows = map jsonHex (bytes 0 31 ++ ascii "<") ++ lineSeparator ∷ paragraphSeparator ∷ []
 
 -- ---- every context
 
@@ -137,12 +148,14 @@ abbrev pub rows : Context → List Row
 rows (InHtml h) = htmlRows h
 rows (InScript q) = quoteRows q ++ scriptRows
 rows (InStyle q) = quoteRows q ++ styleRows
+rows InJson = quoteRows Double ++ jsonRows
 
 -- The one replacement that cannot: NUL becomes U+FFFD in a style string.
 abbrev pub lossy : Context → List Row
 lossy (InHtml h) = []
 lossy (InScript q) = []
 lossy (InStyle q) = (0x00 ∷ [], substitute) ∷ []
+lossy InJson = []
 
 -- All that the encoder of the context replaces; the rest is copied.
 abbrev pub table : Context → List Row

@@ -11,14 +11,14 @@ use Rattle.rules.specs.Tables.{Row, key, rows, lossy, replacedChars}
 use Rattle.rules.specs.declared.Html.{Html}
 use Rattle.rules.specs.declared.Html.the-variants.{TextMinimal, Text, DoubleQuoted, SingleQuoted, Quoted, Safe, Unquoted}
 use Rattle.rules.specs.declared.Context.{Context}
-use Rattle.rules.specs.declared.Context.the-variants.{InHtml, InScript, InStyle}
+use Rattle.rules.specs.declared.Context.the-variants.{InHtml, InScript, InStyle, InJson}
 
 -- A unit: a plain character that is not among the barred ones, or the value of a row, standing for its key.
 abbrev pub IsUnit : List Row → List (List ℕ) → Move → Type 0
 IsUnit rows bars (keep a) = IsChar a × (In a bars → ⊥)
 IsUnit rows bars (swap v k) = In (k, v) rows
 IsUnit rows bars (leave r a) = ⊥
-IsUnit rows bars stop = ⊥
+IsUnit rows bars (stop w) = ⊥
 
 -- A run of the context's units: plain characters that the context copies, and replacements exactly as its table has them.
 abbrev pub IsRun : Context → List Move → Type 0
@@ -51,3 +51,4 @@ abbrev pub undecoded : Context → List (List ℕ)
 undecoded (InHtml h) = left h
 undecoded (InScript q) = []
 undecoded (InStyle q) = unread (InStyle q)
+undecoded InJson = []

@@ -51,7 +51,7 @@ sequenceAt s = first (fits inside) sequences s
 -- The character at the head of s is kept; where none stands, stop.
 abbrev pub keepChar : Option (List Range) → List ℕ → Move
 keepChar (some q) s = keep (take (length q) s)
-keepChar none s = stop
+keepChar none s = stop 4
 
 -- The rule of valid UTF-8: one character after the other.
 unfoldable pub charStep : Rule

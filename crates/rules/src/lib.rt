@@ -5,7 +5,7 @@ ghost use Rattle.rules.specs.Contexts.{contextOf};
 // The longest text that a call takes, in bytes.
 pub const TEXT_LIMIT: usize = 65536;
 
-// The contexts: the HTML seven, the script strings, the style strings, and text inside a script element.
+// The contexts: the HTML seven, the script strings, the style strings, text inside a script element, and JSON strings.
 pub const TEXT_MINIMAL: u32 = 0;
 
 pub const TEXT: u32 = 1;
@@ -34,6 +34,8 @@ pub const STYLE_QUOTED: u32 = 12;
 
 pub const SCRIPT_RAW: u32 = 13;
 
+pub const JSON: u32 = 14;
+
 // The statuses of an answer.
 pub const PASSED: usize = 0;
 
@@ -54,6 +56,8 @@ pub const CUT_SHORT: usize = 7;
 pub const BAD_RANGE: usize = 8;
 
 pub const FINISHED: usize = 9;
+
+pub const LONE_SURROGATE: usize = 10;
 
 // The most records that a page takes.
 pub const FIELD_LIMIT: usize = 256;
@@ -76,20 +80,28 @@ pub enum Quotes {
     Both,
 }
 
-// The language of a string, which decides how control bytes, `<` and line separators are escaped.
+// The language of a string that decode reads as older pages have it too, by the name of its element.
 pub enum Language {
     Script,
     Style,
 }
 
-// The thirteen contexts that have units.
+// How a string is written: which control bytes and line separators are escaped, and how these and `<` are.
+pub enum Notation {
+    Script,
+    Style,
+    Json,
+}
+
+// The fourteen contexts that have units.
 pub enum Context {
     InHtml(Html),
     InScript(Quotes),
     InStyle(Quotes),
+    InJson,
 }
 
-// The context that a call names: one of the thirteen, script_raw, or none.
+// The context that a call names: one of the fourteen, script_raw, or none.
 pub enum AnyContext {
     Units(Context),
     ScriptRaw,
@@ -242,7 +254,7 @@ pub struct Closing {
     pub place: usize,
 }
 
-// Returns the context of a number, 0 to 13; any other number has none.
+// Returns the context of a number, 0 to 14; any other number has none.
 pub fn context_of(number: u32) -> AnyContext
     ensures { λ r. ⌜ r ≡ contextOf number ⌝ }
 {
@@ -261,6 +273,7 @@ pub fn context_of(number: u32) -> AnyContext
         STYLE_DOUBLE => AnyContext::Units(Context::InStyle(Quotes::Double)),
         STYLE_QUOTED => AnyContext::Units(Context::InStyle(Quotes::Both)),
         SCRIPT_RAW => AnyContext::ScriptRaw,
+        JSON => AnyContext::Units(Context::InJson),
         _ => AnyContext::Unknown,
     }
 }

@@ -7,20 +7,20 @@ use native.Mathlib.Omega.{arith}
 use borrow.Author.Needs.{needs}
 use lib.ListN.{length, take, drop}
 use Rattle.base.proofs.Part.{part-length}
-use Rattle.rules.specs.Contexts.{stringOf}
+use Rattle.rules.specs.Contexts.{writtenIn}
 use Rattle.rules.specs.Operations.{encodeOf}
 use Rattle.encode_strings.proofs.Parts.{Gone, gone-start, gone-part, gone-small, gone-end}
 use Rattle.encode_strings.proofs.measure.Statement.{statement}
 use Rattle.encode_strings.proofs.measure.Tie as tie
 
 abbrev Inv-loop : tie.InvT-loop
-Inv-loop language quotes text n₀ places₀ i₀ n places i = Gone language quotes text i n places
+Inv-loop notation quotes text n₀ places₀ i₀ n places i = Gone notation quotes text i n places
 
 abbrev μ-loop : tie.MeasureT-loop
-μ-loop language quotes text n₀ places₀ i₀ n places i = length text - i
+μ-loop notation quotes text n₀ places₀ i₀ n places i = length text - i
 
 loop-holds : tie.Need-loop-holds Inv-loop μ-loop
-loop-holds c = let a = c .before .args in gone-start (a .language) (a .quotes) (a .text .now)
+loop-holds c = let a = c .before .args in gone-start (a .notation) (a .quotes) (a .text .now)
 
 cut-requires : tie.Need-cut-requires Inv-loop μ-loop
 cut-requires c κs = search needs
@@ -50,7 +50,7 @@ given : (c : tie.After-struct-known Inv-loop μ-loop)
     let l = c .before .before .before .before .before .loop in
     let e = c .before .before .before .cut .result in
     let y = c .before .gained .result in
-    (e - l .i + y .growth ≡ length (encodeOf (stringOf (a .language) (a .quotes)) (take (e - l .i) (drop (l .i) (a .text .now)))))
+    (e - l .i + y .growth ≡ length (encodeOf (writtenIn (a .notation) (a .quotes)) (take (e - l .i) (drop (l .i) (a .text .now)))))
     × (l .n + (e - l .i + y .growth) ≤ 393216)
     × (l .places + y .replaced ≤ 131072)
 given c =
@@ -59,9 +59,9 @@ given c =
     let e = c .before .before .before .cut in
     let y = c .before .gained in
     let from : l .i ≤ e .result = omega (arith, e .ensures .0) in
-    let w : e .result - l .i + y .result .growth ≡ length (encodeOf (stringOf (s .args .language) (s .args .quotes)) (take (e .result - l .i) (drop (l .i) (s .args .text .now)))) =
+    let w : e .result - l .i + y .result .growth ≡ length (encodeOf (writtenIn (s .args .notation) (s .args .quotes)) (take (e .result - l .i) (drop (l .i) (s .args .text .now)))) =
     omega (arith, y .ensures .0, part-length (s .args .text .now) (l .i) (e .result) from (e .ensures .1)) in
-    let m = gone-small (s .args .language) (s .args .quotes) (s .args .text .now) (l .inv) (e .result) from (e .ensures .1) (e .ensures .3) _ (y .result .replaced) (s .pre) w (y .ensures .2) in
+    let m = gone-small (s .args .notation) (s .args .quotes) (s .args .text .now) (l .inv) (e .result) from (e .ensures .1) (e .ensures .3) _ (y .result .replaced) (s .pre) w (y .ensures .2) in
     (w, m .0, m .1)
 
 add-n : tie.Need-add-n Inv-loop μ-loop
@@ -82,10 +82,10 @@ loop-again c =
     let l = c .before .before .before .before .before .before .loop in
     let e = c .before .before .before .before .cut in
     let y = c .before .before .gained in
-    gone-part (a .language) (a .quotes) (a .text .now) (l .inv) (e .result) (omega (arith, e .ensures .0)) (e .ensures .1) (e .ensures .3) _ (y .result .replaced) (given (c .before) .0) (y .ensures .1) (y .ensures .2)
+    gone-part (a .notation) (a .quotes) (a .text .now) (l .inv) (e .result) (omega (arith, e .ensures .0)) (e .ensures .1) (e .ensures .3) _ (y .result .replaced) (given (c .before) .0) (y .ensures .1) (y .ensures .2)
 
 returns : tie.Need-returns Inv-loop μ-loop
-returns c = let a = c .before .before .before .args in gone-end (a .language) (a .quotes) (a .text .now) (c .before .loop .inv) (c .loop-test .left)
+returns c = let a = c .before .before .before .args in gone-end (a .notation) (a .quotes) (a .text .now) (c .before .loop .inv) (c .loop-test .left)
 
 pub measure-spec : {M : Type 1} → statement M
 measure-spec =

@@ -6,7 +6,7 @@ use borrow.Author.Needs.{needs}
 use lib.ListN.{getD}
 use Rattle.rules.specs.declared.Replacement.the-variants.{Slashed, Hex}
 use Rattle.rules.specs.declared.Replaced.the-variants.{By}
-use Rattle.encode_strings.specs.Strings.{singleKey, doubleKey, hexBy}
+use Rattle.encode_strings.specs.Strings.{singleKey, doubleKey, hexBy, quotesIn}
 use Rattle.encode_strings.proofs.Finds.{found-ruled, found-plain, found-quote, ruled-control, ruled-double, ruled-single, ruled-less, ruled-slash, letter-bounds, hex-held}
 use Rattle.encode_strings.proofs.escapes.escape.Statement.{statement}
 use Rattle.encode_strings.proofs.escapes.escape.Tie as tie
@@ -22,7 +22,7 @@ returns c =
     let c₀ = c .before .before .before .before in
     let a = c₀ .args in
     let (l, u) = letter-bounds (getD (a .rest .now) 0 0) (rw (c .before .is-within .ensures) at (c .if1 .taken)) in
-    (found-plain (a .language) (a .quotes) (a .rest .now) (c₀ .pre) (omega arith) (λ e. omega arith) (λ e. omega arith) (λ e. omega arith) (λ e. omega arith) (λ e. omega arith), c₀ .pre)
+    (found-plain (a .notation) (a .quotes) (a .rest .now) (c₀ .pre) (omega arith) (λ e. omega arith) (λ e. omega arith) (λ e. omega arith) (λ e. omega arith) (λ e. omega arith), c₀ .pre)
 
 hex-by-requires : tie.Need-hex-by-requires
 hex-by-requires c κs = search needs
@@ -33,14 +33,14 @@ returns-2 c =
     let a = c₀ .args in
     let b = getD (a .rest .now) 0 0 in
     let h = c .before .if3 .taken in
-    rw (c .hex-by .ensures) (found-ruled (a .language) (a .quotes) (a .rest .now) (By (hexBy (a .language) b)) (c₀ .pre) (λ e. omega arith) (ruled-control (a .language) (a .quotes) b (omega arith)), hex-held (a .language) b (a .rest .now) (c₀ .pre))
+    rw (c .hex-by .ensures) (found-ruled (a .notation) (a .quotes) (a .rest .now) (By (hexBy (a .notation) b)) (c₀ .pre) (λ e. omega arith) (ruled-control (a .notation) (quotesIn (a .notation) (a .quotes)) b (omega arith)), hex-held (a .notation) b (a .rest .now) (c₀ .pre))
 
 returns-3 : tie.Need-returns-3
 returns-3 c =
     let c₀ = c .before .before .before .before .before .before in
     let a = c₀ .args in
     let u = c .before .if2 .taken in
-    (found-plain (a .language) (a .quotes) (a .rest .now) (c₀ .pre) (c .if3 .left) (λ e. omega arith) (λ e. omega arith) (λ e. omega arith) (λ e. omega arith) (λ e. omega arith), c₀ .pre)
+    (found-plain (a .notation) (a .quotes) (a .rest .now) (c₀ .pre) (c .if3 .left) (λ e. omega arith) (λ e. omega arith) (λ e. omega arith) (λ e. omega arith) (λ e. omega arith), c₀ .pre)
 
 double-key-requires : tie.Need-double-key-requires
 double-key-requires c κs = search needs
@@ -61,27 +61,27 @@ returns-4 : tie.Need-returns-4
 returns-4 c =
     let c₀ = c .before .before .before .before .before .before .before .before in
     let a = c₀ .args in
-    found-quote (a .language) (a .quotes) (a .rest .now) (c .quoted .result) 0x22 (doubleKey (a .quotes)) (c₀ .pre) (c .before .before .match .keys1) (λ e. omega arith) (rw (← c .before .double-key .ensures) (c .quoted .ensures)) (ruled-double (a .language) (a .quotes))
+    found-quote (a .notation) (a .quotes) (a .rest .now) (c .quoted .result) 0x22 (doubleKey (a .notation) (a .quotes)) (c₀ .pre) (c .before .before .match .keys1) (λ e. omega arith) (rw (← c .before .double-key .ensures) (c .quoted .ensures)) (ruled-double (a .notation) (quotesIn (a .notation) (a .quotes)))
 
 returns-5 : tie.Need-returns-5
 returns-5 c =
     let c₀ = c .before .before .before .before .before .before .before .before in
     let a = c₀ .args in
-    found-quote (a .language) (a .quotes) (a .rest .now) (c .quoted2 .result) 0x27 (singleKey (a .quotes)) (c₀ .pre) (c .before .before .match .keys2) (λ e. omega arith) (rw (← c .before .single-key .ensures) (c .quoted2 .ensures)) (ruled-single (a .language) (a .quotes))
+    found-quote (a .notation) (a .quotes) (a .rest .now) (c .quoted2 .result) 0x27 (singleKey (a .notation) (a .quotes)) (c₀ .pre) (c .before .before .match .keys2) (λ e. omega arith) (rw (← c .before .single-key .ensures) (c .quoted2 .ensures)) (ruled-single (a .notation) (quotesIn (a .notation) (a .quotes)))
 
 returns-6 : tie.Need-returns-6
 returns-6 c =
     let c₀ = c .before .before .before .before .before .before in
     let a = c₀ .args in
     let k : getD (a .rest .now) 0 0 ≡ 0x3C = c .match .keys3 in
-    (found-ruled (a .language) (a .quotes) (a .rest .now) (By Hex) (c₀ .pre) (λ e. omega arith) (rw k (ruled-less (a .language) (a .quotes))), c₀ .pre)
+    (found-ruled (a .notation) (a .quotes) (a .rest .now) (By Hex) (c₀ .pre) (λ e. omega arith) (rw k (ruled-less (a .notation) (quotesIn (a .notation) (a .quotes)))), c₀ .pre)
 
 returns-7 : tie.Need-returns-7
 returns-7 c =
     let c₀ = c .before .before .before .before .before .before in
     let a = c₀ .args in
     let k : getD (a .rest .now) 0 0 ≡ 0x5C = c .match .keys4 in
-    (found-ruled (a .language) (a .quotes) (a .rest .now) (By Slashed) (c₀ .pre) (λ e. omega arith) (rw k (ruled-slash (a .language) (a .quotes))), c₀ .pre)
+    (found-ruled (a .notation) (a .quotes) (a .rest .now) (By Slashed) (c₀ .pre) (λ e. omega arith) (rw k (ruled-slash (a .notation) (quotesIn (a .notation) (a .quotes)))), c₀ .pre)
 
 returns-8 : tie.Need-returns-8
 returns-8 c = (c .separator .ensures .0 _, c .separator .ensures .1)
@@ -91,7 +91,7 @@ returns-9 c =
     let c₀ = c .before .before .before .before .before .before in
     let a = c₀ .args in
     let r = c .match .rest in
-    (found-plain (a .language) (a .quotes) (a .rest .now) (c₀ .pre) (omega (arith, c .before .if2 .left)) (r .0 .0 .0 .0 .1) (r .0 .0 .0 .1) (r .0 .0 .1) (r .0 .1) (r .1), c₀ .pre)
+    (found-plain (a .notation) (a .quotes) (a .rest .now) (c₀ .pre) (omega (arith, c .before .if2 .left)) (r .0 .0 .0 .0 .1) (r .0 .0 .0 .1) (r .0 .0 .1) (r .0 .1) (r .1), c₀ .pre)
 
 pub escape-spec : {M : Type 1} → statement M
 escape-spec =

@@ -16,7 +16,7 @@ returns : tie.Need-returns
 returns c =
     let c₀ = c .before .before in
     let s = c₀ .args .rest .now in
-    ((λ q. found-lead q s Nothing (c₀ .pre .0) (c₀ .pre .1) (rw (ended-short s (c .if1 .taken)))), c₀ .pre .0)
+    ((λ n w q. found-lead n w q s Nothing (c₀ .pre .0) (c₀ .pre .1) (rw (ended-short s (c .if1 .taken)))), c₀ .pre .0)
 
 shared-slice-read-ends-separator : tie.Need-shared-slice-read-ends-separator
 shared-slice-read-ends-separator c = search needs
@@ -34,7 +34,7 @@ returns-2 c =
     let s = c₀ .args .rest .now in
     let l : 3 ≤ length s = c₁ .if1 .left in
     let e : endsOf (getD s 1 0) (getD s 2 0) ≡ true = sym (c .before .ends-separator .ensures) ∙ c .if2 .taken in
-    ((λ q. found-lead q s (By Separator) (c₀ .pre .0) (c₀ .pre .1) (rw (ended-long s l, e))), (l, ends-are (getD s 1 0) (getD s 2 0) e .1, ends-are (getD s 1 0) (getD s 2 0) e .2))
+    ((λ n w q. found-lead n w q s (By Separator) (c₀ .pre .0) (c₀ .pre .1) (rw (ended-long s l, e))), (l, ends-are (getD s 1 0) (getD s 2 0) e .1, ends-are (getD s 1 0) (getD s 2 0) e .2))
 
 returns-3 : tie.Need-returns-3
 returns-3 c =
@@ -42,7 +42,7 @@ returns-3 c =
     let c₀ = c₁ .before .before in
     let s = c₀ .args .rest .now in
     let l : 3 ≤ length s = c₁ .if1 .left in
-    ((λ q. found-lead q s Nothing (c₀ .pre .0) (c₀ .pre .1) (rw (ended-long s l, ← c .before .ends-separator .ensures, c .if2 .left))), c₀ .pre .0)
+    ((λ n w q. found-lead n w q s Nothing (c₀ .pre .0) (c₀ .pre .1) (rw (ended-long s l, ← c .before .ends-separator .ensures, c .if2 .left))), c₀ .pre .0)
 
 pub separator-at-spec : {M : Type 1} → statement M
 separator-at-spec =

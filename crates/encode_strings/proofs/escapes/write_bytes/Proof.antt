@@ -7,7 +7,7 @@ use Prim.Native.Nat.{ℕ, _+_, _-_, _≤_}
 use native.Mathlib.Omega.{arith}
 use borrow.Author.Needs.{needs}
 use lib.ListN.{length, take, drop, getD, length-drop}
-use Rattle.rules.specs.Contexts.{stringOf}
+use Rattle.rules.specs.Contexts.{writtenIn}
 use Rattle.rules.specs.Moves.{gives}
 use Rattle.rules.specs.Answers.{replacementMove}
 use Rattle.rules.specs.Operations.{encodeOf}
@@ -19,29 +19,29 @@ use Rattle.encode_strings.proofs.escapes.write_bytes.Statement.{stateme
 use Rattle.encode_strings.proofs.escapes.write_bytes.Tie as tie
 
 abbrev Inv-loop : tie.InvT-loop
-Inv-loop language quotes text output₀ at₀ i₀ output at i =
-    (i ≤ length text) × Filled (encodeOf (stringOf language quotes) text) (encodeOf (stringOf language quotes) (drop i text)) output₀ output at
+Inv-loop notation quotes text output₀ at₀ i₀ output at i =
+    (i ≤ length text) × Filled (encodeOf (writtenIn notation quotes) text) (encodeOf (writtenIn notation quotes) (drop i text)) output₀ output at
 
 abbrev μ-loop : tie.MeasureT-loop
-μ-loop language quotes text output₀ at₀ i₀ output at i = length text - i
+μ-loop notation quotes text output₀ at₀ i₀ output at i = length text - i
 
 -- What is found at a place.
 kind : (c : tie.After-found Inv-loop μ-loop)
     → let a = c .before .before .before .before .before .before .before .before .args in
     let l = c .before .before .before .before .before .loop in
-    FoundAt (a .language) (a .quotes) (a .text .now) (l .i) (By (c .found .given .0 .0))
+    FoundAt (a .notation) (a .quotes) (a .text .now) (l .i) (By (c .found .given .0 .0))
 kind c = rw (c .found .given .1) at (c .before .before .escape .ensures)
 
 next : (c : tie.After-found Inv-loop μ-loop)
     → let a = c .before .before .before .before .before .before .before .before .args in
     let l = c .before .before .before .before .before .loop in
     (n : ℕ) → n ≡ takenBy (c .found .given .0 .0)
-    → Next (encodeOf (stringOf (a .language) (a .quotes)) (drop (l .i) (a .text .now))) (gives (replacementMove (a .language) (take (length (a .text .now) - l .i) (drop (l .i) (a .text .now))) (c .found .given .0 .0))) (encodeOf (stringOf (a .language) (a .quotes)) (drop (l .i + n) (a .text .now)))
+    → Next (encodeOf (writtenIn (a .notation) (a .quotes)) (drop (l .i) (a .text .now))) (gives (replacementMove (a .notation) (take (length (a .text .now) - l .i) (drop (l .i) (a .text .now))) (c .found .given .0 .0))) (encodeOf (writtenIn (a .notation) (a .quotes)) (drop (l .i + n) (a .text .now)))
 next c =
     let a = c .before .before .before .before .before .before .before .before .args in
     let l = c .before .before .before .before .before .loop in
     let loop-test = c .before .before .before .before .loop-test in
-    next-found (a .language) (a .quotes) (a .text .now) (l .i) (loop-test .taken) (c .found .given .0 .0) (kind c .0) (kind c .1)
+    next-found (a .notation) (a .quotes) (a .text .now) (l .i) (loop-test .taken) (c .found .given .0 .0) (kind c .0) (kind c .1)
 
 ends : (c : tie.After-found Inv-loop μ-loop)
     → let a = c .before .before .before .before .before .before .before .before .args in
@@ -52,13 +52,13 @@ ends c = rw (lent-rest, length-drop) at (held-within (c .found .given .0 .0) _ (
 byte : (c : tie.After-enum-told Inv-loop μ-loop)
     → let a = c .before .before .before .before .before .before .before .before .args in
     let l = c .before .before .before .before .before .loop in
-    Next (encodeOf (stringOf (a .language) (a .quotes)) (drop (l .i) (a .text .now))) (getD (a .text .now) (l .i) 0 ∷ []) (encodeOf (stringOf (a .language) (a .quotes)) (drop (l .i + 1) (a .text .now)))
+    Next (encodeOf (writtenIn (a .notation) (a .quotes)) (drop (l .i) (a .text .now))) (getD (a .text .now) (l .i) 0 ∷ []) (encodeOf (writtenIn (a .notation) (a .quotes)) (drop (l .i + 1) (a .text .now)))
 byte c =
     let a = c .before .before .before .before .before .before .before .before .args in
     let l = c .before .before .before .before .before .loop in
     let loop-test = c .before .before .before .before .loop-test in
-    let f : FoundAt (a .language) (a .quotes) (a .text .now) (l .i) Nothing = rw (c .enum-told .given .1) at (c .before .before .escape .ensures) in
-    next-byte (a .language) (a .quotes) (a .text .now) (l .i) (loop-test .taken) (f .0)
+    let f : FoundAt (a .notation) (a .quotes) (a .text .now) (l .i) Nothing = rw (c .enum-told .given .1) at (c .before .before .escape .ensures) in
+    next-byte (a .notation) (a .quotes) (a .text .now) (l .i) (loop-test .taken) (f .0)
 
 loop-holds : tie.Need-loop-holds Inv-loop μ-loop
 loop-holds c = (search needs, filled-start _ _ (c .before .before .pre))
@@ -163,7 +163,7 @@ returns : tie.Need-returns Inv-loop μ-loop
 returns c =
     let a = c .before .before .before .before .args in
     let l = c .before .loop in
-    let f = rw (encode-end (stringOf (a .language) (a .quotes)) (a .text .now) (l .i) (c .loop-test .left)) at (l .inv .1) in
+    let f = rw (encode-end (writtenIn (a .notation) (a .quotes)) (a .text .now) (l .i) (c .loop-test .left)) at (l .inv .1) in
     (omega (arith, f .sum), filled-end f)
 
 pub write-bytes-spec : {M : Type 1} → statement M

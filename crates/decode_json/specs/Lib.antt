@@ -1,0 +1,2 @@
+-- What the contracts of the functions inside cite.
+pub mod Escapes
