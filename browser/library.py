@@ -4,7 +4,7 @@ import subprocess
 import sys
 
 CONTEXTS = ['text_minimal', 'text', 'double_quoted', 'single_quoted', 'quoted', 'safe', 'unquoted', 'script_single', 'script_double', 'script_quoted',
-            'style_single', 'style_double', 'style_quoted', 'script_raw']
+            'style_single', 'style_double', 'style_quoted', 'script_raw', 'json']
 OPERATIONS = ['encode', 'decode', 'take', 'browse', 'closing_tag']
 
 
@@ -15,13 +15,17 @@ class Library:
 
     def call(self, operation, context, texts):
         """The results of one operation in one context for a list of byte strings; None for each that is refused."""
+        return [None if status else result for status, result in self.answers(operation, context, texts)]
+
+    def answers(self, operation, context, texts):
+        """The status and the result of one operation in one context for each of a list of byte strings."""
         head = bytes([OPERATIONS.index(operation), CONTEXTS.index(context)])
         requests = b''.join(head + struct.pack('<I', len(text)) + text for text in texts)
         ran = subprocess.run(self.command, input=requests, stdout=subprocess.PIPE, check=False)
         results, at = [], 0
         while at + 5 <= len(ran.stdout):
             status, length = struct.unpack_from('<BI', ran.stdout, at)
-            results.append(None if status else ran.stdout[at + 5:at + 5 + length])
+            results.append((status, ran.stdout[at + 5:at + 5 + length]))
             at += 5 + length
         if ran.returncode != 0 or at != len(ran.stdout) or len(results) != len(texts):
             print('%s ended with status %d after %d of %d answers' % (self.command[-1], ran.returncode, len(results), len(texts)), file=sys.stderr)

@@ -141,5 +141,7 @@ PLACES = [
           expected=lambda _, written: written),
     Place('script_raw', 'what follows it', '', "at('r', i).nextSibling.data", [], expected=lambda _text, _written: 'after'),
     Place('script_raw', 'run, in a string', '<script>V[2 * {i}] = {e};</script>', 'V[2 * i]', [], source=lambda text: json.dumps(text, ensure_ascii=False)),
+    Place('json', 'data for JSON.parse', '<script type=application/json id=j{i}>"{e}"</script>', "JSON.parse(textAt('j', i))", []),
+    in_script('json', '"'),
     *in_events(),
 ]

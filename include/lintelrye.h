@@ -61,21 +61,24 @@ enum lintelrye_context {
     LINTELRYE_STYLE_SINGLE = 10, /* in a string of a style element, between single quotes; a NUL becomes U+FFFD */
     LINTELRYE_STYLE_DOUBLE = 11, /* in a string of a style element, between double quotes; a NUL becomes U+FFFD */
     LINTELRYE_STYLE_QUOTED = 12, /* in a string of a style element, between quotes of either kind; a NUL becomes U+FFFD */
-    LINTELRYE_SCRIPT_RAW = 13    /* the whole text of a script element, in one call, or by lintelrye_script_raw_part; encode only; no JSON encoder (<!-- becomes <\!--) */
+    LINTELRYE_SCRIPT_RAW = 13,   /* the whole text of a script element, in one call, or by lintelrye_script_raw_part; encode only; no JSON encoder (<!-- becomes <\!--) */
+    LINTELRYE_JSON = 14          /* in a JSON string, inside a script element or in a JSON document; not in an attribute */
 };
 
 /* The statuses. Where several refusals apply, the first of this order is given: BAD_CONTEXT, BAD_RANGE, TOO_LONG, NOT_UTF8 or CUT_SHORT (never both),
- * NOT_A_FORM, NO_ROOM. */
+ * NOT_A_FORM or LONE_SURROGATE (never both), NO_ROOM. */
 enum lintelrye_status {
     LINTELRYE_PASSED = 0,
     LINTELRYE_TOO_LONG = 1,    /* the text is longer than LINTELRYE_TEXT_LIMIT bytes */
     LINTELRYE_NOT_UTF8 = 2,    /* the text is not valid UTF-8, and not cut short; `place` is the length of its longest valid prefix */
     LINTELRYE_NO_ROOM = 3,     /* the output is shorter than the result; `length` is the length needed; never from check */
-    LINTELRYE_NOT_A_FORM = 4,  /* check and take only: encode writes no such text; `place` is the length of its longest prefix that encode writes */
-    LINTELRYE_BAD_CONTEXT = 5, /* the call has no such context: encode has 0 to 13, decode, check and take 0 to 12, browse 0 to 6 */
+    LINTELRYE_NOT_A_FORM = 4,  /* check and take: encode writes no such text; `place` is the length of its longest prefix that encode writes.
+                                * decode of JSON: RFC 8259 allows no such string; `place` is the length of its longest prefix that it allows */
+    LINTELRYE_BAD_CONTEXT = 5, /* the call has no such context: encode has 0 to 14, decode, check and take all of these but 13, browse 0 to 6 */
     LINTELRYE_CUT_SHORT = 7,   /* the text ends within a character that more bytes could complete; `place` is where that character begins */
     LINTELRYE_BAD_RANGE = 8,   /* a record of a page only: the part that it names leaves the text */
-    LINTELRYE_FINISHED = 9     /* the calls for parts only: a finish has passed */
+    LINTELRYE_FINISHED = 9,    /* the calls for parts only: a finish has passed */
+    LINTELRYE_LONE_SURROGATE = 10 /* decode of JSON only: half a surrogate pair stands alone; `place` is where its backslash is */
 };
 
 /* The answer of a call. */
@@ -84,7 +87,7 @@ typedef struct lintelrye_answer {
     uint64_t length;   /* the result's length; after NO_ROOM the length needed; after any other refusal 0 */
     uint64_t same;     /* 1 exactly if nothing was replaced, so that the result is the text; after a refusal 0 */
     uint64_t replaced; /* how many places were replaced: characters by encode and take, references or escapes by decode and browse; after a refusal 0 */
-    uint64_t place;    /* after NOT_UTF8, CUT_SHORT and NOT_A_FORM the length of the longest correct prefix; otherwise 0 */
+    uint64_t place;    /* after NOT_UTF8, CUT_SHORT, NOT_A_FORM and LONE_SURROGATE the length of the longest correct prefix; otherwise 0 */
     uint64_t left;     /* decode and browse in contexts 0 to 6: the place of the `&` of the first reference that stayed; 0 if none did, and after a refusal */
     uint64_t reason;   /* why it stayed, see lintelrye_reason; 0 if none did, in every other call, and after a refusal */
 } lintelrye_answer;

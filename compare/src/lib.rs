@@ -1,6 +1,7 @@
 //! What the programs beside the crate share: the library's calls as its archive exports them, the crate's functions by context, what each
 //! call is to answer, and a generator of numbers with a fixed seed.
 
+pub mod json;
 pub mod model;
 #[cfg(feature = "archive")]
 pub mod nested;
@@ -153,7 +154,7 @@ pub enum Operation {
 pub const OPERATIONS: [Operation; 4] = [Operation::Encode, Operation::Decode, Operation::Read, Operation::Browse];
 
 /// The contexts by their numbers.
-pub const CONTEXTS: [&str; 14] = [
+pub const CONTEXTS: [&str; 15] = [
     "text_minimal",
     "text",
     "double_quoted",
@@ -168,6 +169,7 @@ pub const CONTEXTS: [&str; 14] = [
     "style_double",
     "style_quoted",
     "script_raw",
+    "json",
 ];
 
 /// A call of the library, found once and made often.
@@ -243,7 +245,7 @@ macro_rules! to_vec {
     };
 }
 
-/// The crate's encoders, in the order of the contexts.
+/// The crate's encoders, in the order of the contexts; json has none.
 pub const CRATE_ENCODERS: [ToVec; 14] = [
     to_vec!(encode_text_minimal_to_vec),
     to_vec!(encode_text_to_vec),
@@ -261,7 +263,7 @@ pub const CRATE_ENCODERS: [ToVec; 14] = [
     to_vec!(encode_script_to_vec),
 ];
 
-/// The crate's decoders, in the order of the contexts; script_raw has none.
+/// The crate's decoders, in the order of the contexts; script_raw and json have none.
 pub const CRATE_DECODERS: [ToVec; 13] = [
     to_vec!(decode_html_entities_to_vec),
     to_vec!(decode_html_entities_to_vec),
@@ -287,7 +289,7 @@ macro_rules! to_cow {
     };
 }
 
-/// The crate's lending encoders, in the order of the contexts.
+/// The crate's lending encoders, in the order of the contexts; json has none.
 pub const CRATE_LENDING_ENCODERS: [ToCow; 14] = [
     to_cow!(encode_text_minimal),
     to_cow!(encode_text),
@@ -305,7 +307,12 @@ pub const CRATE_LENDING_ENCODERS: [ToCow; 14] = [
     to_cow!(encode_script),
 ];
 
-/// The crate's lending decoders, in the order of the contexts; script_raw has none.
+/// The lending encoder of a context that ours is compared with: the crate's, and that of json.rs in the context that the crate has not.
+pub fn lending_encoder(context: u32) -> ToCow {
+    CRATE_LENDING_ENCODERS.get(context as usize).copied().unwrap_or(json::encode)
+}
+
+/// The crate's lending decoders, in the order of the contexts; script_raw and json have none.
 pub const CRATE_LENDING_DECODERS: [ToCow; 13] = [
     to_cow!(decode_html_entities),
     to_cow!(decode_html_entities),

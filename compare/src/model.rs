@@ -1,8 +1,11 @@
 //! What each call is to answer, worked out from the crate html-escape, from `std::str::from_utf8` and from docs/RULES.md. The crate gives no count of
 //! replaced places: that is counted here, by the rules' own division of the text. Nothing here calls the library.
 
-use crate::{Answer, Checked, Field, Filled, Operation, CRATE_DECODERS, CRATE_ENCODERS, CRATE_LENDING_DECODERS, CRATE_LENDING_ENCODERS};
+use crate::{json, lending_encoder, Answer, Checked, Field, Filled, Operation, CRATE_DECODERS, CRATE_ENCODERS, CRATE_LENDING_DECODERS};
 use std::borrow::Cow;
+
+/// The number of the context json, which the crate has not.
+const JSON: u32 = 14;
 
 /// The longest text that a call takes.
 pub const LONGEST: usize = 65_536;
@@ -15,6 +18,7 @@ pub const NOT_A_FORM: u64 = 4;
 pub const BAD_CONTEXT: u64 = 5;
 pub const CUT_SHORT: u64 = 7;
 pub const BAD_RANGE: u64 = 8;
+pub const LONE_SURROGATE: u64 = 10;
 
 /// The most records that a page takes.
 pub const FIELD_LIMIT: usize = 256;
@@ -64,20 +68,20 @@ impl Outcome {
 /// Whether an operation has a context of this number.
 pub fn has_context(operation: Operation, context: u32) -> bool {
     match operation {
-        Operation::Encode => context < 14,
-        Operation::Decode | Operation::Read => context < 13,
+        Operation::Encode => context < 15,
+        Operation::Decode | Operation::Read => context < 13 || context == JSON,
         Operation::Browse => context < 7,
     }
 }
 
-/// The model: the crate's functions, and the units of every context's forms, taken from the crate's encoders.
+/// The model: the crate's functions and those of json.rs, and the units of every context's forms, taken from the encoders; script_raw has none.
 pub struct Model {
-    units: Vec<Units>,
+    units: Vec<Option<Units>>,
 }
 
 impl Model {
     pub fn new() -> Model {
-        Model { units: (0..13).map(Units::of_context).collect() }
+        Model { units: (0..15).map(|context| has_context(Operation::Read, context).then(|| Units::of_context(context))).collect() }
     }
 
     /// What the call on a page leaves, by single calls: each record with its answer, the bytes of the output, and what the call answers.
@@ -126,8 +130,12 @@ impl Model {
         let context = context as usize;
         match operation {
             Operation::Encode => self.encode(context, text),
+            Operation::Decode if context == JSON as usize => match json::decode(text) {
+                Ok((result, replaced)) => Outcome::passed(result.into_bytes(), replaced, (0, 0)),
+                Err((status, place)) => Outcome::refused(status, place),
+            },
             Operation::Decode => self.decode(context, text),
-            Operation::Read => self.units[context].read(text),
+            Operation::Read => self.units(context).read(text),
             Operation::Browse => {
                 let (result, replaced) = references(text, browsed);
                 Outcome::passed(result.into_bytes(), replaced, first_left(text, browsed))
@@ -137,10 +145,18 @@ impl Model {
 }
 
 impl Model {
-    /// The crate's encoding. A character is replaced if it is when it stands alone; in script_raw each backslash is one place.
+    fn units(&self, context: usize) -> &Units {
+        self.units[context].as_ref().expect("the context has units")
+    }
+
+    /// The crate's encoding, and in json that of json.rs. A character is replaced if it is when it stands alone; in script_raw each backslash is one place.
     fn encode(&self, context: usize, text: &str) -> Outcome {
-        let written = of_crate(CRATE_LENDING_ENCODERS[context](text), text, CRATE_ENCODERS[context]);
-        let replaced = match self.units.get(context) {
+        let lent = lending_encoder(context as u32)(text);
+        let written = match CRATE_ENCODERS.get(context) {
+            Some(to_vec) => of_crate(lent, text, *to_vec),
+            None => OfCrate { lent: matches!(lent, Cow::Borrowed(_)), result: lent.into_owned().into_bytes() },
+        };
+        let replaced = match &self.units[context] {
             Some(units) => units.count(text),
             None => written.result.len() - text.len(),
         };
@@ -152,8 +168,8 @@ impl Model {
         let decoded = of_crate(CRATE_LENDING_DECODERS[context](text), text, CRATE_DECODERS[context]);
         let (result, replaced) = match context {
             0..=6 => references(text, decoded_reference),
-            7..=9 => self.units[context].unescape(text, "script"),
-            _ => self.units[context].unescape(text, "style"),
+            7..=9 => self.units(context).unescape(text, "script"),
+            _ => self.units(context).unescape(text, "style"),
         };
         assert!(result.as_bytes() == decoded.result, "the places that the rules replace do not make the crate's result of {:?}", text);
         let left = if context <= 6 { first_left(text, decoded_reference) } else { (0, 0) };
@@ -199,7 +215,7 @@ impl Units {
     /// Encodes every character by itself. Above 7F hex only the two line separators can be replaced, which one call over all the others shows.
     /// A style NUL is replaced and cannot be read back: U+FFFD is a plain character (RULES 6.3).
     fn of_context(context: u32) -> Units {
-        let encode = |text: &str| CRATE_LENDING_ENCODERS[context as usize](text).into_owned();
+        let encode = |text: &str| lending_encoder(context)(text).into_owned();
         let separators = ['\u{2028}', '\u{2029}'];
         let others: String = ('\u{80}'..=char::MAX).filter(|c| !separators.contains(c)).collect();
         assert!(encode(&others) == others, "context {} replaces a character above 7F hex that is no line separator", context);

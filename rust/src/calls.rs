@@ -56,9 +56,14 @@ pub enum Refusal {
         /// Where that character begins: the length of the longest valid prefix.
         place: usize,
     },
-    /// [`check`] and [`take`] only: [`encode`] writes no such text.
+    /// [`check`] and [`take`]: [`encode`] writes no such text. [`decode`] of [`Context::Json`]: RFC 8259 allows no such string.
     NotAForm {
-        /// The length of its longest prefix that [`encode`] writes.
+        /// The length of its longest prefix that [`encode`] writes, or that the RFC allows.
+        place: usize,
+    },
+    /// [`decode`] of [`Context::Json`] only: half a surrogate pair stands alone. Never both this and [`Refusal::NotAForm`].
+    LoneSurrogate {
+        /// Where its backslash is.
         place: usize,
     },
     /// The buffer is shorter than the result. [`check`] has no buffer, and never gives this.
@@ -82,6 +87,7 @@ impl fmt::Display for Refusal {
             Refusal::NotUtf8 { place } => write!(f, "the text is not valid UTF-8 from byte {} on", place),
             Refusal::CutShort { place } => write!(f, "the text ends within the character that begins at byte {}", place),
             Refusal::NotAForm { place } => write!(f, "the text is not what encode writes from byte {} on", place),
+            Refusal::LoneSurrogate { place } => write!(f, "half a surrogate pair stands alone at byte {}", place),
             Refusal::NoRoom { needed } => write!(f, "the result needs {} bytes of room", needed),
             Refusal::NotFilled => write!(f, "the field is not filled"),
             Refusal::WrongArchive => write!(f, "another archive than this version's is linked"),
@@ -232,6 +238,7 @@ pub(crate) fn refusal(status: u64, length: u64, place: u64) -> Refusal {
         raw::NOT_UTF8 => Refusal::NotUtf8 { place: place as usize },
         raw::CUT_SHORT => Refusal::CutShort { place: place as usize },
         raw::NOT_A_FORM => Refusal::NotAForm { place: place as usize },
+        raw::LONE_SURROGATE => Refusal::LoneSurrogate { place: place as usize },
         raw::NO_ROOM => Refusal::NoRoom { needed: length as usize },
         raw::NOT_FILLED => Refusal::NotFilled,
         _ => Refusal::WrongArchive,

@@ -1,4 +1,4 @@
-//! The fourteen contexts, by variant, number and name.
+//! The fifteen contexts, by variant, number and name.
 use core::{fmt, str};
 
 /// Where on the page the result goes. Escaping depends on it; the crate's front page has a table.
@@ -33,11 +33,13 @@ pub enum Context {
     StyleQuoted = 12,
     /// The whole text of a script element, in one call; [`encode`](crate::encode) only. It is no JSON encoder.
     ScriptRaw = 13,
+    /// In a JSON string, inside a script element or in a JSON document; not in an attribute.
+    Json = 14,
 }
 
 impl Context {
     /// All contexts, in the order of their numbers.
-    pub const ALL: [Context; 14] = [
+    pub const ALL: [Context; 15] = [
         Context::TextMinimal,
         Context::Text,
         Context::DoubleQuoted,
@@ -52,6 +54,7 @@ impl Context {
         Context::StyleDouble,
         Context::StyleQuoted,
         Context::ScriptRaw,
+        Context::Json,
     ];
 
     /// The context's name, as docs/RULES.md has it and as the program `entity` reads it.
@@ -78,6 +81,7 @@ impl Context {
             Context::StyleDouble => "style_double",
             Context::StyleQuoted => "style_quoted",
             Context::ScriptRaw => "script_raw",
+            Context::Json => "json",
         }
     }
 }
@@ -98,7 +102,7 @@ impl std::error::Error for UnknownContext {}
 impl TryFrom<u32> for Context {
     type Error = UnknownContext;
 
-    /// Returns the context of a number, 0 to 13.
+    /// Returns the context of a number, 0 to 14.
     fn try_from(number: u32) -> Result<Context, UnknownContext> {
         Context::ALL.iter().copied().find(|context| *context as u32 == number).ok_or(UnknownContext)
     }

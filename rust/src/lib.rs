@@ -34,6 +34,7 @@
 //! | `<style>a::before{content:"HERE"}</style>` | [`StyleDouble`](Context::StyleDouble) | [`encode_style_double_quoted_text`] |
 //! | in a style string with either kind of quotes | [`StyleQuoted`](Context::StyleQuoted) | [`encode_style_quoted_text`] |
 //! | `<script>HERE</script>`: the whole text of the element, in one call or by a [`ScriptEncoder`] | [`ScriptRaw`](Context::ScriptRaw) | [`encode_script`] |
+//! | `<script type="application/json">{"a":"HERE"}</script>`, a JSON document | [`Json`](Context::Json) | [`encode_json_string`] |
 //! | `onclick="f('HERE')"` | `ScriptSingle` for the name, then `DoubleQuoted` for the whole handler | both functions, see below |
 //! | a URL, CSS or script outside a string, a comment, a tag or attribute name | none: no context makes that safe | none |
 //!

@@ -53,6 +53,8 @@ named! {
         encode_style_quoted_text encode_style_quoted_text_to_slice StyleQuoted, "\n<\0" gives "\\0A \\3C \u{FFFD}";
     "Encodes the whole text of a script element, in one call: a backslash after each `<` that could close it or open a comment. It is no JSON encoder."
         encode_script encode_script_to_slice ScriptRaw, "<</script" gives "<<\\/script";
+    "Encodes a JSON string, inside a script element or in a JSON document; not in an attribute."
+        encode_json_string encode_json_string_to_slice Json, "\n<\"" gives "\\u000A\\u003C\\\"";
 }
 
 named! {
@@ -71,4 +73,6 @@ named! {
         decode_style_double_quoted_text decode_style_double_quoted_text_to_slice StyleDouble, "\\0A \\\"" gives "\n\"";
     "Decodes a string of a style element, between quotes of either kind."
         decode_style_quoted_text decode_style_quoted_text_to_slice StyleQuoted, "\\3C \\00 " gives "<\\00 ";
+    "Decodes the content of a JSON string, whatever RFC 8259 allows there."
+        decode_json_string decode_json_string_to_slice Json, "\\n\\u003c\\ud83d\\ude00" gives "\n<\u{1F600}";
 }

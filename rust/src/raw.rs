@@ -80,7 +80,7 @@ pub const TOO_LONG: u64 = 1;
 pub const NOT_UTF8: u64 = 2;
 /// The output is shorter than the result.
 pub const NO_ROOM: u64 = 3;
-/// `check` and `take` only: encode writes no such text.
+/// `check` and `take`: encode writes no such text; `decode` of JSON: RFC 8259 allows no such string.
 pub const NOT_A_FORM: u64 = 4;
 /// The operation has no such context.
 pub const BAD_CONTEXT: u64 = 5;
@@ -90,6 +90,8 @@ pub const CUT_SHORT: u64 = 7;
 pub const BAD_RANGE: u64 = 8;
 /// The calls for parts only: a finish has passed.
 pub const FINISHED: u64 = 9;
+/// `decode` of JSON only: half a surrogate pair stands alone.
+pub const LONE_SURROGATE: u64 = 10;
 /// No status of a call: what a field holds that no call has filled yet.
 pub const NOT_FILLED: u64 = u64::MAX;
 

@@ -5,11 +5,12 @@ use lintelrye::{Context, Field, Left, Reason, Refusal, Stopped, Written};
 
 type Operation = for<'a> fn(Context, &'a [u8], &'a mut [u8]) -> Result<Written<'a>, Refusal>;
 
-const OPERATIONS: [(Operation, Operation, usize); 4] = [
-    (|c, t, o| lintelrye::encode(c, t, o), |c, t, o| lintelrye::encode_borrowing(c, t, o), 14),
-    (|c, t, o| lintelrye::decode(c, t, o), |c, t, o| lintelrye::decode_borrowing(c, t, o), 13),
-    (|c, t, o| lintelrye::take(c, t, o), |c, t, o| lintelrye::take_borrowing(c, t, o), 13),
-    (|c, t, o| lintelrye::browse(c, t, o), |c, t, o| lintelrye::browse_borrowing(c, t, o), 7),
+/// The calls, each copying and borrowing, and whether they have the context of a number.
+const OPERATIONS: [(Operation, Operation, fn(usize) -> bool); 4] = [
+    (|c, t, o| lintelrye::encode(c, t, o), |c, t, o| lintelrye::encode_borrowing(c, t, o), |number| number < 15),
+    (|c, t, o| lintelrye::decode(c, t, o), |c, t, o| lintelrye::decode_borrowing(c, t, o), |number| number < 15 && number != 13),
+    (|c, t, o| lintelrye::take(c, t, o), |c, t, o| lintelrye::take_borrowing(c, t, o), |number| number < 15 && number != 13),
+    (|c, t, o| lintelrye::browse(c, t, o), |c, t, o| lintelrye::browse_borrowing(c, t, o), |number| number < 7),
 ];
 
 #[test]
@@ -57,11 +58,11 @@ fn what_is_replaced_is_in_the_buffer() {
 #[test]
 fn refusals_leave_the_buffer() {
     let long = vec![b'<'; lintelrye::TEXT_LIMIT + 1];
-    for (copying, borrowing, contexts) in OPERATIONS {
+    for (copying, borrowing, has) in OPERATIONS {
         for call in [copying, borrowing] {
             let mut output = [0xEE; 32];
             for (number, context) in Context::ALL.iter().enumerate() {
-                let refused = |refusal| if number < contexts { refusal } else { Refusal::BadContext };
+                let refused = |refusal| if has(number) { refusal } else { Refusal::BadContext };
                 assert_eq!(call(*context, &long, &mut output), Err(refused(Refusal::TooLong)));
                 assert_eq!(call(*context, b"ab\xED\xA0\x80", &mut output), Err(refused(Refusal::NotUtf8 { place: 2 })));
                 assert_eq!(call(*context, b"ab\xED\xA0", &mut output), Err(refused(Refusal::NotUtf8 { place: 2 })));
@@ -74,6 +75,8 @@ fn refusals_leave_the_buffer() {
     assert_eq!(lintelrye::encode_quoted_attribute("'", &mut output), Err(Refusal::NoRoom { needed: 6 }));
     assert_eq!(lintelrye::decode_html_entities("&nGt;", &mut output), Err(Refusal::NoRoom { needed: 6 }));
     assert_eq!(lintelrye::take(Context::Text, "ab<", &mut output), Err(Refusal::NotAForm { place: 2 }));
+    assert_eq!(lintelrye::decode(Context::Json, "ab\\x", &mut output), Err(Refusal::NotAForm { place: 2 }));
+    assert_eq!(lintelrye::decode(Context::Json, "a\\uD83D", &mut output), Err(Refusal::LoneSurrogate { place: 1 }));
     assert_eq!(output, [0xEE; 3]);
 }
 
@@ -141,8 +144,8 @@ fn results_and_refusals_in_words() {
 
 #[test]
 fn the_empty_text_and_the_empty_buffer() {
-    for (copying, borrowing, contexts) in OPERATIONS {
-        for context in &Context::ALL[..contexts] {
+    for (copying, borrowing, has) in OPERATIONS {
+        for context in Context::ALL.iter().filter(|context| has(**context as usize)) {
             for call in [copying, borrowing] {
                 let written = call(*context, b"", &mut []).unwrap();
                 assert_eq!((written.as_str(), written.replaced()), ("", 0));
@@ -183,6 +186,7 @@ fn names_and_contexts() {
         encode_style_double_quoted_text encode_style_double_quoted_text_to_slice StyleDouble;
         encode_style_quoted_text encode_style_quoted_text_to_slice StyleQuoted;
         encode_script encode_script_to_slice ScriptRaw;
+        encode_json_string encode_json_string_to_slice Json;
     }
     are_named! { decode:
         decode_html_entities decode_html_entities_to_slice Text;
@@ -211,7 +215,7 @@ fn the_texts_tell_contexts_apart() {
         }
         seen.len()
     };
-    assert_eq!(results(false, &Context::ALL), 14);
+    assert_eq!(results(false, &Context::ALL), 15);
     assert_eq!(results(true, &Context::ALL[6..13]), 7);
 }
 
@@ -264,7 +268,7 @@ fn null_pointers_of_length_0() {
         }
         assert_eq!(output, [0xEE; 8]);
     }
-    for context in 0..13 {
+    for context in (0..13).chain([14]) {
         // SAFETY: a null text is valid for its length, 0.
         assert_eq!(unsafe { lintelrye_check(context, std::ptr::null(), 0) }, Checked { status: 0, length: 0, place: 0 });
     }

@@ -7,7 +7,7 @@ fn contexts_by_number() {
         assert_eq!(context as usize, number);
         assert_eq!(Context::try_from(number as u32), Ok(context));
     }
-    for number in [14, 15, 99, u32::MAX] {
+    for number in [15, 16, 99, u32::MAX] {
         assert_eq!(Context::try_from(number), Err(UnknownContext));
     }
 }
@@ -16,13 +16,13 @@ fn contexts_by_number() {
 fn contexts_by_name() {
     let names =
         "text_minimal text double_quoted single_quoted quoted safe unquoted script_single script_double script_quoted style_single style_double \
-                 style_quoted script_raw";
+                 style_quoted script_raw json";
     assert_eq!(names.split(' ').count(), Context::ALL.len());
     for (name, context) in names.split(' ').zip(Context::ALL) {
         assert_eq!(context.name(), name);
         assert_eq!(name.parse(), Ok(context));
     }
-    for name in ["", "Text", "text ", "texts", "script", "json"] {
+    for name in ["", "Text", "text ", "texts", "script", "Json"] {
         assert_eq!(name.parse::<Context>(), Err(UnknownContext));
     }
     assert_eq!(UnknownContext.to_string(), "there is no such context");

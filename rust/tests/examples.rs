@@ -16,6 +16,7 @@ const SCRIPT_DOUBLE: u32 = 8;
 const SCRIPT_QUOTED: u32 = 9;
 const STYLE_QUOTED: u32 = 12;
 const SCRIPT_RAW: u32 = 13;
+const JSON: u32 = 14;
 
 /// Both calls pass with this result and so many replaced places, into a buffer of 64 bytes.
 fn passes(calls: [Call; 2], context: u32, text: &[u8], replaced: u64, result: &[u8]) {
@@ -130,11 +131,13 @@ fn the_empty_text_18() {
 
 #[test]
 fn contexts_of_the_operations() {
-    for (calls, contexts) in [(ENCODE, 14), (DECODE, 13), (TAKE, 13), (BROWSE, 7)] {
-        for context in 0..contexts {
-            stay(calls, context, &[b"Hall"]);
+    let read: Vec<u32> = (0..13).chain([JSON]).collect();
+    let (all, html): (Vec<u32>, Vec<u32>) = ((0..15).collect(), (0..7).collect());
+    for (calls, contexts) in [(ENCODE, &all), (DECODE, &read), (TAKE, &read), (BROWSE, &html)] {
+        for context in contexts {
+            stay(calls, *context, &[b"Hall"]);
         }
-        for context in [contexts, 14, 255, 256, u32::MAX] {
+        for context in (0..20).chain([255, 256, u32::MAX]).filter(|context| !contexts.contains(context)) {
             refuses(calls, context, b"\xFF", 0, Answer { status: 5, length: 0, same: 0, replaced: 0, place: 0, left: 0, reason: 0 });
         }
     }

@@ -113,7 +113,7 @@ pub fn compare(case: &Case, rooms: &mut Rooms) -> Result<(), String> {
     if case.kind == Kind::Page {
         return compare_pages(case, rooms);
     }
-    let call = Call::find(case.operation, case.kind == Kind::Borrowing);
+    let (call, others) = (Call::find(case.operation, case.kind == Kind::Borrowing), case.others());
     for (i, text) in case.texts.iter().enumerate() {
         // No result has this byte: what an earlier text left cannot pass for this one's result.
         rooms.ours[..6 * text.len()].fill(0xFF);
@@ -132,11 +132,10 @@ pub fn compare(case: &Case, rooms: &mut Rooms) -> Result<(), String> {
         }
         let borrowed = case.kind == Kind::Borrowing && answer.same == 1;
         let ours = if borrowed { text.as_bytes() } else { &rooms.ours[..answer.length as usize] };
-        rooms.alone.clear();
-        let theirs = case.theirs(i)(text, &mut rooms.alone);
-        if ours != theirs {
-            let place = ours.iter().zip(theirs).take_while(|(one, other)| one == other).count();
-            return Err(format!("{}, text {}: from byte {} of the result on it is not the crate's", case.name(), i, place));
+        let expected = case.expected(i, &others[i]);
+        if ours != expected {
+            let place = ours.iter().zip(&expected).take_while(|(one, other)| one == other).count();
+            return Err(format!("{}, text {}: from byte {} of the result on it is not what was expected", case.name(), i, place));
         }
     }
     Ok(())
@@ -172,6 +171,7 @@ pub type Pass<'a> = Box<dyn FnMut() + 'a>;
 /// The four passes over the texts of a case: ours, the crate alone, the crate after from_utf8, a copy.
 pub fn passes<'a>(case: &'a Case, rooms: &'a mut Rooms) -> [Pass<'a>; 4] {
     let (call, theirs) = (Call::find(case.operation, case.kind == Kind::Borrowing), case.theirs(0));
+    let (others, again) = (case.others(), case.others());
     let each = move || case.texts.iter().map(|text| keep(text.as_str()));
     if let Kind::Page | Kind::Singly = case.kind {
         return page_passes(case, rooms);
@@ -202,15 +202,15 @@ pub fn passes<'a>(case: &'a Case, rooms: &'a mut Rooms) -> [Pass<'a>; 4] {
     [
         calls,
         Box::new(move || {
-            each().for_each(|text| {
+            others.iter().for_each(|text| {
                 alone.clear();
-                keep(theirs(text, alone));
+                keep(theirs(keep(text.as_str()), alone));
             })
         }),
         Box::new(move || {
-            each().for_each(|text| {
+            again.iter().for_each(|text| {
                 checked.clear();
-                let text = from_utf8(text.as_bytes()).expect("the texts are valid");
+                let text = from_utf8(keep(text.as_str()).as_bytes()).expect("the texts are valid");
                 keep(theirs(text, checked));
             })
         }),

@@ -3,7 +3,7 @@
 use crate::clock::{Effort, Row};
 use crate::machine::machine;
 use crate::report::{above, besides, classes, each_once, escaped, families, highest, worst, worst_beside};
-use crate::texts::Kind;
+use crate::texts::{Case, Kind};
 
 /// The document of the times.
 pub fn times(rows: &[Row], facts: &[(&str, String)], effort: &Effort) -> String {
@@ -99,7 +99,8 @@ beside the crate's decoder of the same context on the same written form, though 
 `decode_html_entities`. The HTML seven share one decoder, so that decode and browse are measured in one of them. `closing_tag` has no counterpart either:
 it is held beside `encode_script` on the same text, of which none ends before its own end, so that all of it is read. `fill_page` fills forty names in one
 call, and is held beside forty calls of the crate, and beside forty of our own (\"encode for a page\"). script_raw by parts is start, a part for each
-4 KiB of the text, and finish, held beside `encode_script` of the whole text.
+4 KiB of the text, and finish, held beside `encode_script` of the whole text. `json`, which the crate has not, is held beside its functions of
+double-quoted script strings: encode on the same text, decode, take and check beside the decoder on the script form of the same text.
 
 ";
 
@@ -153,15 +154,19 @@ fn matrix(rows: &[Row]) -> String {
 
 /// What is held beside a call of ours, on the same texts in the same run.
 fn beside(rows: &[Row]) -> String {
-    let check = "check over take\n\nOurs over ours, on the same texts, in the worst of the thirteen contexts.";
+    let check = "check over take\n\nOurs over ours, on the same texts, in the worst of the contexts.";
     let page = "fill_page over single calls\n\nForty names in one call over forty copying calls of encode.";
     let parts = "script_raw in parts of 4 KiB over one encode\n\nOurs over ours, on the same texts. Each of the short names is one part, and has no limit.";
-    beside_copying(rows, Kind::Check, check) + &beside_copying(rows, Kind::Page, page) + &beside_copying(rows, Kind::Parts, parts)
+    let json = "encode of json over that of script_double\n\nOurs over ours, on the same texts: both escape the same characters, json with two bytes more.";
+    beside_copying(rows, |case| case.kind == Kind::Check, check)
+        + &beside_copying(rows, |case| case.kind == Kind::Page, page)
+        + &beside_copying(rows, |case| case.kind == Kind::Parts, parts)
+        + &beside_copying(rows, Case::writes_json, json)
 }
 
 /// A kind of calls beside the copying call: the worst ratio of each class.
-fn beside_copying(rows: &[Row], kind: Kind, title: &str) -> String {
-    let besides = besides(rows, kind);
+fn beside_copying(rows: &[Row], of_kind: impl Fn(&Case) -> bool, title: &str) -> String {
+    let besides = besides(rows, of_kind);
     let mut text = format!("\n## {}\n\n| class | at most | worst | in | |\n|---|---|---|---|---|\n", title);
     for beside in classes(rows).into_iter().filter_map(|class| worst_beside(&besides, class)) {
         let case = &beside.row.case;

@@ -1,7 +1,7 @@
 //! What the benchmark prints: a line for each row, and the worst ratios. Also what the document and the picture ask of the rows.
 
 use crate::clock::Row;
-use crate::texts::Kind;
+use crate::texts::{Case, Kind};
 use compare::{call, Operation};
 
 /// The head of the table that is printed. `unit` is what is measured.
@@ -31,9 +31,10 @@ pub fn summary(rows: &[Row]) -> String {
         let cell = |row: &Row| format!("{} {:.2}{}", row.case.class, row.ratio(), if row.above() { "*" } else { "" });
         text += &format!("{:24} {}\n", family, worst.map(cell).collect::<Vec<_>>().join(", "));
     }
-    let beside = beside(rows, Kind::Check, "check over take, worst (* above 1.00 in plain, 0.65 in 10 %, 50 % and all)")
-        + &beside(rows, Kind::Page, "fill_page over single calls (* above 1.05)")
-        + &beside(rows, Kind::Parts, "script_raw in parts of 4 KiB over one encode (* above 1.25; short names are one part each)");
+    let beside = beside(rows, |case| case.kind == Kind::Check, "check over take, worst (* above 1.00 in plain, 0.65 in 10 %, 50 % and all)")
+        + &beside(rows, |case| case.kind == Kind::Page, "fill_page over single calls (* above 1.05)")
+        + &beside(rows, |case| case.kind == Kind::Parts, "script_raw in parts of 4 KiB over one encode (* above 1.25; short names are one part each)")
+        + &beside(rows, Case::writes_json, "encode of json over that of script_double (* above 1.10, in all 1.30)");
     match rows.iter().any(|row| row.limit.is_some()) {
         true => text + &beside + &above(rows),
         false => text.replace(" (* above the limit)", "") + &beside,
@@ -41,7 +42,7 @@ pub fn summary(rows: &[Row]) -> String {
 }
 
 /// A row beside that of the copying call on the same texts: of check beside `take`, of fill_page beside its single calls, of a script by parts beside its
-/// encode.
+/// encode, of json beside script_double.
 pub struct Beside<'a> {
     pub row: &'a Row,
     pub copying: &'a Row,
@@ -59,9 +60,9 @@ impl Beside<'_> {
 }
 
 /// Every row of a kind with that of its copying call.
-pub fn besides(rows: &[Row], kind: Kind) -> Vec<Beside<'_>> {
+pub fn besides(rows: &[Row], of_kind: impl Fn(&Case) -> bool) -> Vec<Beside<'_>> {
     let copying = |row: &Row| rows.iter().find(|other| other.case.is_copying_of(&row.case));
-    rows.iter().filter(|row| row.case.kind == kind).filter_map(|row| copying(row).map(|copying| Beside { row, copying })).collect()
+    rows.iter().filter(|row| of_kind(&row.case)).filter_map(|row| copying(row).map(|copying| Beside { row, copying })).collect()
 }
 
 /// The highest ratio of a class among them.
@@ -70,8 +71,8 @@ pub fn worst_beside<'a, 'b>(besides: &'b [Beside<'a>], class: &str) -> Option<&'
 }
 
 /// The worst of a kind in each class, as a line of text after `title`.
-fn beside(rows: &[Row], kind: Kind, title: &str) -> String {
-    let besides = besides(rows, kind);
+fn beside(rows: &[Row], of_kind: impl Fn(&Case) -> bool, title: &str) -> String {
+    let besides = besides(rows, of_kind);
     let cell = |beside: &Beside| format!("{} {:.2}{}", beside.row.case.class, beside.ratio(), if beside.above() { "*" } else { "" });
     let cells: Vec<String> = classes(rows).into_iter().filter_map(|class| worst_beside(&besides, class)).map(cell).collect();
     if cells.is_empty() {

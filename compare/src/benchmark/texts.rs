@@ -1,6 +1,10 @@
 //! The texts of the benchmark: for every operation and context the same classes, made by a generator with a fixed seed.
 
-use compare::{Numbers, Operation, ToVec, CONTEXTS, CRATE_DECODERS, CRATE_ENCODERS};
+use compare::{json, Numbers, Operation, ToVec, CONTEXTS, CRATE_DECODERS, CRATE_ENCODERS};
+
+/// The context json, which the crate has not, and the one of the crate's that its texts are made for: both escape the same characters.
+const JSON: usize = 14;
+const SCRIPT_DOUBLE: usize = 8;
 
 /// The longest text that a call takes.
 const LONGEST: usize = 65_536;
@@ -48,18 +52,46 @@ impl Case {
         }
     }
 
-    /// The crate's counterpart: its encoder or decoder of the text's context. For `take`, `check` and `browse`, which the crate does not have, its decoder.
+    /// The crate's counterpart: its encoder or decoder of the text's context. For `take`, `check` and `browse`, which the crate does not have, its decoder;
+    /// for json that of script_double.
     pub fn theirs(&self, i: usize) -> ToVec {
-        match self.operation {
-            Operation::Encode => CRATE_ENCODERS[self.context_of(i)],
-            _ => CRATE_DECODERS[self.context],
+        match (self.operation, self.context_of(i)) {
+            (Operation::Encode, JSON) => CRATE_ENCODERS[SCRIPT_DOUBLE],
+            (Operation::Encode, context) => CRATE_ENCODERS[context],
+            (_, JSON) => CRATE_DECODERS[SCRIPT_DOUBLE],
+            (_, context) => CRATE_DECODERS[context],
         }
     }
 
-    /// Whether these are the copying calls of the same operation on the same texts: what a check, a page and a script by parts are held beside.
+    /// The texts that the crate gets: ours, but where a JSON string is undone its script form, which stands for the same text.
+    pub fn others(&self) -> Vec<String> {
+        match (self.operation, self.context) {
+            (Operation::Decode | Operation::Read, JSON) => self.texts.iter().map(|text| script_form(text)).collect(),
+            _ => self.texts.clone(),
+        }
+    }
+
+    /// What our result must be, from what the crate makes of its text: its bytes, but where json is written those of the model.
+    pub fn expected(&self, i: usize, other: &str) -> Vec<u8> {
+        if let (Operation::Encode, JSON) = (self.operation, self.context) {
+            return json::encode(other).into_owned().into_bytes();
+        }
+        let mut output = Vec::new();
+        self.theirs(i)(other, &mut output);
+        output
+    }
+
+    /// Whether these are the copying calls of the same operation on the same texts: what a check, a page and a script by parts are held beside, and
+    /// those of script_double, beside which json is held.
     pub fn is_copying_of(&self, case: &Case) -> bool {
         let kind = if case.kind == Kind::Page { Kind::Singly } else { Kind::Copying };
-        self.kind == kind && (self.operation, self.context, self.class) == (case.operation, case.context, case.class)
+        let context = if case.writes_json() { SCRIPT_DOUBLE } else { case.context };
+        self.kind == kind && (self.operation, self.context, self.class) == (case.operation, context, case.class)
+    }
+
+    /// Whether json is written.
+    pub fn writes_json(&self) -> bool {
+        (self.operation, self.context) == (Operation::Encode, JSON)
     }
 
     /// The number of bytes that one pass over the texts takes.
@@ -78,15 +110,19 @@ impl Case {
             (Operation::Encode, 0..=6, _) => "encode HTML",
             (Operation::Encode, 7..=9, _) => "encode script strings",
             (Operation::Encode, 10..=12, _) => "encode style strings",
+            (Operation::Encode, JSON, _) => "encode json",
             (Operation::Encode, _, _) => "encode script_raw",
             (Operation::Decode, 0..=6, _) => "decode HTML",
             (Operation::Decode, 7..=9, _) => "decode script strings",
+            (Operation::Decode, JSON, _) => "decode json",
             (Operation::Decode, _, _) => "decode style strings",
             (Operation::Read, 0..=6, Kind::Check) => "check HTML",
             (Operation::Read, 7..=9, Kind::Check) => "check script strings",
+            (Operation::Read, JSON, Kind::Check) => "check json",
             (Operation::Read, _, Kind::Check) => "check style strings",
             (Operation::Read, 0..=6, _) => "take HTML",
             (Operation::Read, 7..=9, _) => "take script strings",
+            (Operation::Read, JSON, _) => "take json",
             (Operation::Read, _, _) => "take style strings",
             (Operation::Browse, _, _) => "browse",
         }
@@ -106,6 +142,9 @@ impl Case {
 
     /// The most that it may take of what the copying calls do on the same texts. Short names are shorter than a part.
     pub fn beside_limit(&self) -> Option<f64> {
+        if self.writes_json() {
+            return Some(if self.class == "all" { 1.3 } else { 1.1 });
+        }
         match (self.kind, self.class) {
             (Kind::Page, _) => Some(1.05),
             (Kind::Check, "plain") => Some(1.0),
@@ -116,7 +155,8 @@ impl Case {
         }
     }
 
-    /// The most that ours may take of the time of the crate after `from_utf8`; `take`, `check` and the calls for parts have no limit.
+    /// The most that ours may take of the time of the crate after `from_utf8`; `take`, `check` and the calls for parts have no limit, and writing json is
+    /// held beside script_double alone.
     pub fn limit(&self) -> Option<f64> {
         if self.kind == Kind::Closing {
             return Some(if ["plain", "Cyrillic", "CJK", "emoji", "escaped plain"].contains(&self.class) { 1.5 } else { 3.0 });
@@ -132,7 +172,9 @@ impl Case {
             (Operation::Encode, 0..=6, "short names") => Some(0.9),
             (Operation::Encode, 0..=6, "Cyrillic" | "CJK" | "emoji") => Some(0.6),
             (Operation::Encode, 0..=6, _) => Some(1.3),
+            (Operation::Encode, JSON, _) => None,
             (Operation::Encode, _, _) => Some(1.5),
+            (Operation::Decode, JSON, "plain") => Some(0.5),
             (Operation::Decode | Operation::Browse, _, "plain" | "stray &") => Some(1.0),
             (Operation::Decode | Operation::Browse, _, _) => Some(2.0),
             (Operation::Read, _, _) => None,
@@ -150,10 +192,10 @@ pub fn cases() -> Vec<Case> {
     };
     add(Operation::Encode, Kind::Copying, &[0, 1, 2, 3, 4, 5, 6]);
     add(Operation::Encode, Kind::Borrowing, &[0, 1, 2, 3, 4, 5, 6]);
-    add(Operation::Encode, Kind::Copying, &[7, 8, 9, 10, 11, 12, 13]);
-    add(Operation::Decode, Kind::Copying, &[1, 7, 8, 9, 10, 11, 12]);
-    add(Operation::Read, Kind::Copying, &[0, 1, 2, 3, 4, 5, 6, 7, 8, 9, 10, 11, 12]);
-    add(Operation::Read, Kind::Check, &[0, 1, 2, 3, 4, 5, 6, 7, 8, 9, 10, 11, 12]);
+    add(Operation::Encode, Kind::Copying, &[7, 8, 9, 10, 11, 12, 13, JSON]);
+    add(Operation::Decode, Kind::Copying, &[1, 7, 8, 9, 10, 11, 12, JSON]);
+    add(Operation::Read, Kind::Copying, &[0, 1, 2, 3, 4, 5, 6, 7, 8, 9, 10, 11, 12, JSON]);
+    add(Operation::Read, Kind::Check, &[0, 1, 2, 3, 4, 5, 6, 7, 8, 9, 10, 11, 12, JSON]);
     add(Operation::Browse, Kind::Copying, &[1]);
     add(Operation::Encode, Kind::Parts, &[13]);
     all.extend([page_case(Kind::Singly), page_case(Kind::Page)]);
@@ -196,9 +238,10 @@ fn closing_cases() -> Vec<Case> {
     all
 }
 
-/// The classes of one operation in one context. In `unquoted`, where a space is special, plain words have no spaces between them.
+/// The classes of one operation in one context. In `unquoted`, where a space is special, plain words have no spaces between them; json is written for the
+/// texts of script_double.
 fn cases_of(operation: Operation, kind: Kind, context: usize) -> Vec<Case> {
-    let numbers = &mut Numbers(context as u64);
+    let numbers = &mut Numbers(if context == JSON { SCRIPT_DOUBLE } else { context } as u64);
     let gaps = if context == 6 { [""; 6] } else { [" ", " ", " ", " ", ", ", ". "] };
     let english = words(numbers, ENGLISH, &gaps);
     let pieces = pieces(operation, context);
@@ -289,11 +332,11 @@ fn special(context: usize) -> Vec<String> {
     };
     match context {
         7 | 10 => pieces.push("'"),
-        8 | 11 => pieces.push("\""),
+        8 | 11 | JSON => pieces.push("\""),
         9 | 12 => pieces.extend(["'", "\""]),
         _ => {}
     }
-    if let 7..=9 = context {
+    if let 7..=9 | JSON = context {
         pieces.extend(["\u{2028}", "\u{2029}"]);
     }
     pieces.into_iter().map(String::from).collect()
@@ -301,9 +344,18 @@ fn special(context: usize) -> Vec<String> {
 
 /// What the context's encoder writes for a piece.
 fn encoded(context: usize, piece: &str) -> String {
+    if context == JSON {
+        return json::encode(piece).into_owned();
+    }
     let mut output = Vec::new();
     CRATE_ENCODERS[context](piece, &mut output);
     String::from_utf8(output).expect("the crate's encoders write UTF-8")
+}
+
+/// What script_double writes for the text of a JSON string.
+fn script_form(string: &str) -> String {
+    let (text, _) = json::decode(string).expect("the texts of json are JSON strings");
+    encoded(SCRIPT_DOUBLE, &text)
 }
 
 /// References as pages have them: half of them the common names, a quarter numbers, a quarter any names of the table.

@@ -5,7 +5,7 @@
 //! The format of a line is described at the top of crates/replay/src/main.rt.
 
 use compare::model::{Model, Outcome, LONGEST, PASSED};
-use compare::{Numbers, Operation, CONTEXTS, CRATE_LENDING_ENCODERS, OPERATIONS};
+use compare::{lending_encoder, Numbers, Operation, CONTEXTS, OPERATIONS};
 use std::path::PathBuf;
 use Operation::{Browse, Decode, Encode, Read};
 
@@ -13,7 +13,10 @@ const SEED: u64 = 2_125;
 const HTML: [u32; 7] = [0, 1, 2, 3, 4, 5, 6];
 const STRINGS: [u32; 6] = [7, 8, 9, 10, 11, 12];
 const RAW: [u32; 1] = [13];
-const ALL: [u32; 14] = [0, 1, 2, 3, 4, 5, 6, 7, 8, 9, 10, 11, 12, 13];
+const JSON: [u32; 1] = [14];
+const ALL: [u32; 15] = [0, 1, 2, 3, 4, 5, 6, 7, 8, 9, 10, 11, 12, 13, 14];
+/// The contexts of decode and read.
+const READ: [u32; 14] = [0, 1, 2, 3, 4, 5, 6, 7, 8, 9, 10, 11, 12, 14];
 
 /// How long the output is: one short, exact and one over, or one of the three by turns.
 #[derive(Clone, Copy)]
@@ -27,7 +30,7 @@ struct List {
     model: Model,
     lines: String,
     result: Vec<u8>,
-    counts: [[u64; 15]; 4],
+    counts: [[u64; 16]; 4],
     turn: usize,
 }
 
@@ -98,7 +101,7 @@ impl List {
             self.lines.push_str(&format!("{} {} {} {}\n", operation_letters, context_letters, kind, words.join(" ")));
             for &operation in operations {
                 for &context in contexts {
-                    self.counts[operation as usize][context.min(14) as usize] += kind.len() as u64;
+                    self.counts[operation as usize][context.min(15) as usize] += kind.len() as u64;
                 }
             }
         }
@@ -162,7 +165,7 @@ fn sequences(pieces: &[&str], most: usize) -> Vec<String> {
 }
 
 fn encoded(context: u32, text: &str) -> String {
-    CRATE_LENDING_ENCODERS[context as usize](text).into_owned()
+    lending_encoder(context)(text).into_owned()
 }
 
 /// Every ASCII character and some others, alone: encoded, and what is written for them decoded, read and browsed.
@@ -172,12 +175,12 @@ fn characters(list: &mut List) {
     for c in ('\0'..='\u{7F}').chain(others.chars()) {
         let c = c.to_string();
         list.cases(&[Encode], &ALL, c.as_bytes(), Rooms::Three);
-        list.cases(&[Read], &ALL[..13], c.as_bytes(), Rooms::Turns);
-        let mut forms: Vec<String> = ALL[..13].iter().map(|&context| encoded(context, &c)).filter(|form| *form != c).collect();
+        list.cases(&[Read], &READ, c.as_bytes(), Rooms::Turns);
+        let mut forms: Vec<String> = READ.iter().map(|&context| encoded(context, &c)).filter(|form| *form != c).collect();
         forms.sort();
         forms.dedup();
         for form in forms {
-            list.cases(&[Decode, Read, Browse], &ALL[..13], form.as_bytes(), Rooms::Turns);
+            list.cases(&[Decode, Read, Browse], &READ, form.as_bytes(), Rooms::Turns);
         }
     }
 }
@@ -272,11 +275,11 @@ fn sequences_of_bytes(list: &mut List) {
     let leads = [0x80, 0xBF, 0xC0, 0xC1, 0xC2, 0xDF, 0xE0, 0xE1, 0xEC, 0xED, 0xEE, 0xEF, 0xF0, 0xF1, 0xF3, 0xF4, 0xF5, 0xF8, 0xFC, 0xFE, 0xFF];
     let seconds = [0x00, 0x7F, 0x80, 0x8F, 0x90, 0x9F, 0xA0, 0xBF, 0xC0, 0xFF];
     for lead in leads {
-        list.cases(&[Encode], &[lead as u32 % 14], &[b'a', lead], Rooms::Turns);
+        list.cases(&[Encode], &[lead as u32 % 15], &[b'a', lead], Rooms::Turns);
         for second in seconds {
             for rest in [&[][..], &[0x80], &[0xBF, 0xBF], &[0x80, 0x7F], &[0x80, 0x80, b'a'], &[0x80, 0xC0]] {
                 let text = [&[b'a', lead, second], rest].concat();
-                list.cases(&[Encode], &[(lead as u32 + second as u32) % 14], &text, Rooms::Turns);
+                list.cases(&[Encode], &[(lead as u32 + second as u32) % 15], &text, Rooms::Turns);
             }
         }
     }
@@ -298,20 +301,37 @@ fn lengths(list: &mut List) {
         for special in [b'&', b'\'', b'<', b'\\', 0, 0x80] {
             let texts = [[&[special], before].concat(), [before, &[special]].concat(), [&letters[..length / 2], &[special], &letters[..length - length / 2 - 1]].concat()];
             for text in texts {
-                list.cases(&[Encode], &[1, 4, 6, 9, 12, 13], &text, Rooms::Turns);
+                list.cases(&[Encode], &[1, 4, 6, 9, 12, 13, 14], &text, Rooms::Turns);
             }
         }
         for special in ["'", "<", "\0", "\u{2028}", "\u{E9}", "\u{10000}"] {
-            list.cases(&[Encode, Read], &[0, 4, 6, 7, 9, 12, 13], special.repeat(length / special.len()).as_bytes(), Rooms::Three);
+            list.cases(&[Encode, Read], &[0, 4, 6, 7, 9, 12, 13, 14], special.repeat(length / special.len()).as_bytes(), Rooms::Three);
         }
-        for form in ["&amp;", "&nGt;", "&#60;", "\\x3C", "\\3C ", "\\\\", "&#xD800;"] {
+        for form in ["&amp;", "&nGt;", "&#60;", "\\x3C", "\\3C ", "\\\\", "&#xD800;", "\\u003C", "\\uD83D\\uDE00"] {
             let run = form.repeat(length / form.len());
-            list.cases(&[Decode, Read, Browse], &[1, 6, 9, 12], [run.as_bytes(), &letters[..length - run.len()]].concat().as_slice(), Rooms::Three);
+            list.cases(&[Decode, Read, Browse], &[1, 6, 9, 12, 14], [run.as_bytes(), &letters[..length - run.len()]].concat().as_slice(), Rooms::Three);
         }
         for tail in [&[0xC3][..], &[0xC3, 0xA9], &[0xE2, 0x80], &[0xE2, 0x80, 0xA9], &[0xF0, 0x90, 0x80], &[0xF0, 0x90, 0x80, 0x80]] {
-            list.cases(&OPERATIONS, &[1, 9, 12], &[&letters[..length - tail.len()], tail].concat(), Rooms::Turns);
+            list.cases(&OPERATIONS, &[1, 9, 12, 14], &[&letters[..length - tail.len()], tail].concat(), Rooms::Turns);
         }
         list.cases(&OPERATIONS, &ALL, &letters, Rooms::Three);
+    }
+}
+
+/// JSON strings: a backslash before every ASCII character, `\u` escapes in either letter case, all pairs of them around the surrogates, and escapes cut off.
+fn json_strings(list: &mut List) {
+    list.remark("JSON strings: escapes, surrogate pairs, halves that stand alone, and what RFC 8259 forbids");
+    let units = [0, 0x1F, 0x22, 0x3C, 0x5C, 0x7F, 0x80, 0x7FF, 0x800, 0x2028, 0xD7FF, 0xD800, 0xD83D, 0xDBFF, 0xDC00, 0xDE00, 0xDFFF, 0xE000, 0xFFFF];
+    let mut texts: Vec<String> = ('\0'..='\u{7F}').map(|c| format!("\\{}", c)).collect();
+    texts.extend(["\\u", "\\u1", "\\u12", "\\u123", "\\u123G", "\\uG123", "\\u00\u{E9}", "\\U0041", "\\uD83D\\", "\\uD83D\\u", "\\uD83D\\uDE0", "\\uD83D\\uZZZZ"].map(String::from));
+    for first in units {
+        texts.extend([format!("\\u{:04X}", first), format!("\\u{:04x}", first)]);
+        texts.extend(units.map(|second| format!("\\u{:04X}\\u{:04x}", first, second)));
+    }
+    for text in texts {
+        for (before, after) in [("", ""), ("a", "b"), ("\\n\u{E9}", "\""), ("\"", "")] {
+            list.cases(&[Decode, Read], &JSON, [before, &text, after].concat().as_bytes(), Rooms::Turns);
+        }
     }
 }
 
@@ -352,8 +372,8 @@ fn damaged(list: &mut List) {
 }
 
 fn main() {
-    let mut list = List { model: Model::new(), lines: String::new(), result: Vec::new(), counts: [[0; 15]; 4], turn: 0 };
-    let sections = [characters, short_texts, names, numbers, tags, sequences_of_bytes, lengths, refusals, damaged];
+    let mut list = List { model: Model::new(), lines: String::new(), result: Vec::new(), counts: [[0; 16]; 4], turn: 0 };
+    let sections = [characters, short_texts, names, numbers, tags, sequences_of_bytes, lengths, json_strings, refusals, damaged];
     for section in sections {
         let (bytes, cases) = (list.lines.len(), list.total());
         section(&mut list);
