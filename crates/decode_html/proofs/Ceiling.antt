@@ -13,15 +13,13 @@ use borrow.Author.Tests.{leb-true, leb-false, lt-ltb, le-ltb, lt-leb}
 use lib.Dec.{T, leb, leb→le}
 use lib.ListN.{length, drop, getD, drop-of-length-le}
 use Rattle.rules.specs.Bytes.{inside}
-use Rattle.rules.specs.References.{digit, hexDigitAt, digits, number, numberOf, scalar, whyDigits, why}
+use Rattle.rules.specs.References.{digit, hexDigitAt, digits, number, numberOf, scalar, decodeChar, whyDigits, why}
 use Rattle.rules.specs.declared.Reason.the-variants.{Empty, NoDigit, NotAllowed}
 use Rattle.rules.proofs.Reasons.{number-body}
 use Rattle.rules.proofs.Tests.{and-left}
 use Rattle.rules.proofs.Loops.{drop-next}
-use Rattle.decode_html.specs.declared.Numbers.{Numbers}
-use Rattle.decode_html.specs.declared.Numbers.the-variants.{Decoded, Browsed}
 use Rattle.decode_html.specs.declared.digits.Number.{Number}
-use Rattle.decode_html.specs.Taking.{charBy, charOf}
+use Rattle.decode_html.specs.Taking.{charOf}
 use Rattle.base.specs.Digits.{below}
 use Rattle.decode_html.specs.Digits.{digitBy, ceilingOf, capped, found}
 
@@ -40,7 +38,7 @@ above d base a b (x ∷ s) h l m = go (d x) (λ k. above d base (a * base + k) (
     go (some k) ih = ih k
 
 -- At each digit the ceiling may take the number's place.
-capped-digits : (d : ℕ → Option ℕ) (base n : ℕ) (s : List ℕ) → 1 ≤ base → capped (digits d base (ceilingOf n) s) ≡ capped (digits d base n s)
+pub capped-digits : (d : ℕ → Option ℕ) (base n : ℕ) (s : List ℕ) → 1 ≤ base → capped (digits d base (ceilingOf n) s) ≡ capped (digits d base n s)
 capped-digits d base n s h = go (leb n 0x10FFFF) refl
   where
     go : (x : Bool) → leb n 0x10FFFF ≡ x → capped (digits d base (cond x n 0x110000) s) ≡ capped (digits d base n s)
@@ -55,7 +53,7 @@ ceiling-most n = go (leb n 0x10FFFF) refl
     go false e = omega arith
 
 -- A number under it stays.
-ceiling-same : (n : ℕ) → n ≤ 0x110000 → ceilingOf n ≡ n
+pub ceiling-same : (n : ℕ) → n ≤ 0x110000 → ceilingOf n ≡ n
 ceiling-same n h = go (leb n 0x10FFFF) refl
   where
     go : (x : Bool) → leb n 0x10FFFF ≡ x → cond x n 0x110000 ≡ n
@@ -136,15 +134,14 @@ pub scalar-most : (n : ℕ) → T (scalar n) → n ≤ 0x10FFFF
 scalar-most n t = leb→le n 0x10FFFF (and-left (leb n 0x10FFFF) (not (inside (0xD800, 0xDFFF) n)) t)
 
 -- Every number above the last character's stands for the same.
-char-capped : (numbers : Numbers) (o : Option ℕ) → charOf (charBy numbers) (capped o) ≡ charOf (charBy numbers) o
-char-capped numbers none = refl
-char-capped numbers (some n) = go numbers (leb n 0x10FFFF) refl
+char-capped : (o : Option ℕ) → charOf decodeChar (capped o) ≡ charOf decodeChar o
+char-capped none = refl
+char-capped (some n) = go (leb n 0x10FFFF) refl
   where
-    go : (numbers : Numbers) (x : Bool) → leb n 0x10FFFF ≡ x → charBy numbers (cond x n 0x110000) ≡ charBy numbers n
-    go numbers true e = refl
-    go Decoded false e = rw e
-    go Browsed false e = rw e
+    go : (x : Bool) → leb n 0x10FFFF ≡ x → decodeChar (cond x n 0x110000) ≡ decodeChar n
+    go true e = refl
+    go false e = rw e
 
 -- So what the digit reader finds stands for what the digits make.
-pub found-char : (numbers : Numbers) (r : Number) (o : Option ℕ) → found r ≡ capped o → charOf (charBy numbers) (found r) ≡ charOf (charBy numbers) o
-found-char numbers r o e = ap (charOf (charBy numbers)) e ∙ char-capped numbers o
+pub found-char : (r : Number) (o : Option ℕ) → found r ≡ capped o → charOf decodeChar (found r) ≡ charOf decodeChar o
+found-char r o e = ap (charOf decodeChar) e ∙ char-capped o

@@ -12,15 +12,13 @@ use lib.ListN.{length, take, drop, getD}
 use Rattle.rules.specs.Bytes.{ascii}
 use Rattle.rules.specs.Moves.{swap}
 use Rattle.rules.specs.Names.{names}
-use Rattle.rules.specs.References.{referenceBy, referenceStep, browseStep}
+use Rattle.rules.specs.References.{decodeChar, referenceBy, referenceStep}
 use Rattle.rules.specs.Answers.{unpackTo}
 use Rattle.rules.specs.declared.DecodedEntityValue.the-variants.{Named}
 use Rattle.rules.specs.declared.Reference.the-variants.{Found}
 use Rattle.rules.proofs.Loops.{drop-next}
 use Rattle.rules.proofs.Tests.{and-left, and-right, or-cases}
-use Rattle.decode_html.specs.declared.Numbers.{Numbers}
-use Rattle.decode_html.specs.declared.Numbers.the-variants.{Decoded, Browsed}
-use Rattle.decode_html.specs.Taking.{charBy, stepBy, Reads}
+use Rattle.decode_html.specs.Taking.{Reads}
 use Rattle.decode_html.specs.Bodies.{KnownBytes, Known, knownValue}
 
 -- ---- the test
@@ -88,10 +86,9 @@ amp-move : (char : ℕ → Option (List ℕ)) (p : ℕ) (r : List ℕ) → refer
 unfolding names
 amp-move char p r = refl
 
-by : (numbers : Numbers) (p : ℕ) (s : List ℕ) → stepBy numbers p s ≡ referenceBy (charBy numbers) p s
-unfolding referenceStep browseStep
-by Decoded p s = refl
-by Browsed p s = refl
+by : (p : ℕ) (s : List ℕ) → referenceStep p s ≡ referenceBy decodeChar p s
+unfolding referenceStep
+by p s = refl
 
 -- The first four bytes from a place on, and the fifth.
 four : (t : List ℕ) (i : ℕ) → i + 4 ≤ length t → drop i t ≡ getD t i 0 ∷ getD t (i + 1) 0 ∷ getD t (i + 2) 0 ∷ getD t (i + 3) 0 ∷ drop (i + 4) t
@@ -105,21 +102,21 @@ five : (t : List ℕ) (i : ℕ) → i + 5 ≤ length t
     → drop i t ≡ getD t i 0 ∷ getD t (i + 1) 0 ∷ getD t (i + 2) 0 ∷ getD t (i + 3) 0 ∷ getD t (i + 4) 0 ∷ drop (i + 4 + 1) t
 five t i h = four t i (omega arith) ∙ rw (drop-next t (i + 4) (omega arith))
 
-module _ (numbers : Numbers) (t : List ℕ) (i n : ℕ) (amp : getD t i 0 ≡ 38) (known : Known t i n) where
+module _ (t : List ℕ) (i n : ℕ) (amp : getD t i 0 ≡ 38) (known : Known t i n) where
   -- The move is the one that the bytes say.
   move : (p : ℕ) → KnownBytes (getD t (i + 1) 0) (getD t (i + 2) 0) (getD t (i + 3) 0) (getD t (i + 4) 0) n → (n ≡ 0 → ⊥)
-      → swap (take (i + n - i) (drop i t)) (unpackTo 6 (knownValue (getD t (i + 1) 0))) ≡ stepBy numbers p (drop i t)
+      → swap (take (i + n - i) (drop i t)) (unpackTo 6 (knownValue (getD t (i + 1) 0))) ≡ referenceStep p (drop i t)
   move p (inl z) some = absurd (some z)
   move p (inr (inl (e, inl a, b, c))) some =
       let w : i + n - i ≡ 4 = omega arith in
-      rw (w, four t i (omega (arith, known .within)), amp, a, b, c) (sym (by numbers p (38 ∷ 108 ∷ 116 ∷ 59 ∷ drop (i + 4) t) ∙ lt-move (charBy numbers) p (drop (i + 4) t)))
+      rw (w, four t i (omega (arith, known .within)), amp, a, b, c) (sym (by p (38 ∷ 108 ∷ 116 ∷ 59 ∷ drop (i + 4) t) ∙ lt-move decodeChar p (drop (i + 4) t)))
   move p (inr (inl (e, inr a, b, c))) some =
       let w : i + n - i ≡ 4 = omega arith in
-      rw (w, four t i (omega (arith, known .within)), amp, a, b, c) (sym (by numbers p (38 ∷ 103 ∷ 116 ∷ 59 ∷ drop (i + 4) t) ∙ gt-move (charBy numbers) p (drop (i + 4) t)))
+      rw (w, four t i (omega (arith, known .within)), amp, a, b, c) (sym (by p (38 ∷ 103 ∷ 116 ∷ 59 ∷ drop (i + 4) t) ∙ gt-move decodeChar p (drop (i + 4) t)))
   move p (inr (inr (e, a, b, c, d))) some =
       let w : i + n - i ≡ 5 = omega arith in
       rw (w, five t i (omega (arith, known .within)), amp, a, b, c, d)
-      (sym (by numbers p (38 ∷ 97 ∷ 109 ∷ 112 ∷ 59 ∷ drop (i + 4 + 1) t) ∙ amp-move (charBy numbers) p (drop (i + 4 + 1) t)))
+      (sym (by p (38 ∷ 97 ∷ 109 ∷ 112 ∷ 59 ∷ drop (i + 4 + 1) t) ∙ amp-move decodeChar p (drop (i + 4 + 1) t)))
 
-  pub known-reads : (n ≡ 0 → ⊥) → Reads numbers t i (Found (record { start = i; end = i + n; value = Named (knownValue (getD t (i + 1) 0)) }))
+  pub known-reads : (n ≡ 0 → ⊥) → Reads referenceStep t i (Found (record { start = i; end = i + n; value = Named (knownValue (getD t (i + 1) 0)) }))
   known-reads some = record { move = λ p. move p (known .bytes) some; lies = (refl, omega arith, known .within, tt) }

@@ -12,12 +12,11 @@ use Rattle.rules.specs.Reasons.{reasonIn, leftHere, leftsIn}
 use Rattle.rules.specs.declared.Reason.{Reason}
 use Rattle.rules.specs.declared.DecodedEntity.{DecodedEntity}
 use Rattle.rules.specs.declared.Reference.{Reference}
-use Rattle.rules.specs.declared.Reference.the-variants.{Found, Left}
+use Rattle.rules.specs.declared.Reference.the-variants.{Found, Left, Nothing}
 use Rattle.rules.proofs.Loops.{drop-next}
 use Rattle.rules.proofs.Reasons.{reason-some}
 use Rattle.base.specs.Places.{Nearest}
-use Rattle.decode_html.specs.declared.Numbers.the-variants.{Decoded}
-use Rattle.decode_html.specs.Taking.{stepBy, Reads, leftNumber, NextLeft}
+use Rattle.decode_html.specs.Taking.{Reads, leftNumber, NextLeft}
 use Rattle.decode_html.proofs.Readings.{step-quiet}
 
 module _ (t : List ℕ) where
@@ -39,22 +38,24 @@ module _ (t : List ℕ) where
       go zero i e f = let z : i ≡ r = omega arith in rw z
       go (suc n) i e f =
           let h : i < length t = omega (arith, near .within) in
-          next i h _ (ap (referenceStep 0) (drop-next t i h) ∙ step-quiet Decoded 0 (getD t i 0) (drop (i + 1) t) (f i (omega arith) (omega arith)))
+          next i h _ (ap (referenceStep 0) (drop-next t i h) ∙ step-quiet 0 (getD t i 0) (drop (i + 1) t) (f i (omega arith) (omega arith)))
           ∙ go n (i + 1) (omega arith) (λ k a b. f k (omega arith) b)
 
-  module _ (i : ℕ) (h : i < length t) (r : Reference) (reads : Reads Decoded t i r) where
+  module _ (i : ℕ) (h : i < length t) (r : Reference) (reads : Reads referenceStep t i r) where
     pub passed-found : leftNumber r ≡ 0 → rest i ≡ rest (i + 1)
     passed-found z = go r reads z
       where
-        go : (r : Reference) → Reads Decoded t i r → leftNumber r ≡ 0 → rest i ≡ rest (i + 1)
+        go : (r : Reference) → Reads referenceStep t i r → leftNumber r ≡ 0 → rest i ≡ rest (i + 1)
         go (Found e) reads z = next i h _ (sym (reads .move 0))
+        go Nothing reads z = next i h _ (sym (reads .move 0))
         go (Left w) reads z = absurd (reason-some w z)
 
     pub passed-left : (leftNumber r ≡ 0 → ⊥) → (w : Reason) × (leftNumber r ≡ reasonNumber w) × (rest i ≡ (i, w) ∷ rest (i + 1))
     passed-left n = go r reads n
       where
-        go : (r : Reference) → Reads Decoded t i r → (leftNumber r ≡ 0 → ⊥) → (w : Reason) × (leftNumber r ≡ reasonNumber w) × (rest i ≡ (i, w) ∷ rest (i + 1))
+        go : (r : Reference) → Reads referenceStep t i r → (leftNumber r ≡ 0 → ⊥) → (w : Reason) × (leftNumber r ≡ reasonNumber w) × (rest i ≡ (i, w) ∷ rest (i + 1))
         go (Found e) reads n = absurd (n refl)
+        go Nothing reads n = absurd (n refl)
         go (Left w) reads n = (w, refl, next i h _ (sym (reads .move 0)))
 
   pub passed-end : (i : ℕ) → length t ≤ i → rest i ≡ []

@@ -14,7 +14,7 @@ use lib.Seq.{take-suc, getD-drop}
 use Rattle.rules.specs.Bytes.{ascii, all}
 use Rattle.rules.specs.Moves.{keep, leave}
 use Rattle.rules.specs.Names.{names}
-use Rattle.rules.specs.References.{onto, bodyOf, decodeChar, browseChar, numberOf, lookup, meaning, why, refer, atAmp, referenceStep, browseStep}
+use Rattle.rules.specs.References.{onto, bodyOf, decodeChar, numberOf, lookup, meaning, why, refer, atAmp, referenceStep}
 use Rattle.rules.specs.Utf8.{utf8}
 use Rattle.rules.specs.Tables.{Row, value}
 use Rattle.rules.specs.Answers.{valueBytes, meaningBytes}
@@ -30,9 +30,7 @@ use Rattle.rules.proofs.Loops.{drop-next}
 use Rattle.rules.proofs.Decoder.{reference-quiet}
 use Rattle.rules.proofs.Tests.{all-in}
 use Rattle.rules.proofs.Names.{looked-up, empty-unnamed}
-use Rattle.decode_html.specs.declared.Numbers.{Numbers}
-use Rattle.decode_html.specs.declared.Numbers.the-variants.{Decoded, Browsed}
-use Rattle.decode_html.specs.Taking.{charBy, stepBy, Real, RealMeaning, Reads}
+use Rattle.decode_html.specs.Taking.{Real, RealMeaning, Reads}
 use Rattle.decode_html.specs.Digits.{Means}
 use Rattle.decode_html.specs.declared.digits.Numbered.{Numbered}
 use Rattle.decode_html.specs.declared.digits.Numbered.the-variants.{Is as IsValue, Left as LeftFor}
@@ -40,16 +38,14 @@ use Rattle.decode_html.specs.Bodies.{Begun, Ends}
 
 -- ---- the rule at a byte
 
-step-at : (numbers : Numbers) (p : ℕ) (s : List ℕ) → stepBy numbers p (38 ∷ s) ≡ atAmp (charBy numbers) (bodyOf s)
-unfolding referenceStep browseStep
-step-at Decoded p s = refl
-step-at Browsed p s = refl
+step-at : (p : ℕ) (s : List ℕ) → referenceStep p (38 ∷ s) ≡ atAmp decodeChar (bodyOf s)
+unfolding referenceStep
+step-at p s = refl
 
 -- Any byte but `&` is kept.
-pub step-quiet : (numbers : Numbers) (p x : ℕ) (s : List ℕ) → (x ≡ 38 → ⊥) → stepBy numbers p (x ∷ s) ≡ keep (x ∷ [])
-unfolding referenceStep browseStep
-step-quiet Decoded p x s h = reference-quiet decodeChar p x s (λ e. h (eqb→eq x 38 e))
-step-quiet Browsed p x s h = reference-quiet browseChar p x s (λ e. h (eqb→eq x 38 e))
+pub step-quiet : (p x : ℕ) (s : List ℕ) → (x ≡ 38 → ⊥) → referenceStep p (x ∷ s) ≡ keep (x ∷ [])
+unfolding referenceStep
+step-quiet p x s h = reference-quiet decodeChar p x s (λ e. h (eqb→eq x 38 e))
 
 -- ---- by the body
 
@@ -63,27 +59,27 @@ abbrev pub numbered : ℕ → ℕ → Numbered → Reference
 numbered i r (IsValue v) = Found (record { start = i; end = r + 1; value = v })
 numbered i r (LeftFor w) = Left w
 
-module _ (numbers : Numbers) (t : List ℕ) (i : ℕ) (inside : i < length t) (amp : getD t i 0 ≡ 38) where
+module _ (t : List ℕ) (i : ℕ) (inside : i < length t) (amp : getD t i 0 ≡ 38) where
   starts : drop i t ≡ 38 ∷ drop (i + 1) t
   starts = drop-next t i inside ∙ rw amp
 
   -- There is no body.
-  pub reads-nobody : bodyOf (drop (i + 1) t) ≡ none → Reads numbers t i (Left NoEnd)
+  pub reads-nobody : bodyOf (drop (i + 1) t) ≡ none → Reads referenceStep t i (Left NoEnd)
   reads-nobody e = record {
-    move = λ p. rw starts (sym (step-at numbers p (drop (i + 1) t) ∙ ap (atAmp (charBy numbers)) e));
+    move = λ p. rw starts (sym (step-at p (drop (i + 1) t) ∙ ap (atAmp decodeChar) e));
     lies = tt;
   }
 
   -- Another `&` follows, or the `;` at once.
-  pub reads-amp : i + 1 < length t → getD t (i + 1) 0 ≡ 38 → Reads numbers t i (Left NoEnd)
+  pub reads-amp : i + 1 < length t → getD t (i + 1) 0 ≡ 38 → Reads referenceStep t i (Left NoEnd)
   reads-amp l e = reads-nobody (rw (drop-next t (i + 1) l, e))
 
-  pub reads-empty : i + 1 < length t → getD t (i + 1) 0 ≡ 59 → Reads numbers t i (Left Empty)
-  reads-empty l e = record { move = λ p. rw starts (sym (step-at numbers p (drop (i + 1) t) ∙ rw (drop-next t (i + 1) l, e) (ap (refer []) empty-unnamed))); lies = tt }
+  pub reads-empty : i + 1 < length t → getD t (i + 1) 0 ≡ 59 → Reads referenceStep t i (Left Empty)
+  reads-empty l e = record { move = λ p. rw starts (sym (step-at p (drop (i + 1) t) ∙ rw (drop-next t (i + 1) l, e) (ap (refer []) empty-unnamed))); lies = tt }
 
   module _ (r : ℕ) (end : Ends t (i + 1) r) (before : r < length t) where
-    at-meaning : (p : ℕ) → stepBy numbers p (38 ∷ drop (i + 1) t) ≡ refer (take (r - (i + 1)) (drop (i + 1) t)) (meaning (charBy numbers) (take (r - (i + 1)) (drop (i + 1) t)))
-    at-meaning p = step-at numbers p (drop (i + 1) t) ∙ ap (atAmp (charBy numbers)) (end .body before .1)
+    at-meaning : (p : ℕ) → referenceStep p (38 ∷ drop (i + 1) t) ≡ refer (take (r - (i + 1)) (drop (i + 1) t)) (meaning decodeChar (take (r - (i + 1)) (drop (i + 1) t)))
+    at-meaning p = step-at p (drop (i + 1) t) ∙ ap (atAmp decodeChar) (end .body before .1)
 
     -- The bytes from the `&` to the `;`.
     taken : take (r + 1 - i) (drop i t) ≡ 38 ∷ (take (r - (i + 1)) (drop (i + 1) t) ++ (59 ∷ []))
@@ -100,13 +96,13 @@ module _ (numbers : Numbers) (t : List ℕ) (i : ℕ) (inside : i < length t) (a
     body = take (r - (i + 1)) (drop (i + 1) t)
 
     -- The reference that the body's value makes is the move; where the body stands for nothing, the move is to leave it for its reason.
-    pub reads-value : (v : DecodedEntityValue) → some (valueBytes v) ≡ meaning (charBy numbers) body → Real v → Reads numbers t i (Found (record { start = i; end = r + 1; value = v }))
+    pub reads-value : (v : DecodedEntityValue) → some (valueBytes v) ≡ meaning decodeChar body → Real v → Reads referenceStep t i (Found (record { start = i; end = r + 1; value = v }))
     reads-value v e real = record {
       move = λ p. rw taken (rw starts (sym (at-meaning p ∙ ap (refer body) (sym e))));
       lies = (refl, (let h : i + 1 ≤ r = end .after in omega arith), omega arith, real);
     }
 
-    pub reads-left : (w : Reason) → none ≡ meaning (charBy numbers) body → w ≡ why body → Reads numbers t i (Left w)
+    pub reads-left : (w : Reason) → none ≡ meaning decodeChar body → w ≡ why body → Reads referenceStep t i (Left w)
     reads-left w e f = record { move = λ p. ap (λ (w : Reason). leave w (ascii "&")) f ∙ rw starts (sym (at-meaning p ∙ ap (refer body) (sym e))); lies = tt }
 
 -- A byte more before a body, if it is neither `;` nor `&`.
@@ -159,41 +155,41 @@ name-real body (Value (Character n)) e = go (leb n 0x10FFFF) refl
 
 -- ---- a reference whose body begins with neither `;` nor `&`, by the end that is found from its second byte on
 
-module _ (numbers : Numbers) (t : List ℕ) (i r : ℕ) (amp : getD t i 0 ≡ 38) (begun : Begun t i) (end : Ends t (i + 1 + 1) r) where
+module _ (t : List ℕ) (i r : ℕ) (amp : getD t i 0 ≡ 38) (begun : Begun t i) (end : Ends t (i + 1 + 1) r) where
   whole : Ends t (i + 1) r
   whole = ends-more t (i + 1) r (begun .within) (begun .end) (begun .amp) end
 
   within : i < length t
   within = let h = begun .within in omega arith
 
-  pub begun-nobody : r ≡ length t → Reads numbers t i (Left NoEnd)
-  begun-nobody e = reads-nobody numbers t i within amp (whole .nobody e)
+  pub begun-nobody : r ≡ length t → Reads referenceStep t i (Left NoEnd)
+  begun-nobody e = reads-nobody t i within amp (whole .nobody e)
 
   -- A number is what follows the `#`.
   pub begun-number : getD t (i + 1) 0 ≡ 35 → r < length t → (m : Numbered)
-      → Means m (meaning (charBy numbers) (35 ∷ take (r - (i + 1 + 1)) (drop (i + 1 + 1) t))) (why (35 ∷ take (r - (i + 1 + 1)) (drop (i + 1 + 1) t)))
-      → Reads numbers t i (numbered i r m)
+      → Means m (meaning decodeChar (35 ∷ take (r - (i + 1 + 1)) (drop (i + 1 + 1) t))) (why (35 ∷ take (r - (i + 1 + 1)) (drop (i + 1 + 1) t)))
+      → Reads referenceStep t i (numbered i r m)
   begun-number hash l m e =
       let h : i + 1 + 1 ≤ r = end .after in
       let n : r - (i + 1) ≡ suc (r - (i + 1 + 1)) = omega arith in
       let body : take (r - (i + 1)) (drop (i + 1) t) ≡ 35 ∷ take (r - (i + 1 + 1)) (drop (i + 1 + 1) t) = rw (n, drop-next t (i + 1) (begun .within), hash) in
-      go m (subst (λ (b : List ℕ). Means m (meaning (charBy numbers) b) (why b)) (sym body) e)
+      go m (subst (λ (b : List ℕ). Means m (meaning decodeChar b) (why b)) (sym body) e)
     where
-      go : (m : Numbered) → Means m (meaning (charBy numbers) (take (r - (i + 1)) (drop (i + 1) t))) (why (take (r - (i + 1)) (drop (i + 1) t))) → Reads numbers t i (numbered i r m)
-      go (IsValue v) e = reads-value numbers t i within amp r whole l v (e .0) (e .1)
-      go (LeftFor w) e = reads-left numbers t i within amp r whole l w (e .0) (e .1)
+      go : (m : Numbered) → Means m (meaning decodeChar (take (r - (i + 1)) (drop (i + 1) t))) (why (take (r - (i + 1)) (drop (i + 1) t))) → Reads referenceStep t i (numbered i r m)
+      go (IsValue v) e = reads-value t i within amp r whole l v (e .0) (e .1)
+      go (LeftFor w) e = reads-left t i within amp r whole l w (e .0) (e .1)
 
   -- Any other body is a name.
-  pub begun-name : (getD t (i + 1) 0 ≡ 35 → ⊥) → r < length t → (m : Meaning) → meaningBytes m ≡ lookup names (take (r - (i + 1)) (drop (i + 1) t)) → Reads numbers t i (named i r m)
+  pub begun-name : (getD t (i + 1) 0 ≡ 35 → ⊥) → r < length t → (m : Meaning) → meaningBytes m ≡ lookup names (take (r - (i + 1)) (drop (i + 1) t)) → Reads referenceStep t i (named i r m)
   begun-name plain l m e =
       let h : i + 1 + 1 ≤ r = end .after in
       let n : r - (i + 1) ≡ suc (r - (i + 1 + 1)) = omega arith in
       let first : take (r - (i + 1)) (drop (i + 1) t) ≡ getD t (i + 1) 0 ∷ take (r - (i + 1 + 1)) (drop (i + 1 + 1) t) = rw (n, drop-next t (i + 1) (begun .within)) in
       let hashless : getD (take (r - (i + 1)) (drop (i + 1) t)) 0 0 ≡ 35 → ⊥ = λ z. plain (sym (ap (λ (s : List ℕ). getD s 0 0) first) ∙ z) in
-      go m (e ∙ sym (not-number (charBy numbers) (take (r - (i + 1)) (drop (i + 1) t)) hashless)) (name-real (take (r - (i + 1)) (drop (i + 1) t)) m e)
+      go m (e ∙ sym (not-number decodeChar (take (r - (i + 1)) (drop (i + 1) t)) hashless)) (name-real (take (r - (i + 1)) (drop (i + 1) t)) m e)
       (ap why first ∙ unknown (getD t (i + 1) 0) (take (r - (i + 1 + 1)) (drop (i + 1 + 1) t)) plain)
     where
-      go : (m : Meaning) → meaningBytes m ≡ meaning (charBy numbers) (take (r - (i + 1)) (drop (i + 1) t)) → RealMeaning m → why (take (r - (i + 1)) (drop (i + 1) t)) ≡ UnknownName
-          → Reads numbers t i (named i r m)
-      go (Value v) e real w = reads-value numbers t i within amp r whole l v e real
-      go NoMeaning e real w = reads-left numbers t i within amp r whole l UnknownName e (sym w)
+      go : (m : Meaning) → meaningBytes m ≡ meaning decodeChar (take (r - (i + 1)) (drop (i + 1) t)) → RealMeaning m → why (take (r - (i + 1)) (drop (i + 1) t)) ≡ UnknownName
+          → Reads referenceStep t i (named i r m)
+      go (Value v) e real w = reads-value t i within amp r whole l v e real
+      go NoMeaning e real w = reads-left t i within amp r whole l UnknownName e (sym w)

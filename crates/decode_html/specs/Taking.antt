@@ -1,4 +1,4 @@
--- The two ways to take a number, and what the readers find.
+-- What the readers of references find.
 -- Assumes nothing.
 use mathlib.Core.Option.{Option, none, some}
 use mathlib.Core.Path.{_≡_}
@@ -6,7 +6,7 @@ use mathlib.Core.List.{List, [], _∷_}
 use Prim.Native.Nat.{ℕ, _+_, _≤_, _<_}
 use lib.ListN.{length, drop}
 use Rattle.rules.specs.Moves.{Rule, reasonNumber}
-use Rattle.rules.specs.References.{decodeChar, browseChar, referenceStep, browseStep}
+use Rattle.rules.specs.References.{referenceStep}
 use Rattle.rules.specs.Reasons.{leftsIn}
 use Rattle.rules.specs.Answers.{referenceMove}
 use Rattle.rules.specs.declared.Reason.{Reason}
@@ -15,27 +15,15 @@ use Rattle.rules.specs.declared.DecodedEntityValue.the-variants.{Named, Charact
 use Rattle.rules.specs.declared.Meaning.{Meaning}
 use Rattle.rules.specs.declared.Meaning.the-variants.{Value, Nothing as NoMeaning}
 use Rattle.rules.specs.declared.Reference.{Reference}
-use Rattle.rules.specs.declared.Reference.the-variants.{Found, Left}
+use Rattle.rules.specs.declared.Reference.the-variants.{Found, Left, Nothing}
 use Rattle.decode_html.specs.declared.entity.Start.{Start}
 use Rattle.decode_html.specs.declared.entity.Start.the-variants.{Body, Left as LeftAt}
 use Rattle.decode_html.specs.Bodies.{Begun}
-use Rattle.decode_html.specs.declared.Numbers.{Numbers}
-use Rattle.decode_html.specs.declared.Numbers.the-variants.{Decoded, Browsed}
-
--- The character of a number.
-abbrev pub charBy : Numbers → ℕ → Option (List ℕ)
-charBy Decoded = decodeChar
-charBy Browsed = browseChar
 
 -- The character of a number, if there is a number and it has one.
 abbrev pub charOf : (ℕ → Option (List ℕ)) → Option ℕ → Option (List ℕ)
 charOf char none = none
 charOf char (some n) = char n
-
--- The rule.
-abbrev pub stepBy : Numbers → Rule
-stepBy Decoded = referenceStep
-stepBy Browsed = browseStep
 
 -- A character's number is at most 10FFFF.
 abbrev pub Real : DecodedEntityValue → Type 0
@@ -51,21 +39,23 @@ RealMeaning NoMeaning = Unit {0}
 abbrev pub Lies : List ℕ → ℕ → Reference → Type 0
 Lies t i (Found e) = (e .start ≡ i) × (i < e .end) × (e .end ≤ length t) × Real (e .value)
 Lies t i (Left r) = Unit {0}
+Lies t i Nothing = Unit {0}
 
--- What the reference reader finds at place i is the move there, whatever the byte before.
-pub record Reads (numbers : Numbers) (t : List ℕ) (i : ℕ) (r : Reference) : Type 0 where
-  pub move : (p : ℕ) → referenceMove t r ≡ stepBy numbers p (drop i t)
+-- What a reference reader finds at place i is the move of its rule there, whatever the byte before.
+pub record Reads (rule : Rule) (t : List ℕ) (i : ℕ) (r : Reference) : Type 0 where
+  pub move : (p : ℕ) → referenceMove t r ≡ rule p (drop i t)
   pub lies : Lies t i r
 
--- What the byte after the `&` at place i tells: a body begins, or the reference stays, in decode as in browse.
+-- What the byte after the `&` at place i tells: a body begins, or the reference stays.
 abbrev pub Starts : List ℕ → ℕ → Start → Type 0
 Starts t i Body = Begun t i
-Starts t i (LeftAt r) = (numbers : Numbers) → Reads numbers t i (Left r)
+Starts t i (LeftAt r) = Reads referenceStep t i (Left r)
 
 -- The number of the reason why a reference stays, 0 if it does not.
 abbrev pub leftNumber : Reference → ℕ
 leftNumber (Found e) = 0
 leftNumber (Left r) = reasonNumber r
+leftNumber Nothing = 0
 
 -- The first reference that decode leaves from place i of a text on: its place and the number of its reason, which is 0 where there is none.
 pub record NextLeft (t : List ℕ) (i p n : ℕ) : Type 0 where

@@ -5,12 +5,10 @@ ghost use mathlib.Core.Path.{_≡_};
 ghost use mathlib.Core.List.{[], _∷_};
 ghost use lib.Dec.{leb, eqb};
 ghost use Rattle.rules.specs.Bytes.{oneOf};
-ghost use Rattle.rules.specs.References.{digit, hexDigitAt, number, numberOf, scalar, decodeChar, renumbering, standsFor, browseChar, meaning, whyDigits, why};
+ghost use Rattle.rules.specs.References.{digit, hexDigitAt, number, numberOf, scalar, decodeChar, meaning, whyDigits, why};
 ghost use Rattle.rules.specs.declared.Reason.the-variants.{NotAllowed};
 ghost use Rattle.base.specs.Digits.{below};
-ghost use Rattle.decode_html.specs.Taking.{charBy};
 ghost use Rattle.decode_html.specs.Digits.{digitBy, ceilingOf, found, capped, Blames, Means};
-use crate::Numbers;
 use rules::DecodedEntityValue;
 use rules::Reason;
 
@@ -27,14 +25,14 @@ pub enum Numbered {
 }
 
 // Returns the value of a digit, 255 for any other byte.
-fn value_of(byte: u8) -> u32
+pub fn value_of(byte: u8) -> u32
     ensures { λ r. ⌜ (below 10 r ≡ digit byte) × (below 16 r ≡ hexDigitAt byte) ⌝ }
 {
     base::digit_value(byte) as u32
 }
 
 // Returns a number, or the ceiling if it is above the last character, 10FFFF.
-fn ceiling(number: u32) -> u32
+pub fn ceiling(number: u32) -> u32
     ensures { λ r. ⌜ r ≡ ceilingOf number ⌝ }
 {
     if number <= 0x10FFFF {
@@ -66,7 +64,7 @@ fn read_digits(base: u32, digits: &[u8]) -> Number
 }
 
 // Reports whether a number is that of a character: no surrogate, and at most 10FFFF.
-fn is_scalar(number: u32) -> bool
+pub fn is_scalar(number: u32) -> bool
     ensures { λ r. ⌜ r ≡ scalar number ⌝ }
 {
     if 0x10FFFF < number {
@@ -101,73 +99,8 @@ fn decoded(number: u32) -> Numbered
     Numbered::Left(Reason::NotAllowed)
 }
 
-// Returns the number that a number stands for in browse. The two tests come first, since nearly every number ends there.
-fn stands_for(number: u32) -> u32
-    ensures { λ r. ⌜ r ≡ standsFor renumbering number ⌝ }
-{
-    if number < 0x80 {
-        return number;
-    }
-    if 0x9F < number {
-        return number;
-    }
-    match number {
-        0x80 => 0x20AC,
-        0x82 => 0x201A,
-        0x83 => 0x0192,
-        0x84 => 0x201E,
-        0x85 => 0x2026,
-        0x86 => 0x2020,
-        0x87 => 0x2021,
-        0x88 => 0x02C6,
-        0x89 => 0x2030,
-        0x8A => 0x0160,
-        0x8B => 0x2039,
-        0x8C => 0x0152,
-        0x8E => 0x017D,
-        0x91 => 0x2018,
-        0x92 => 0x2019,
-        0x93 => 0x201C,
-        0x94 => 0x201D,
-        0x95 => 0x2022,
-        0x96 => 0x2013,
-        0x97 => 0x2014,
-        0x98 => 0x02DC,
-        0x99 => 0x2122,
-        0x9A => 0x0161,
-        0x9B => 0x203A,
-        0x9C => 0x0153,
-        0x9E => 0x017E,
-        0x9F => 0x0178,
-        _ => number,
-    }
-}
-
-// Returns the character of a number as a browser takes it: U+FFFD if it is 0 or no character.
-fn browsed(number: u32) -> Numbered
-    ensures { λ r. ⌜ Means r (browseChar number) NotAllowed ⌝ }
-{
-    if number == 0 {
-        return Numbered::Is(DecodedEntityValue::Character(0xFFFD));
-    }
-    if is_scalar(number) {
-        return Numbered::Is(DecodedEntityValue::Character(stands_for(number)));
-    }
-    Numbered::Is(DecodedEntityValue::Character(0xFFFD))
-}
-
-// Returns the character of a number.
-fn decode_character(numbers: Numbers, number: u32) -> Numbered
-    ensures { λ r. ⌜ Means r (charBy numbers number) NotAllowed ⌝ }
-{
-    match numbers {
-        Numbers::Decoded => decoded(number),
-        Numbers::Browsed => browsed(number),
-    }
-}
-
 // Reports whether hex digits follow: the byte after `#` is `x` or `X`.
-fn is_hex_mark(b: u8) -> bool
+pub fn is_hex_mark(b: u8) -> bool
     ensures { λ r. ⌜ r ≡ (eqb b 120 || eqb b 88) ⌝ }
 {
     (b == b'x') | (b == b'X')
@@ -187,11 +120,11 @@ fn read_number(body: &[u8]) -> Number
 }
 
 // Returns what a body stands for that begins with `#`, or why it stands for nothing; `body` is what follows.
-pub fn decode_number(numbers: Numbers, body: &[u8]) -> Numbered
-    ensures { λ r. ⌜ Means r (meaning (charBy numbers) (35 ∷ now (body .entry))) (why (35 ∷ now (body .entry))) ⌝ }
+pub fn decode_number(body: &[u8]) -> Numbered
+    ensures { λ r. ⌜ Means r (meaning decodeChar (35 ∷ now (body .entry))) (why (35 ∷ now (body .entry))) ⌝ }
 {
     match read_number(body) {
-        Number::Is(n) => decode_character(numbers, n),
+        Number::Is(n) => decoded(n),
         Number::Left(reason) => Numbered::Left(reason),
     }
 }

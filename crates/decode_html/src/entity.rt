@@ -4,9 +4,9 @@ ghost use mathlib.Core.Path.{_≡_};
 ghost use Prim.Native.Nat.{_+_, _≤_, _<_};
 ghost use lib.ListN.{length, getD};
 ghost use Rattle.rules.specs.Moves.{reasonNumber};
+ghost use Rattle.rules.specs.References.{referenceStep};
 ghost use Rattle.decode_html.specs.Taking.{Reads, Starts, leftNumber};
 ghost use Rattle.decode_html.specs.Bodies.{Begun, Ends, Known, knownValue};
-use crate::Numbers;
 use crate::digits;
 use crate::digits::Numbered;
 use rules::DecodedEntity;
@@ -114,9 +114,9 @@ fn body_end(text: &[u8], from: usize) -> usize
 }
 
 // Reads the reference of a number at `start`, which begins with `&#`.
-fn find_number(numbers: Numbers, text: &[u8], start: usize) -> Reference
+fn find_number(text: &[u8], start: usize) -> Reference
     requires { ⌜ (getD (now text) start 0 ≡ 38) × Begun (now text) start × (getD (now text) (start + 1) 0 ≡ 35) ⌝ }
-    ensures { λ r. ⌜ Reads numbers (now (text .entry)) start r ⌝ }
+    ensures { λ r. ⌜ Reads referenceStep (now (text .entry)) start r ⌝ }
 {
     let first = start + 1;
     let end = body_end(text, first + 1);
@@ -124,7 +124,7 @@ fn find_number(numbers: Numbers, text: &[u8], start: usize) -> Reference
         return Reference::Left(Reason::NoEnd);
     }
     let digits = first + 1;
-    match digits::decode_number(numbers, &text[digits..end]) {
+    match digits::decode_number(&text[digits..end]) {
         Numbered::Is(value) => Reference::Found(DecodedEntity {
             start: start,
             end: end + 1,
@@ -135,9 +135,9 @@ fn find_number(numbers: Numbers, text: &[u8], start: usize) -> Reference
 }
 
 // Reads the reference of a name at `start`; the first byte of its body is known to be neither `&` nor `;` nor `#`.
-fn find_name(numbers: Numbers, text: &[u8], start: usize) -> Reference
+fn find_name(text: &[u8], start: usize) -> Reference
     requires { ⌜ (getD (now text) start 0 ≡ 38) × Begun (now text) start × (getD (now text) (start + 1) 0 ≡ 35 → ⊥) ⌝ }
-    ensures { λ r. ⌜ Reads numbers (now (text .entry)) start r ⌝ }
+    ensures { λ r. ⌜ Reads referenceStep (now (text .entry)) start r ⌝ }
 {
     let first = start + 1;
     let end = body_end(text, first + 1);
@@ -155,17 +155,17 @@ fn find_name(numbers: Numbers, text: &[u8], start: usize) -> Reference
 }
 
 // Reads the reference at `start` whose body begins with a byte that does not end it.
-fn find_body(numbers: Numbers, text: &[u8], start: usize) -> Reference
+fn find_body(text: &[u8], start: usize) -> Reference
     requires { ⌜ (getD (now text) start 0 ≡ 38) × Begun (now text) start ⌝ }
-    ensures { λ r. ⌜ Reads numbers (now (text .entry)) start r ⌝ }
+    ensures { λ r. ⌜ Reads referenceStep (now (text .entry)) start r ⌝ }
 {
     let letter = text[start + 1];
     if letter == b'#' {
-        return find_number(numbers, text, start);
+        return find_number(text, start);
     }
     let length = known_length(text, start);
     if length == 0 {
-        return find_name(numbers, text, start);
+        return find_name(text, start);
     }
     Reference::Found(DecodedEntity {
         start: start,
@@ -175,13 +175,13 @@ fn find_body(numbers: Numbers, text: &[u8], start: usize) -> Reference
 }
 
 // Reads the reference that begins with the `&` at `start`, or tells why it stays: then the `&` is copied.
-pub fn find_decoded_entity(numbers: Numbers, text: &[u8], start: usize) -> Reference
+pub fn find_decoded_entity(text: &[u8], start: usize) -> Reference
     requires { ⌜ (start < length (now text)) × (getD (now text) start 0 ≡ 38) ⌝ }
-    ensures { λ r. ⌜ Reads numbers (now (text .entry)) start r ⌝ }
+    ensures { λ r. ⌜ Reads referenceStep (now (text .entry)) start r ⌝ }
 {
     match start_of(text, start) {
         Start::Left(reason) => Reference::Left(reason),
-        Start::Body => find_body(numbers, text, start),
+        Start::Body => find_body(text, start),
     }
 }
 
@@ -205,5 +205,6 @@ pub fn number_of(reference: Reference) -> usize
     match reference {
         Reference::Found(_) => 0,
         Reference::Left(reason) => reason_number(reason),
+        Reference::Nothing => 0,
     }
 }

@@ -6,7 +6,7 @@
 //   same      1 exactly if nothing was replaced, so that the result is the text;
 //   replaced  how many places were replaced: characters by encode and take, references or escapes by decode and browse (after a refusal 0);
 //   place     after NOT_UTF8, CUT_SHORT, NOT_A_FORM and LONE_SURROGATE the length of the longest correct prefix of the text, else 0;
-//   left      decode and browse in the HTML contexts: the place of the `&` of the first reference that stayed, 0 if none did (after a refusal 0);
+//   left      decode in the HTML contexts: the place of the `&` of the first reference that stayed, 0 if none did (after a refusal 0);
 //   reason    why it stayed: 1 no `;` before the next `&` or the end, 2 an empty body, 3 an unknown name, 4 a byte that is no digit, 5 a number that is
 //             not allowed; 0 if none did (after a refusal 0).
 // After status 0 the first `length` bytes of the output are the result and the other bytes keep their values; after a refusal all keep them.
@@ -179,8 +179,9 @@ pub fn take_borrowing(context: u32, text: &[u8], output: &mut [u8]) -> Answer
     call(Operation::Read, context, true, text, output)
 }
 
-// Undoes character references as decode does, but reads numbers as a browser does: 0, surrogates and numbers above 10FFFF hex give U+FFFD, and 27
-// numbers from 80 to 9F hex the characters of windows-1252, an en dash for `&#150;`.
+// Undoes character references as a browser does, by the HTML Standard: the longest name counts, 106 names need no `;`, and any other byte ends a number.
+// In the contexts of attributes, 2, 3, 4 and 6, a name without `;` stays before `=` or an ASCII letter or digit; 0, 1 and 5 are text. The numbers 0,
+// surrogates and above 10FFFF hex give U+FFFD, and 27 from 80 to 9F hex the characters of windows-1252, an en dash for `&#150;`.
 pub fn browse(context: u32, text: &[u8], output: &mut [u8]) -> Answer
     ensures { λ r. ⌜ Allowed Browse (contextOf context) false (now (text .entry)) (now (output .entry)) r (now (output .exit)) ⌝ }
 {

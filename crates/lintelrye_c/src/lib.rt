@@ -80,7 +80,7 @@ pub extern "C" fn lintelrye_take_borrowing_7(context: u32, text: &[u8], output: 
     lintelrye::take_borrowing(context, text, output)
 }
 
-// Undoes character references, with numbers as a browser reads them: `lintelrye::browse`.
+// Undoes character references as a browser does: `lintelrye::browse`.
 #[no_mangle]
 pub extern "C" fn lintelrye_browse_7(context: u32, text: &[u8], output: &mut [u8]) -> Answer
     ensures { λ r. ⌜ Allowed Browse (contextOf context) false (now (text .entry)) (now (output .entry)) r (now (output .exit)) ⌝ }

@@ -20,7 +20,7 @@ use Rattle.rules.specs.Names.{below, rising, risingFrom}
 use Rattle.rules.proofs.Tests.{and-left, and-right}
 use Rattle.names_search.specs.Lent.{Ordered, rowsFrom, rowsOf, cutsFrom, cuts, isTable}
 use Rattle.names_search.specs.declared.Order.the-variants.{Before, Same, After}
-use Rattle.names_search.proofs.Orders.{below-self, below-trans}
+use Rattle.rules.proofs.Order.{below-self, below-trans}
 use Rattle.names_search.proofs.Lookups.{rowAt, keyAt, absent, present}
 
 -- ---- names that rise

@@ -14,7 +14,7 @@ use Rattle.rules.specs.Tables.{Row, key, value}
 use Rattle.rules.specs.References.{lookup}
 use Rattle.rules.proofs.Tests.{is-false, same-bytes}
 use Rattle.names_search.specs.Starting.{starting}
-use Rattle.names_search.proofs.Orders.{same-self}
+use Rattle.rules.proofs.Order.{same-self}
 
 -- ---- by place
 

@@ -1,69 +1,21 @@
--- The order of names goes by bytes: no name comes before itself, and two names that begin alike stand as what is left of them does.
+-- The order of names goes by bytes: two names that begin alike stand as what is left of them does.
 -- Assumes nothing.
-use mathlib.Core.Bool.{Bool, true, false, _&&_}
-use mathlib.Core.Logic.{_⊎_, inl, inr}
-use mathlib.Core.Path.{_≡_, refl, sym, _∙_, subst}
+use mathlib.Core.Bool.{Bool, true, false}
+use mathlib.Core.Path.{_≡_, sym}
 use mathlib.Core.List.{List, [], _∷_}
 use Prim.Native.Nat.{ℕ, suc, _+_, _≤_, _<_}
 use native.Mathlib.Numerals.{add-one}
 use native.Mathlib.Omega.{arith}
-use lib.Dec.{T, eqb, ltb, eqb→eq, eqb-refl, ltb→lt, lt→ltb}
 use lib.ListN.{length, drop, getD, drop-of-length-le}
 use lib.Seq.{drop-cons}
-use borrow.Author.Tests.{eq-eqb}
 use Rattle.rules.specs.Bytes.{sameBytes}
-use Rattle.rules.specs.Names.{below}
-use Rattle.rules.proofs.Tests.{and-left, and-right, and-both, or-cases, or-left, or-right, is-false, same-bytes}
+use Rattle.rules.proofs.Tests.{is-false, same-bytes}
+use Rattle.rules.proofs.Order.{below-head, below-rest, below-self, same-self}
 use Rattle.names_search.specs.Lent.{Ordered}
 use Rattle.names_search.specs.declared.Order.{Order}
 use Rattle.names_search.specs.declared.Order.the-variants.{Before, Same, After}
 
--- ---- the order
-
--- one name comes before another by its first byte, or by the rest where the first bytes are the same
-below-head : (x y : ℕ) (a b : List ℕ) → x < y → T (below (x ∷ a) (y ∷ b))
-below-head x y a b h = or-left (ltb x y) (eqb x y && below a b) (lt→ltb x y h)
-
-below-rest : (x y : ℕ) (a b : List ℕ) → x ≡ y → T (below a b) → T (below (x ∷ a) (y ∷ b))
-below-rest x y a b e t =
-    or-right (ltb x y) (eqb x y && below a b) (and-both (eqb x y) (below a b) (subst (λ (z : ℕ). T (eqb x z)) e (eqb-refl x)) t)
-
-below-cases : (x y : ℕ) (a b : List ℕ) → T (below (x ∷ a) (y ∷ b)) → (x < y) ⊎ ((x ≡ y) × T (below a b))
-below-cases x y a b t = go (or-cases (ltb x y) (eqb x y && below a b) t)
-  where
-    go : T (ltb x y) ⊎ T (eqb x y && below a b) → (x < y) ⊎ ((x ≡ y) × T (below a b))
-    go (inl h) = inl (ltb→lt x y h)
-    go (inr h) = inr (eqb→eq x y (and-left (eqb x y) (below a b) h), and-right (eqb x y) (below a b) h)
-
--- No name comes before itself.
-pub below-self : (a : List ℕ) → T (below a a) → ⊥
-below-self [] t = t
-below-self (x ∷ a) t = go (below-cases x x a a t) (below-self a)
-  where
-    go : (x < x) ⊎ ((x ≡ x) × T (below a a)) → (T (below a a) → ⊥) → ⊥
-    go (inl h) ih = omega arith
-    go (inr h) ih = ih (h .1)
-
-pub below-trans : (a b c : List ℕ) → T (below a b) → T (below b c) → T (below a c)
-below-trans [] [] c s t = absurd s
-below-trans [] (y ∷ b) [] s t = t
-below-trans [] (y ∷ b) (z ∷ c) s t = tt
-below-trans (x ∷ a) [] c s t = absurd s
-below-trans (x ∷ a) (y ∷ b) [] s t = t
-below-trans (x ∷ a) (y ∷ b) (z ∷ c) s t = go (below-cases x y a b s) (below-cases y z b c t) (below-trans a b c)
-  where
-    go : (x < y) ⊎ ((x ≡ y) × T (below a b)) → (y < z) ⊎ ((y ≡ z) × T (below b c)) → (T (below a b) → T (below b c) → T (below a c))
-        → T (below (x ∷ a) (z ∷ c))
-    go (inl h) (inl k) ih = below-head x z a c (omega arith)
-    go (inl h) (inr k) ih = below-head x z a c (omega arith)
-    go (inr h) (inl k) ih = below-head x z a c (omega arith)
-    go (inr h) (inr k) ih = below-rest x z a c (h .0 ∙ k .0) (ih (h .1) (k .1))
-
 -- ---- two names in order
-
-pub same-self : (a : List ℕ) → sameBytes a a ≡ true
-same-self [] = refl
-same-self (x ∷ a) = simp (eq-eqb x x refl) (same-self a)
 
 -- The order says that the names are the same.
 abbrev pub isSame : Order → Bool

@@ -15,9 +15,10 @@ use Rattle.rules.specs.Utf8.{sequenceAt, keepChar, IsChar}
 use Rattle.rules.specs.Tables.{Row, key, value, rows, table, replacedChars}
 use Rattle.rules.specs.Encoding.{write, parted, encodeStep, rawStep}
 use Rattle.rules.specs.Reading.{undo, unless, readStep}
-use Rattle.rules.specs.References.{browseChar, browseStep}
+use Rattle.rules.specs.Browsing.{kindOf, browseStep}
 use Rattle.rules.specs.Json.{escapedOnly}
 use Rattle.rules.specs.Operations.{decodeStep, ruleOf}
+use Rattle.rules.specs.declared.Html.{Html}
 use Rattle.rules.specs.declared.Quotes.the-variants.{Single}
 use Rattle.rules.specs.declared.Context.{Context}
 use Rattle.rules.specs.declared.Context.the-variants.{InHtml, InScript, InStyle, InJson}
@@ -29,7 +30,8 @@ use Rattle.rules.proofs.Tests.{and-left, and-right, and-both, or-cases, or-fals
 use Rattle.rules.proofs.Chars.{sequence-of-char}
 use Rattle.rules.proofs.Every.{every}
 use Rattle.rules.proofs.Below.{below}
-use Rattle.rules.proofs.Decoder.{at-other, reference-quiet}
+use Rattle.rules.proofs.Decoder.{at-other}
+use Rattle.rules.proofs.Browsing.{browse-quiet}
 use Rattle.plain.specs.Plain.{unquotedIn, unquotedAt, plain}
 
 -- ---- what is computed
@@ -149,9 +151,8 @@ decode-kept (InScript q) b t p s = at-other (InScript q) p b s (λ u. other (InS
 decode-kept (InStyle q) b t p s = at-other (InStyle q) p b s (λ u. other (InStyle q) b t 92 tt (or-false (eqb b 92) u))
 decode-kept InJson b t p s = at-other InJson p b s (json-plain b t)
 
-browse-kept : (c : Context) (b : ℕ) → T (plain (unquotedIn c) b) → (p : ℕ) (s : List ℕ) → browseStep p (b ∷ s) ≡ keep (b ∷ [])
-unfolding browseStep
-browse-kept c b t p s = reference-quiet browseChar p b s (other c b t 38 tt)
+browse-kept : (h : Html) (b : ℕ) → T (plain (unquotedIn (InHtml h)) b) → (p : ℕ) (s : List ℕ) → browseStep (kindOf h) p (b ∷ s) ≡ keep (b ∷ [])
+browse-kept h b t p s = browse-quiet (kindOf h) p b s (other (InHtml h) b t 38 tt)
 
 -- script_raw has the plain bytes of a script string.
 raw-kept : (b : ℕ) → T (plain false b) → (p : ℕ) (s : List ℕ) → rawStep p (b ∷ s) ≡ keep (b ∷ [])
@@ -167,7 +168,7 @@ module _ (rule : Rule) (b p : ℕ) (s : List ℕ) where
   plain-kept Encode (Units c) e t = kept-by (encodeStep c) e (encode-kept c b t p s)
   plain-kept Decode (Units c) e t = kept-by (decodeStep c) e (decode-kept c b t p s)
   plain-kept Read (Units c) e t = kept-by (readStep c) e (read-kept c b t p s)
-  plain-kept Browse (Units (InHtml h)) e t = kept-by browseStep e (browse-kept (InHtml h) b t p s)
+  plain-kept Browse (Units (InHtml h)) e t = kept-by (browseStep (kindOf h)) e (browse-kept h b t p s)
   plain-kept Browse (Units (InScript q)) e t = absurd (Option·none-ne-some rule e)
   plain-kept Browse (Units (InStyle q)) e t = absurd (Option·none-ne-some rule e)
   plain-kept Browse (Units InJson) e t = absurd (Option·none-ne-some rule e)

@@ -15,6 +15,7 @@ use lib.Seq.{take-append-seam, drop-append-seam}
 use Rattle.rules.specs.Bytes.{over}
 use Rattle.rules.specs.Moves.{Move, through, result, replaced, growth, shrinkage, taken, place, firstLeft}
 use Rattle.rules.specs.Utf8.{IsText, validTo}
+use Rattle.rules.specs.Browsing.{kindOf}
 use Rattle.rules.specs.Operations.{ruleOf, encodeOf}
 use Rattle.rules.specs.Refusals.{Call, Case, bad-context, too-long, not-utf8, cut-short, not-a-form, lone-surrogate, lent, no-room, written, Given, movesOf, movesIn, caseOf, success, answerAt, outAt, textLimit, call, answerOf, outOf, Allowed, viewOf}
 use Rattle.rules.specs.declared.Answer.{Answer}
@@ -25,10 +26,11 @@ use Rattle.rules.specs.declared.AnyContext.{AnyContext}
 use Rattle.rules.specs.declared.AnyContext.the-variants.{Units, ScriptRaw, Unknown}
 use Rattle.rules.proofs.Machine.{same-result}
 use Rattle.rules.proofs.Growth.{encode-whole, raw-whole, balance}
-use Rattle.rules.proofs.Whole.{decode-whole-if, browse-whole}
+use Rattle.rules.proofs.Whole.{decode-whole-if}
 use Rattle.rules.proofs.Laws.{form-iff, form-free, read-whole, encode-any, form-text}
 use Rattle.rules.proofs.Valid.{valid-iff}
-use Rattle.rules.proofs.Texts.{decode-text, browse-text, raw-text}
+use Rattle.rules.proofs.Texts.{decode-text, raw-text}
+use Rattle.rules.proofs.Browsing.{browse-whole, browse-text}
 use Rattle.rules.proofs.Refused.{case-given, case-iff, case-taken}
 
 add-back : (a b : ℕ) → (b < a → ⊥) → a + (b - a) ≡ b
@@ -67,7 +69,7 @@ taken-all Decode Unknown t h = none-taken t h
 taken-all Read (Units c) t h = read-whole c t h
 taken-all Read ScriptRaw t h = none-taken t h
 taken-all Read Unknown t h = none-taken t h
-taken-all Browse (Units (InHtml k)) t h = browse-whole t
+taken-all Browse (Units (InHtml k)) t h = browse-whole (kindOf k) t
 taken-all Browse (Units (InScript q)) t h = none-taken t h
 taken-all Browse (Units (InStyle q)) t h = none-taken t h
 taken-all Browse (Units InJson) t h = none-taken t h
@@ -253,7 +255,7 @@ result-text Decode Unknown t h w = ([], tt, refl)
 result-text Read (Units c) t h w = let (cs, i, b, e) = form-free c t (form-iff c t .1 (ap size w)) in (cs, i, e)
 result-text Read ScriptRaw t h w = ([], tt, refl)
 result-text Read Unknown t h w = ([], tt, refl)
-result-text Browse (Units (InHtml k)) t h w = browse-text t h
+result-text Browse (Units (InHtml k)) t h w = browse-text (kindOf k) t h
 result-text Browse (Units (InScript q)) t h w = ([], tt, refl)
 result-text Browse (Units (InStyle q)) t h w = ([], tt, refl)
 result-text Browse (Units InJson) t h w = ([], tt, refl)

@@ -10,6 +10,7 @@ use lib.ListN.{length as size, drop}
 use Rattle.rules.specs.Bytes.{ascii, first, stands}
 use Rattle.rules.specs.Moves.{result}
 use Rattle.rules.specs.Contexts.{Label, contextNames, operationNames}
+use Rattle.rules.specs.Browsing.{kindOf}
 use Rattle.rules.specs.Operations.{ruleOf, decodeOf, readOf, readTo, browseOf}
 use Rattle.rules.specs.Refusals.{Call, no-room, movesOf, movesIn, caseOf}
 use Rattle.rules.specs.Program.{line, textOf, contextLine, requestOf}
@@ -32,7 +33,7 @@ result-length Decode Unknown t = omega arith
 result-length Read (Units c) t = omega (arith, read-length c t, form-within c t)
 result-length Read ScriptRaw t = omega arith
 result-length Read Unknown t = omega arith
-result-length Browse (Units (InHtml h)) t = omega (arith, browse-length t)
+result-length Browse (Units (InHtml h)) t = omega (arith, browse-length (kindOf h) t)
 result-length Browse (Units (InScript q)) t = omega arith
 result-length Browse (Units (InStyle q)) t = omega arith
 result-length Browse (Units InJson) t = omega arith

@@ -16,9 +16,11 @@ use Rattle.rules.specs.Units.{IsUnit, IsRun, IsForm, unread, undecoded}
 use Rattle.rules.specs.Encoding.{encodeStep, rawStep}
 use Rattle.rules.specs.Reading.{readStep}
 use Rattle.rules.specs.Names.{names}
-use Rattle.rules.specs.References.{referenceStep, browseStep}
+use Rattle.rules.specs.References.{referenceStep}
 use Rattle.rules.specs.Json.{jsonStep}
+use Rattle.rules.specs.Browsing.{browseStep}
 use Rattle.rules.specs.Operations.{decodeStep, encodeOf, decodeOf, readOf, browseOf, rawOf, readTo}
+use Rattle.rules.specs.declared.Kind.{Kind}
 use Rattle.rules.specs.declared.Html.the-variants.{Text, Quoted}
 use Rattle.rules.specs.declared.Context.{Context}
 use Rattle.rules.specs.declared.Context.the-variants.{InHtml}
@@ -30,7 +32,8 @@ use Rattle.rules.proofs.Every.{every, values-code}
 use Rattle.rules.proofs.Encoder.{encode-run, run-of, run-free, wide, table-run, plain-run, run-text}
 use Rattle.rules.proofs.Decoder.{IsDecoded, decode-cut, decode-run}
 use Rattle.rules.proofs.Growth.{encode-whole, encode-none, encode-six, encode-sum, raw-whole, raw-none, raw-six, raw-sum}
-use Rattle.rules.proofs.Whole.{decode-whole-if, decode-fifth, browse-whole, browse-fifth}
+use Rattle.rules.proofs.Whole.{decode-whole-if, decode-fifth}
+use Rattle.rules.proofs.Browsing.{browse-whole, browse-fifth}
 
 -- A row's key is no longer than its value.
 abbrev noLonger : Row → Bool
@@ -203,11 +206,11 @@ pub raw-length : (s : List ℕ) → length (rawOf s) ≤ 6 * length s
 raw-length = raw-six
 
 -- Where browse replaces nothing, its result is the text.
-pub browse-same : (s : List ℕ) → replaced (through browseStep s) ≡ 0 → browseOf s ≡ s
-browse-same s z = same-result (through browseStep s) z ∙ browse-whole s
+pub browse-same : (kind : Kind) (s : List ℕ) → replaced (through (browseStep kind) s) ≡ 0 → browseOf kind s ≡ s
+browse-same kind s z = same-result (through (browseStep kind) s) z ∙ browse-whole kind s
 
 -- What browse gives is at most a fifth longer than the text.
-pub browse-length : (s : List ℕ) → 5 * length (browseOf s) ≤ 6 * length s
+pub browse-length : (kind : Kind) (s : List ℕ) → 5 * length (browseOf kind s) ≤ 6 * length s
 browse-length = browse-fifth
 
 -- ---- the exceptions are real, and the figures are reached

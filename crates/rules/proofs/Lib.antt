@@ -18,6 +18,10 @@ pub mod Names
 pub mod Numbers
 pub mod Characters
 pub mod Texts
+pub mod Best
+pub mod Order
+pub mod Identifiers
+pub mod Browsing
 pub mod Laws
 pub mod JsonWritten
 pub mod Refused
@@ -26,6 +30,7 @@ pub mod Back
 pub mod Check
 pub mod Entity
 pub mod Examples
+pub mod BrowsingEdges
 pub mod Loops
 pub mod Bytewise
 pub mod Quiet

@@ -1,5 +1,5 @@
 -- Why a reference stays: the reasons that the rule says are those of the words, both ways; every `&` of a text is replaced or left, since no body has an
--- `&`; and browse allows every number.
+-- `&`; and decode of references alone leaves any.
 -- Assumes nothing.
 use mathlib.Core.Bool.{Bool, true, false, _&&_, _||_, cond}
 use mathlib.Core.Logic.{_⊎_, inl, inr, _↔_}
@@ -19,7 +19,9 @@ use Rattle.rules.specs.Tables.{Row, rowAt, key, value, rows, table, repl
 use Rattle.rules.specs.Encoding.{keepByte, write, encodeStep, rawStep, closes, parted}
 use Rattle.rules.specs.Reading.{undo, unless, readStep}
 use Rattle.rules.specs.Names.{names}
-use Rattle.rules.specs.References.{onto, bodyOf, digit, hexDigitAt, digits, number, numberOf, browseChar, valueOf, lookup, meaning, whyDigits, why, refer, atAmp, referenceBy, browseStep}
+use Rattle.rules.specs.References.{onto, bodyOf, digit, hexDigitAt, digits, number, numberOf, valueOf, lookup, meaning, whyDigits, why, refer, atAmp, referenceBy}
+use Rattle.rules.specs.Browsing.{kindOf, referenceAt, atAmp as browseAmp, browseStep}
+use Rattle.rules.specs.declared.Kind.{Kind}
 use Rattle.rules.specs.Reasons.{Ampless, Endless, Closed, Body, Undigit, Hexed, Because, Stays, StaysAt, reasonIn, leftHere, leftsIn}
 use Rattle.rules.specs.Escapes.{escapeBy}
 use Rattle.rules.specs.Json.{IsElement, jsonStep}
@@ -397,13 +399,6 @@ module _ (char : ℕ → Option (List ℕ)) where
     λ (a, q, e, l, h). subst (In (i, r)) (sym (lefts-in t)) (subst (λ (s : List ℕ). In (i, r) (leftsIn (referenceBy char) 0 s)) (sym e) (lefts-have 0 i r a q (l ∙ sym (zero-add (length a))) (stayed q r h))),
   )
 
--- In browse every number is allowed.
-pub browse-never-five : (t : List ℕ) (i : ℕ) → In (i, NotAllowed) (lefts (through browseStep t)) → ⊥
-unfolding browseStep
-browse-never-five t i k =
-    let (a, q, e, l, h) = left-iff browseChar t i NotAllowed .0 k in
-    Option·some-ne-none _ (h .2 .2)
-
 -- ---- the first, of any moves
 
 lefts-after : (i : ℕ) (ms : List Move) (j : ℕ) (r : Reason) → In (j, r) (leftsAt i ms) → i ≤ j
@@ -511,7 +506,22 @@ json-leaveless p s = go (jsonStep p s) (json-fair p s)
 pub json-left : (t : List ℕ) → firstLeft (through jsonStep t) ≡ (0, 0)
 json-left t = ap firstOf (no-lefts jsonStep json-leaveless 0 0 0 t)
 
--- Not decode or browse in one of the HTML seven.
+-- browse: the `&` of a reference that stays is kept.
+pub browse-leaveless : (kind : Kind) → Leaveless (browseStep kind)
+unfolding browseStep
+browse-leaveless kind p [] = refl
+browse-leaveless kind p (x ∷ s) = go (eqb x 38) (referenceAt kind s)
+  where
+    go : (b : Bool) (o : Option Row) → reasonIn (cond b (browseAmp o) (keep (x ∷ []))) ≡ none
+    go false o = refl
+    go true none = refl
+    go true (some row) = refl
+
+-- So browse's two numbers are 0.
+pub browse-left : (kind : Kind) (t : List ℕ) → firstLeft (through (browseStep kind) t) ≡ (0, 0)
+browse-left kind t = ap firstOf (no-lefts (browseStep kind) (browse-leaveless kind) 0 0 0 t)
+
+-- Not decode in one of the HTML seven.
 abbrev pub Outside : Operation → AnyContext → Type 0
 Outside Encode n = Unit {0}
 Outside Decode (Units (InHtml h)) = ⊥
@@ -521,12 +531,7 @@ Outside Decode (Units InJson) = Unit {0}
 Outside Decode ScriptRaw = Unit {0}
 Outside Decode Unknown = Unit {0}
 Outside Read n = Unit {0}
-Outside Browse (Units (InHtml h)) = ⊥
-Outside Browse (Units (InScript q)) = Unit {0}
-Outside Browse (Units (InStyle q)) = Unit {0}
-Outside Browse (Units InJson) = Unit {0}
-Outside Browse ScriptRaw = Unit {0}
-Outside Browse Unknown = Unit {0}
+Outside Browse n = Unit {0}
 
 -- There both numbers are 0.
 pub outside : (o : Operation) (n : AnyContext) (t : List ℕ) → Outside o n → firstLeft (movesOf (ruleOf o n) t) ≡ (0, 0)
@@ -543,7 +548,7 @@ outside Decode Unknown t h = refl
 outside Read (Units c) t h = ap firstOf (no-lefts (readStep c) (read-leaveless c) 0 0 0 t)
 outside Read ScriptRaw t h = refl
 outside Read Unknown t h = refl
-outside Browse (Units (InHtml k)) t h = absurd h
+outside Browse (Units (InHtml k)) t h = browse-left (kindOf k) t
 outside Browse (Units (InScript q)) t h = refl
 outside Browse (Units (InStyle q)) t h = refl
 outside Browse (Units InJson) t h = refl

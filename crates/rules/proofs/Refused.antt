@@ -18,7 +18,7 @@ use Rattle.rules.specs.Tables.{Row, rowAt, value, rows, replacedChars}
 use Rattle.rules.specs.Encoding.{encodeStep, rawStep}
 use Rattle.rules.specs.Reading.{undo, unless, readStep}
 use Rattle.rules.specs.Json.{IsLone, jsonStep, contentTo}
-use Rattle.rules.specs.References.{browseStep}
+use Rattle.rules.specs.Browsing.{kindOf, browseStep}
 use Rattle.rules.specs.Operations.{decodeStep, ruleOf, readTo}
 use Rattle.rules.specs.Refusals.{Call, Case, bad-context, too-long, not-utf8, cut-short, not-a-form, lone-surrogate, lent, no-room, written, earlier, Lone, NoForm, Says, Given, movesOf, movesIn, whyOf, judge, caseBy, caseOf}
 use Rattle.rules.specs.declared.Context.the-variants.{InHtml, InScript, InStyle, InJson}
@@ -28,7 +28,8 @@ use Rattle.rules.specs.declared.Operation.the-variants.{Encode, Decode, 
 use Rattle.rules.specs.declared.AnyContext.{AnyContext}
 use Rattle.rules.specs.declared.AnyContext.the-variants.{Units, ScriptRaw, Unknown}
 use Rattle.rules.proofs.Growth.{encode-whole, raw-whole}
-use Rattle.rules.proofs.Whole.{decode-whole, browse-whole}
+use Rattle.rules.proofs.Whole.{decode-whole}
+use Rattle.rules.proofs.Browsing.{browse-whole}
 use Rattle.rules.proofs.Valid.{valid-iff, valid-within}
 use Rattle.rules.proofs.Cut.{cut-iff}
 use Rattle.rules.proofs.Json.{content-iff, content-within, lone-iff}
@@ -239,7 +240,7 @@ stop-says Decode Unknown t k = absurd (k refl)
 stop-says Read (Units c) t k = read-stops c t
 stop-says Read ScriptRaw t k = absurd (k refl)
 stop-says Read Unknown t k = absurd (k refl)
-stop-says Browse (Units (InHtml h)) t k = never browseStep t (browse-whole t)
+stop-says Browse (Units (InHtml h)) t k = never (browseStep (kindOf h)) t (browse-whole (kindOf h) t)
 stop-says Browse (Units (InScript q)) t k = absurd (k refl)
 stop-says Browse (Units (InStyle q)) t k = absurd (k refl)
 stop-says Browse (Units InJson) t k = absurd (k refl)

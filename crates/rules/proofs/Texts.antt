@@ -19,9 +19,9 @@ use Rattle.rules.specs.Utf8.{sequences, IsChar, IsText, utf8, substitute
 use Rattle.rules.specs.Tables.{Row, key, value, rows}
 use Rattle.rules.specs.Encoding.{rawStep, parted}
 use Rattle.rules.specs.Names.{names}
-use Rattle.rules.specs.References.{scalar, decodeChar, renumbering, standsFor, browseChar, numberOf, lookup, meaning, referenceStep, browseStep}
+use Rattle.rules.specs.References.{scalar, decodeChar, renumbering, standsFor, browseChar, numberOf, lookup, meaning, referenceStep}
 use Rattle.rules.specs.Json.{shortEscapes, Spells, highs, lows, pairOf, IsElement, jsonStep}
-use Rattle.rules.specs.Operations.{decodeStep, decodeOf, browseOf, rawOf}
+use Rattle.rules.specs.Operations.{decodeStep, decodeOf, rawOf}
 use Rattle.rules.specs.declared.Context.{Context}
 use Rattle.rules.specs.declared.Context.the-variants.{InHtml, InScript, InStyle, InJson}
 use Rattle.rules.proofs.Tests.{and-left, and-right, and-both, all-in}
@@ -31,7 +31,7 @@ use Rattle.rules.proofs.Valid.{valid-iff}
 use Rattle.rules.proofs.Every.{every}
 use Rattle.rules.proofs.Encoder.{text-append}
 use Rattle.rules.proofs.Growth.{raw-whole}
-use Rattle.rules.proofs.Whole.{reference-fair, escape-fair, browse-whole}
+use Rattle.rules.proofs.Whole.{reference-fair, escape-fair}
 use Rattle.rules.proofs.Json.{spelled-digits, json-fair}
 use Rattle.rules.proofs.Names.{value-valid}
 use Rattle.rules.proofs.Numbers.{stands-scalar}
@@ -187,7 +187,7 @@ decode-char n v e = go (scalar n && (leb 32 n || oneOf (9 ∷ 10 ∷ 12 ∷ 13 �
         subst IsText (Option·some-injective (utf8 n) v e) (scalar-text n (and-left (scalar n) (leb 32 n || oneOf (9 ∷ 10 ∷ 12 ∷ 13 ∷ []) n) (subst T (sym f) tt)))
     go false f e = absurd (Option·none-ne-some v e)
 
-browse-char : (n : ℕ) (v : List ℕ) → browseChar n ≡ some v → IsText v
+pub browse-char : (n : ℕ) (v : List ℕ) → browseChar n ≡ some v → IsText v
 browse-char n v e = subst IsText (Option·some-injective (cond (scalar n && not (eqb n 0)) (utf8 (standsFor renumbering n)) substitute) v e) (go (scalar n && not (eqb n 0)) refl)
   where
     go : (b : Bool) → scalar n && not (eqb n 0) ≡ b → IsText (cond b (utf8 (standsFor renumbering n)) substitute)
@@ -292,10 +292,6 @@ decode-regroups (InScript q) = escape-fair Regroups (λ x. tt) bang slash (InScr
 decode-regroups (InStyle q) = escape-fair Regroups (λ x. tt) bang slash (InStyle q) (row-regroups (InStyle q)) (ascii "style")
 decode-regroups InJson = λ p s. fair-map element-regroups (jsonStep p s) s (json-fair p s)
 
-browse-regroups : (p : ℕ) (s : List ℕ) → Fair Regroups (browseStep p s) s
-unfolding browseStep
-browse-regroups = reference-fair Regroups (λ x. tt) left-regroups browseChar (reference-regroups browseChar browse-char)
-
 pub raw-regroups : (p : ℕ) (s : List ℕ) → Fair Regroups (rawStep p s) s
 unfolding rawStep
 raw-regroups p [] = tt
@@ -313,10 +309,6 @@ raw-regroups p (b ∷ s) = go (eqb b 60 && parted s) refl
 -- What decode gives of a valid text that it takes as a whole is valid UTF-8.
 pub decode-text : (c : Context) (s : List ℕ) → IsText s → taken (through (decodeStep c) s) ≡ s → IsText (decodeOf c s)
 decode-text c s t w = moves-text (through (decodeStep c) s) (moves-fair Regroups (decodeStep c) (decode-regroups c) 0 0 s .0) (subst IsText (sym w) t)
-
--- What browse gives is.
-pub browse-text : (s : List ℕ) → IsText s → IsText (browseOf s)
-browse-text s t = moves-text (through browseStep s) (moves-fair Regroups browseStep browse-regroups 0 0 s .0) (subst IsText (sym (browse-whole s)) t)
 
 -- What encode writes in script_raw is.
 pub raw-text : (s : List ℕ) → IsText s → IsText (rawOf s)

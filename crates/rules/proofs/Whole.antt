@@ -1,4 +1,4 @@
--- browse takes the whole text, and so does decode but of JSON strings; and what a reference or an escape stands for is at most a fifth longer than it.
+-- decode takes the whole text, but of JSON strings; and what a reference or an escape stands for is at most a fifth longer than it.
 -- Assumes nothing.
 use mathlib.Core.Bool.{Bool, true, false, not, _&&_, _||_, cond}
 use mathlib.Core.Logic.{inl, inr}
@@ -20,7 +20,7 @@ use Rattle.rules.specs.declared.Reason.{Reason}
 use Rattle.rules.specs.declared.Reason.the-variants.{NoEnd}
 use Rattle.rules.specs.Encoding.{keepByte, closes, anyCase, terminators}
 use Rattle.rules.specs.Reading.{undo}
-use Rattle.rules.specs.References.{digit, hexDigitAt, number, onto, bodyOf, numberOf, scalar, decodeChar, renumbering, standsFor, browseChar, valueOf, lookup, meaning, why, refer, atAmp, referenceBy, referenceStep, browseStep}
+use Rattle.rules.specs.References.{digit, hexDigitAt, number, onto, bodyOf, numberOf, scalar, decodeChar, renumbering, standsFor, browseChar, valueOf, lookup, meaning, why, refer, atAmp, referenceBy, referenceStep}
 use Rattle.rules.specs.Escapes.{afterLess, escapeBy}
 use Rattle.rules.specs.Json.{shortEscapes, pairOf, IsElement, jsonStep}
 use Rattle.rules.specs.Operations.{decodeStep}
@@ -68,7 +68,7 @@ decode-short n v e = go (scalar n && (leb 32 n || oneOf (9 ∷ 10 ∷ 12 ∷ 13 
     go true e = subst (λ (l : List ℕ). length l ≤ 4) (Option·some-injective (utf8 n) v e) (utf8-four n)
     go false e = absurd (Option·none-ne-some v e)
 
-browse-short : Short browseChar
+pub browse-short : Short browseChar
 browse-short n v e = subst (λ (l : List ℕ). length l ≤ 4) (Option·some-injective (cond given (utf8 (standsFor renumbering n)) (utf8 0xFFFD)) v e) (go given)
   where
     given : Bool
@@ -114,7 +114,7 @@ meaning-short char short body v e = go (numberOf body) refl e
     go (some n) f e = four (length v) (length body) (short n v e) (number-some body n f)
     go none f e = named (first (λ (row : Row). sameBytes (key row)) names body) refl e
 
-body-split : (s body : List ℕ) → bodyOf s ≡ some body → (r : List ℕ) × (s ≡ body ++ 59 ∷ r)
+pub body-split : (s body : List ℕ) → bodyOf s ≡ some body → (r : List ℕ) × (s ≡ body ++ 59 ∷ r)
 body-split [] body e = absurd (Option·none-ne-some body e)
 body-split (x ∷ xs) body e = go (eqb x 59) refl (eqb x 38) (bodyOf xs) refl (body-split xs) e
   where
@@ -277,21 +277,12 @@ decode-whole c w = whole Fifth (decodeStep c) (decode-fair c) (decode-goes c w)
 pub decode-whole-if : (c : Context) (s : List ℕ) → length s ≤ place (through (decodeStep c) s) → taken (through (decodeStep c) s) ≡ s
 decode-whole-if c = whole-if Fifth (decodeStep c) (decode-fair c)
 
--- The same of browse.
-pub browse-fair : (p : ℕ) (s : List ℕ) → Fair Fifth (browseStep p s) s
-unfolding browseStep
-browse-fair = reference-fair Fifth kept-fifth left-fifth browseChar (reference-fifth browseChar browse-short)
-
-pub browse-whole : (s : List ℕ) → taken (through browseStep s) ≡ s
-unfolding browseStep
-browse-whole = whole Fifth browseStep browse-fair (reference-goes browseChar)
-
 -- ---- how long the result can be
 
 add-up : (v k a b : ℕ) → 5 * v ≤ 6 * k → 5 * a ≤ 6 * b → 5 * (v + a) ≤ 6 * (k + b)
 add-up v k a b h i = omega arith
 
-at-most : (ms : List Move) → All Fifth ms → 5 * length (result ms) ≤ 6 * length (taken ms)
+pub at-most : (ms : List Move) → All Fifth ms → 5 * length (result ms) ≤ 6 * length (taken ms)
 at-most [] g = omega arith
 at-most (m ∷ ms) g =
     rw (length-append (gives m) (result ms), length-append (takes m) (taken ms))
@@ -304,8 +295,3 @@ decode-fifth c s =
   where
     within : (a b c : ℕ) → 5 * a ≤ 6 * b → b ≤ c → 5 * a ≤ 6 * c
     within a b c h k = omega arith
-
-pub browse-fifth : (s : List ℕ) → 5 * length (result (through browseStep s)) ≤ 6 * length s
-browse-fifth s =
-    subst (λ (l : List ℕ). 5 * length (result (through browseStep s)) ≤ 6 * length l) (browse-whole s)
-    (at-most (through browseStep s) (moves-fair Fifth browseStep browse-fair 0 0 s .0))

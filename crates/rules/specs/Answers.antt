@@ -9,7 +9,7 @@ use Prim.Native.Nat.{ℕ, zero, suc, _-_, _/_, _%_}
 use lib.Dec.{eqb}
 use lib.ListN.{length as size, take, drop, getD}
 use Rattle.rules.specs.Bytes.{ascii}
-use Rattle.rules.specs.Moves.{Move, swap, leave, result, replaced, place as placeOf, firstLeft}
+use Rattle.rules.specs.Moves.{Move, keep, swap, leave, result, replaced, place as placeOf, firstLeft}
 use Rattle.rules.specs.Utf8.{utf8, substitute}
 use Rattle.rules.specs.Tables.{Row, key, value, slashed, hexRow, lineSeparator, paragraphSeparator}
 use Rattle.rules.specs.Encoding.{keepByte}
@@ -20,7 +20,7 @@ use Rattle.rules.specs.declared.DecodedEntityValue.the-variants.{Named, 
 use Rattle.rules.specs.declared.Meaning.{Meaning}
 use Rattle.rules.specs.declared.Meaning.the-variants.{Value, Nothing as NoMeaning}
 use Rattle.rules.specs.declared.Reference.{Reference}
-use Rattle.rules.specs.declared.Reference.the-variants.{Found, Left}
+use Rattle.rules.specs.declared.Reference.the-variants.{Found, Left, Nothing as NoReference}
 use Rattle.rules.specs.declared.Escape.{Escape}
 use Rattle.rules.specs.declared.Escape.the-variants.{Taken, Nothing as NoEscape}
 use Rattle.rules.specs.declared.Replacement.{Replacement}
@@ -43,10 +43,11 @@ abbrev pub meaningBytes : Meaning → Option (List ℕ)
 meaningBytes (Value v) = some (valueBytes v)
 meaningBytes NoMeaning = none
 
--- The move at an `&` of a text, where the reference reader was asked: the reference gives way, or it stays.
+-- The move at an `&` of a text, where a reference reader was asked: the reference gives way, or it stays, in browse without a reason.
 abbrev pub referenceMove : List ℕ → Reference → Move
 referenceMove t (Found e) = swap (take (e .end - e .start) (drop (e .start) t)) (valueBytes (e .value))
 referenceMove t (Left r) = leave r (ascii "&")
+referenceMove t NoReference = keep (ascii "&")
 
 -- The move at the head of s, where the reader of escapes was asked.
 abbrev pub escapeMove : List ℕ → Escape → Move

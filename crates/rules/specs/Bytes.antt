@@ -68,6 +68,16 @@ abbrev pub first : {E : Type 0} → (E → List ℕ → Bool) → List E → Lis
 first fit [] s = none
 first fit (e ∷ es) s = elim (fit e s) [ true ↦ some e | false ↦ first fit es s ]
 
+-- The preferred one of two, if there are two.
+abbrev pub pick : {A : Type 0} → (A → A → Bool) → A → Option A → A
+pick over x none = x
+pick over x (some y) = elim (over x y) [ true ↦ x | false ↦ y ]
+
+-- Of the entries that pass the test the one that is preferred to all of them.
+abbrev pub best : {A : Type 0} → (A → A → Bool) → (A → Bool) → List A → Option A
+best over test [] = none
+best over test (x ∷ xs) = elim (test x) [ true ↦ some (pick over x (best over test xs)) | false ↦ best over test xs ]
+
 -- The bytes s begin with the pattern: one item for each byte, and m says whether a byte fits an item.
 abbrev pub fits : {B : Type 0} → (B → ℕ → Bool) → List B → List ℕ → Bool
 fits m [] s = true

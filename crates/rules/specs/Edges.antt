@@ -17,7 +17,8 @@ use Rattle.rules.specs.Refusals.{refusal, success, checkOf}
 use Rattle.rules.specs.Answers.{referenceMove, escapeMove, replacedMove}
 use Rattle.rules.specs.Program.{printed, entityOf, reasonsOf}
 use Rattle.rules.specs.Examples.{Example, passesIn, example, stays, leaving, refusedIn, refused, holds}
-use Rattle.rules.specs.declared.Html.the-variants.{TextMinimal, Text, Quoted, Safe, Unquoted}
+use Rattle.rules.specs.declared.Html.{Html}
+use Rattle.rules.specs.declared.Html.the-variants.{TextMinimal, Text, DoubleQuoted, SingleQuoted, Quoted, Safe, Unquoted}
 use Rattle.rules.specs.declared.Quotes.the-variants.{Single, Double, Both}
 use Rattle.rules.specs.declared.Context.the-variants.{InHtml, InScript, InStyle, InJson}
 use Rattle.rules.specs.declared.AnyContext.{AnyContext}
@@ -26,7 +27,7 @@ use Rattle.rules.specs.declared.Operation.{Operation}
 use Rattle.rules.specs.declared.Operation.the-variants.{Encode, Decode, Read, Browse}
 use Rattle.rules.specs.declared.DecodedEntityValue.the-variants.{Named as NamedText, Character}
 use Rattle.rules.specs.declared.Reason.the-variants.{NoEnd, Empty, UnknownName, NoDigit, NotAllowed}
-use Rattle.rules.specs.declared.Reference.the-variants.{Found, Left}
+use Rattle.rules.specs.declared.Reference.the-variants.{Found, Left, Nothing as NoReference}
 use Rattle.rules.specs.declared.Escape.the-variants.{Taken, Nothing as NoEscape}
 use Rattle.rules.specs.declared.Notation.the-variants.{Script, Style, Json}
 use Rattle.rules.specs.declared.Replacement.the-variants.{Slashed, Hex, Separator, Substitute}
@@ -466,30 +467,31 @@ browsed =
     ∷ example Browse (Units (InHtml Text)) (ascii "&#xD7FF;&#xD800;&#xDFFF;&#xE000;") (0xED ∷ 0x9F ∷ 0xBF ∷ substitute ++ substitute ++ 0xEE ∷ 0x80 ∷ 0x80 ∷ []) 4
     ∷ example Browse (Units (InHtml Text)) (ascii "&#x10FFFF;&#x110000;") (0xF4 ∷ 0x8F ∷ 0xBF ∷ 0xBF ∷ 0xEF ∷ 0xBF ∷ 0xBD ∷ []) 2
     ∷ example Browse (Units (InHtml Text)) (ascii "&#4294967296;&#4294967361;&#18446744073709551681;") (substitute ++ substitute ++ substitute) 3
-    ∷ leaving 0 2 (stays Browse (Units (InHtml Text)) (ascii "&#;&#x;&#+65;&bogus;&amp"))
+    ∷ stays Browse (Units (InHtml Text)) (ascii "&#;&#x;&#+65;&bogus;&am")
+    ∷ example Browse (Units (InHtml Text)) (ascii "&;&lt;&#0&") (ascii "&;<" ++ substitute ++ ascii "&") 2
     ∷ example Browse (Units (InHtml Text)) (ascii "&lt;&amp;lt;") (ascii "<&lt;") 2
-    ∷ []
+    ∷ map (λ (h : Html). example Browse (Units (InHtml h)) (ascii "&lt=1") (ascii "<=1") 1) (TextMinimal ∷ Text ∷ Safe ∷ [])
+    ++ map (λ (h : Html). stays Browse (Units (InHtml h)) (ascii "&lt=1")) (DoubleQuoted ∷ SingleQuoted ∷ Quoted ∷ Unquoted ∷ [])
 
--- A text that begins with a reference that stays, for the same reason in decode and in browse.
-abbrev pub leavesIn : ℕ → List ℕ → List Example
-leavesIn r t = leaving 0 r (stays Decode (Units (InHtml Text)) t) ∷ leaving 0 r (stays Browse (Units (InHtml Safe)) t) ∷ []
+-- A text that begins with a reference that decode leaves for a reason.
+abbrev pub leavesIn : ℕ → List ℕ → Example
+leavesIn r t = leaving 0 r (stays Decode (Units (InHtml Text)) t)
 
 -- References that stay: each reason, and which of two goes first.
 abbrev pub leavings : List Example
 leavings =
-    join (
     map (leavesIn 1) (ascii "&" ∷ ascii "&amp" ∷ ascii "&#" ∷ ascii "&#65" ∷ ascii "& b" ∷ ascii "&&;" ∷ ascii "&#x41&#0" ∷ [])
     ++ map (leavesIn 2) (ascii "&;" ∷ ascii "&#;" ∷ ascii "&#x;" ∷ ascii "&#X;" ∷ ascii "&;&bogus;&" ∷ [])
     ++ map (leavesIn 3) (ascii "& ;" ∷ ascii "&Amp;" ∷ ascii "&amp ;" ∷ ascii "&x41;" ∷ (0x26 ∷ 0xC3 ∷ 0xA9 ∷ 0x3B ∷ []) ∷ ascii "&nbps;&;" ∷ [])
     ++ map (leavesIn 4)
     (ascii "&#g;" ∷ ascii "&# ;" ∷ ascii "&#+65;" ∷ ascii "&#-0;" ∷ ascii "&##;" ∷ ascii "&#a;" ∷ ascii "&#xg;" ∷ ascii "&#xx1;" ∷ ascii "&#Xx;" ∷ ascii "&#6x5;"
-    ∷ ascii "&#0x;" ∷ ascii "&#99999999999x;" ∷ ascii "&#xD800g;" ∷ ascii "&#0 ;" ∷ []))
-    ++ map (λ (t : List ℕ). leaving 0 5 (stays Decode (Units (InHtml Text)) t))
+    ∷ ascii "&#0x;" ∷ ascii "&#99999999999x;" ∷ ascii "&#xD800g;" ∷ ascii "&#0 ;" ∷ [])
+    ++ map (leavesIn 5)
     (ascii "&#0;" ∷ ascii "&#00;" ∷ ascii "&#31;" ∷ ascii "&#xB;" ∷ ascii "&#xD800;" ∷ ascii "&#XDFFF;" ∷ ascii "&#x110000;" ∷ ascii "&#4294967296;" ∷ ascii "&#99999999999;" ∷ [])
     ++ leaving 2 1 (stays Decode (Units (InHtml Text)) (ascii "a & b"))
     ∷ leaving 1 1 (example Decode (Units (InHtml Text)) (ascii "a&&lt;&;") (ascii "a&<&;") 1)
-    ∷ leaving 4 2 (example Browse (Units (InHtml Text)) (ascii "&lt;&;&#0;&") (ascii "<&;" ++ substitute ++ ascii "&") 2)
-    ∷ leaving 8 3 (example Browse (Units (InHtml Text)) (ascii "&#0;&#1;&b;") (substitute ++ 0x01 ∷ ascii "&b;") 2)
+    ∷ example Browse (Units (InHtml Text)) (ascii "&lt;&;&#0;&") (ascii "<&;" ++ substitute ++ ascii "&") 2
+    ∷ example Browse (Units (InHtml Text)) (ascii "&#0;&#1;&b;") (substitute ++ 0x01 ∷ ascii "&b;") 2
     ∷ leaving 5 5 (example Decode (Units (InHtml Text)) (ascii "&amp;&#0;&amp;&;") (ascii "&&#0;&&;") 2)
     ∷ refusedIn 1 Decode (Units (InHtml Text)) (ascii "&&lt;") 3 2 0
     ∷ refused Decode (Units (InHtml Text)) (ascii "&;" ++ 0x80 ∷ []) 2 2
@@ -605,6 +607,7 @@ papers =
     ∷ (referenceMove (ascii "&b;") (Left UnknownName), leave UnknownName (ascii "&"))
     ∷ (referenceMove (ascii "&#b;") (Left NoDigit), leave NoDigit (ascii "&"))
     ∷ (referenceMove (ascii "&#0;") (Left NotAllowed), leave NotAllowed (ascii "&"))
+    ∷ (referenceMove (ascii "&b;") NoReference, keep (ascii "&"))
     ∷ []
 
 -- It is.

@@ -9,6 +9,8 @@ pub mod Encoding
 pub mod Reading
 pub mod Names
 pub mod References
+pub mod Bare
+pub mod Browsing
 pub mod Reasons
 pub mod Escapes
 pub mod Json
@@ -18,6 +20,7 @@ pub mod Answers
 pub mod Program
 pub mod Examples
 pub mod Edges
+pub mod BrowsingEdges
 pub mod ScriptData
 pub mod ScriptEdges
 pub mod Closings

@@ -8,9 +8,11 @@ use Rattle.rules.specs.Moves.{Rule, through, result, place}
 use Rattle.rules.specs.Tables.{rows}
 use Rattle.rules.specs.Encoding.{encodeStep, rawStep}
 use Rattle.rules.specs.Reading.{readStep}
-use Rattle.rules.specs.References.{referenceStep, browseStep}
+use Rattle.rules.specs.References.{referenceStep}
+use Rattle.rules.specs.Browsing.{kindOf, browseStep}
 use Rattle.rules.specs.Escapes.{escapeBy}
 use Rattle.rules.specs.Json.{jsonStep}
+use Rattle.rules.specs.declared.Kind.{Kind}
 use Rattle.rules.specs.declared.Context.{Context}
 use Rattle.rules.specs.declared.Context.the-variants.{InHtml, InScript, InStyle, InJson}
 use Rattle.rules.specs.declared.AnyContext.{AnyContext}
@@ -26,9 +28,9 @@ decodeStep (InScript q) = escapeBy (ascii "script") (rows (InScript q))
 decodeStep (InStyle q) = escapeBy (ascii "style") (rows (InStyle q))
 decodeStep InJson = jsonStep
 
--- browse: the HTML seven only.
+-- browse: the HTML seven only, as text or as the value of an attribute.
 abbrev pub browseIn : Context → Option Rule
-browseIn (InHtml h) = some browseStep
+browseIn (InHtml h) = some (browseStep (kindOf h))
 browseIn (InScript q) = none
 browseIn (InStyle q) = none
 browseIn InJson = none
@@ -66,8 +68,8 @@ abbrev pub readOf : Context → List ℕ → List ℕ
 readOf c t = result (through (readStep c) t)
 
 -- What browse makes of it.
-abbrev pub browseOf : List ℕ → List ℕ
-browseOf t = result (through browseStep t)
+abbrev pub browseOf : Kind → List ℕ → List ℕ
+browseOf kind t = result (through (browseStep kind) t)
 
 -- What encode in script_raw makes of it.
 abbrev pub rawOf : List ℕ → List ℕ

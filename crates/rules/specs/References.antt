@@ -1,4 +1,4 @@
--- RULES 10. References: the rules of decode and browse in the HTML contexts.
+-- RULES 10. References: the rule of decode in the HTML contexts, and the characters of numbers in decode and browse.
 -- Assumes nothing.
 use mathlib.Core.Bool.{Bool, not, _&&_, _||_, cond}
 use mathlib.Core.Option.{Option, none, some}
@@ -154,7 +154,3 @@ referenceBy char prev (b ∷ s) = cond (is "&" b) (atAmp char (bodyOf s)) (keep 
 -- decode in the HTML seven.
 unfoldable pub referenceStep : Rule
 referenceStep = referenceBy decodeChar
-
--- browse: it differs for numbers only.
-unfoldable pub browseStep : Rule
-browseStep = referenceBy browseChar

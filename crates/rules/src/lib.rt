@@ -73,6 +73,12 @@ pub enum Html {
     Unquoted,
 }
 
+// What a reference is part of in browse: text, or the value of an attribute.
+pub enum Kind {
+    InText,
+    InAttribute,
+}
+
 // Which quotes a script or style string escapes; both in script_quoted and style_quoted.
 pub enum Quotes {
     Single,
@@ -207,10 +213,11 @@ pub enum Reason {
     NotAllowed,
 }
 
-// What the reference reader finds at an `&`: a reference, or why there is none.
+// What a reference reader finds at an `&`: a reference; why decode leaves it; or that browse leaves it, which needs no reason.
 pub enum Reference {
     Found(DecodedEntity),
     Left(Reason),
+    Nothing,
 }
 
 // What the reader of string escapes finds: how many bytes the escape takes, and the number of its character.

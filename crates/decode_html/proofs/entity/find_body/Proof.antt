@@ -26,8 +26,8 @@ find-name-requires c κs = (c .before .before .before .before .before .pre .0, c
 returns-2 : tie.Need-returns-2
 returns-2 c = search needs
 
-add-t6 : tie.Need-add-t6
-add-t6 c = search needs
+add-t5 : tie.Need-add-t5
+add-t5 c = search needs
 
 known-value-requires : tie.Need-known-value-requires
 known-value-requires c κs = search needs
@@ -37,7 +37,7 @@ returns-3 c =
     let o = c .before .before .before .before .before .before in
     let a = o .args in
     let n = c .before .before .known-length in
-    rw (c .known-value .ensures) (known-reads (a .numbers) (a .text .now) (a .start) (n .result) (o .pre .0) (n .ensures) (c .before .if2 .left))
+    rw (c .known-value .ensures) (known-reads (a .text .now) (a .start) (n .result) (o .pre .0) (n .ensures) (c .before .if2 .left))
 
 pub find-body-spec : {M : Type 1} → statement M
 find-body-spec =
@@ -50,6 +50,6 @@ find-body-spec =
     known-length-requires
     find-name-requires
     returns-2
-    add-t6
+    add-t5
     known-value-requires
     returns-3)

@@ -17,7 +17,7 @@ find-body-requires : tie.Need-find-body-requires
 find-body-requires c κs = (c .before .before .before .before .pre .1, rw (c .enum-told .given .1) at (c .before .before .start-of .ensures))
 
 returns : tie.Need-returns
-returns c = (rw (c .before .reason .given .1) at (c .before .before .before .start-of .ensures)) (c .before .before .before .before .before .args .numbers)
+returns c = rw (c .before .reason .given .1) at (c .before .before .before .start-of .ensures)
 
 returns-2 : tie.Need-returns-2
 returns-2 c = search needs

@@ -19,7 +19,7 @@ returns c =
     let o = c .before .before .before in
     let a = o .args in
     let e = c .before .body-end in
-    begun-nobody (a .numbers) (a .text .now) (a .start) (e .result) (o .pre .0) (o .pre .1) (e .ensures) (c .if1 .taken)
+    begun-nobody (a .text .now) (a .start) (e .result) (o .pre .0) (o .pre .1) (e .ensures) (c .if1 .taken)
 
 sub-decode-named-entity : tie.Need-sub-decode-named-entity
 sub-decode-named-entity c = search needs
@@ -45,11 +45,11 @@ returns-2 c =
     let a = o .args in
     let e = c .before .before .before .before .before .body-end in
     let m = c .before .before .decode-named-entity in
-    let r = begun-name (a .numbers) (a .text .now) (a .start) (e .result) (o .pre .0) (o .pre .1) (e .ensures) (o .pre .2) (search needs) in
+    let r = begun-name (a .text .now) (a .start) (e .result) (o .pre .0) (o .pre .1) (e .ensures) (o .pre .2) (search needs) in
     rw (c .enum-told .given .1) at (r (m .result) (m .ensures))
 
-add-t7 : tie.Need-add-t7
-add-t7 c = search needs
+add-t6 : tie.Need-add-t6
+add-t6 c = search needs
 
 returns-3 : tie.Need-returns-3
 returns-3 c =
@@ -57,7 +57,7 @@ returns-3 c =
     let a = o .args in
     let e = c .before .before .before .before .before .before .body-end in
     let m = c .before .before .before .decode-named-entity in
-    let r = begun-name (a .numbers) (a .text .now) (a .start) (e .result) (o .pre .0) (o .pre .1) (e .ensures) (o .pre .2) (search needs) in
+    let r = begun-name (a .text .now) (a .start) (e .result) (o .pre .0) (o .pre .1) (e .ensures) (o .pre .2) (search needs) in
     rw (c .before .value .given .1) at (r (m .result) (m .ensures))
 
 pub find-name-spec : {M : Type 1} → statement M
@@ -75,5 +75,5 @@ find-name-spec =
     enum-known-value
     enum-told
     returns-2
-    add-t7
+    add-t6
     returns-3)

@@ -19,7 +19,7 @@ returns c =
     let o = c .before .before .before in
     let a = o .args in
     let e = c .before .body-end in
-    begun-nobody (a .numbers) (a .text .now) (a .start) (e .result) (o .pre .0) (o .pre .1) (e .ensures) (c .if1 .taken)
+    begun-nobody (a .text .now) (a .start) (e .result) (o .pre .0) (o .pre .1) (e .ensures) (c .if1 .taken)
 
 add-digits : tie.Need-add-digits
 add-digits c = search needs
@@ -39,8 +39,8 @@ decode-number-requires c κs = search needs
 enum-known-value : tie.Need-enum-known-value
 enum-known-value c = search needs
 
-add-t17 : tie.Need-add-t17
-add-t17 c = search needs
+add-t16 : tie.Need-add-t16
+add-t16 c = search needs
 
 enum-known-reason : tie.Need-enum-known-reason
 enum-known-reason c = search needs
@@ -51,7 +51,7 @@ returns-2 c =
     let a = o .args in
     let e = c .before .before .before .before .before .before .body-end in
     let m = c .before .before .before .decode-number in
-    let r = begun-number (a .numbers) (a .text .now) (a .start) (e .result) (o .pre .0) (o .pre .1) (e .ensures) (o .pre .2) (search needs) in
+    let r = begun-number (a .text .now) (a .start) (e .result) (o .pre .0) (o .pre .1) (e .ensures) (o .pre .2) (search needs) in
     rw (c .before .value .given .1) at (r (m .result) (m .ensures))
 
 returns-3 : tie.Need-returns-3
@@ -60,7 +60,7 @@ returns-3 c =
     let a = o .args in
     let e = c .before .before .before .before .before .before .body-end in
     let m = c .before .before .before .decode-number in
-    let r = begun-number (a .numbers) (a .text .now) (a .start) (e .result) (o .pre .0) (o .pre .1) (e .ensures) (o .pre .2) (search needs) in
+    let r = begun-number (a .text .now) (a .start) (e .result) (o .pre .0) (o .pre .1) (e .ensures) (o .pre .2) (search needs) in
     rw (c .before .reason .given .1) at (r (m .result) (m .ensures))
 
 pub find-number-spec : {M : Type 1} → statement M
@@ -77,7 +77,7 @@ find-number-spec =
     part-decode-number-end
     decode-number-requires
     enum-known-value
-    add-t17
+    add-t16
     enum-known-reason
     returns-2
     returns-3)

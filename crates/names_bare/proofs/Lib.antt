@@ -1,0 +1,4 @@
+-- What the search says of the head of a text.
+pub mod Arms
+pub mod Words
+pub mod Heads

@@ -1,0 +1,2 @@
+-- A turn of the loops.
+pub mod Turns

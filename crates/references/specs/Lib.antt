@@ -1,0 +1,2 @@
+-- What its contracts say over the definitions of `rules`.
+pub mod Readers
