@@ -71,17 +71,20 @@ def check_context(tally, library, work, context, typed):
 
 
 def check_references(tally, library, work):
-    """Shows every reference in element text and in an attribute, and compares what Chromium reads with what browse and decode give."""
+    """Shows every reference in element text and in an attribute, and compares what Chromium reads with what browse gives in every HTML context, and with
+    what decode gives in one of each kind."""
     every = references.references()
     places = [Place('text', 'element text', '<div id=a{i}>{e}</div>', "textAt('a', i)", []),
               Place('double_quoted', 'attribute', '<div id=d{i} title="{e}"></div>', "titleAt('d', i)", [])]
+    contexts = {'browse': {'element text': ['text', 'text_minimal', 'safe'], 'attribute': ['double_quoted', 'single_quoted', 'quoted', 'unquoted']},
+                'decode': {'element text': ['text'], 'attribute': ['double_quoted']}}
     typed = [text.encode() for text in every]
     body = b''.join(place.write(i, text) for i, text in enumerate(typed) for place in places)
     columns, _ = seen(work, 'references', places, len(every), body)
     for operation, switches in references.SWITCHES.items():
-        for place, column in zip(places, columns):
-            row = (operation, 'in ' + place.name)
-            given = [None if result is None else result.decode(errors='replace') for result in library.call(operation, place.context, typed)]
+        for place, column, context in [(place, column, context) for place, column in zip(places, columns) for context in contexts[operation][place.name]]:
+            row = (operation, '%s, %s' % (place.name, context))
+            given = [None if result is None else result.decode(errors='replace') for result in library.call(operation, context, typed)]
             for text, held, result in zip(every, column, given):
                 compare_reference(tally, row, text, held, result, switches)
             tally.notes.append('%s %s: %s' % (*row, references.listed([text for text, held, result in zip(every, column, given) if held != result])))
@@ -89,7 +92,7 @@ def check_references(tally, library, work):
 
 def compare_reference(tally, row, text, held, given, switches):
     """One reference. A difference is explained if the browser and the call each give what the reader says, by the switches that mattered."""
-    attribute = row[1] == 'in attribute'
+    attribute = row[1].startswith('attribute')
     browser, used = references.reading(text, attribute, references.BROWSER)
     own, _ = references.reading(text, attribute, switches)
     if given == own and held == browser and own != browser:

@@ -1,7 +1,7 @@
-"""References as the HTML Standard's tokenizer reads them, as decode does and as browse does: one reader with four switches.
+"""References as the HTML Standard's tokenizer reads them, which browse does too, and as decode does: one reader with four switches.
 
-Each switch is a kind of difference that docs/DIFFERENCES.md lists. All off it is decode, with LEFT and WINDOWS on it is browse, all on it is the
-Standard's tokenizer. So a difference between browse and a browser is explained exactly if each of the two gives what the reader says with its switches."""
+Each switch is a kind of difference that docs/DIFFERENCES.md lists. All off it is decode, all on it is the Standard's tokenizer and browse. So a difference
+between decode and a browser is explained exactly if each of the two gives what the reader says with its switches, and none of browse's is explained."""
 import html.entities
 import random
 import re
@@ -11,7 +11,7 @@ WINDOWS = 'one of the 27 numbers from 80 to 9F hex that a browser takes as Windo
 BARE_NAME = 'a name without its `;`'
 BARE_NUMBER = 'a number without its `;`'
 BROWSER = frozenset([LEFT, WINDOWS, BARE_NAME, BARE_NUMBER])
-SWITCHES = {'browse': frozenset([LEFT, WINDOWS]), 'decode': frozenset()}
+SWITCHES = {'browse': BROWSER, 'decode': frozenset()}
 
 NAMES = html.entities.html5
 WINDOWS_TEXTS = {n: bytes([n]).decode('cp1252') for n in range(0x80, 0xA0) if n not in (0x81, 0x8D, 0x8F, 0x90, 0x9D)}

@@ -35,9 +35,9 @@ class Tally:
 
     def show(self):
         """Prints all of it, and returns how many differences nothing explains."""
-        print('\n%-14s %-20s %9s %9s %9s %11s' % ('context', 'place', 'compared', 'same', 'explained', 'unexplained'))
+        print('\n%-14s %-27s %9s %9s %9s %11s' % ('context', 'place', 'compared', 'same', 'explained', 'unexplained'))
         for (context, place), counts in self.rows.items():
-            print('%-14s %-20s %9d %9d %9d %11d' % (context, place, *counts))
+            print('%-14s %-27s %9d %9d %9d %11d' % (context, place, *counts))
         print('\nExplained, by kind (a text that is of two kinds counts in both):')
         for kind, (count, rows, smallest) in sorted(self.kinds.items(), key=lambda item: -item[1][0]):
             print('  %6d  %s; smallest input %s' % (count, kind, shown(smallest[2])))

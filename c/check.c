@@ -167,7 +167,7 @@ static void check_without_output(void)
     check(lintelrye_check(LINTELRYE_TEXT, letters, LINTELRYE_TEXT_LIMIT).length == LINTELRYE_TEXT_LIMIT, "the longest text", 0);
 }
 
-/* Place and reason of the first reference that stays, in decode and browse, copying and borrowing; 5 only in decode. */
+/* Place and reason of the first reference that stays, in decode, copying and borrowing; take and browse tell none. */
 static void check_left(void)
 {
     static const struct {
@@ -182,9 +182,8 @@ static void check_left(void)
         uint32_t which;
         for (which = 2; which < 8; which++) {
             lintelrye_answer answer = of(which, 1, rows[i].text, OUTPUT);
-            int allowed = which >= 6 && rows[i].reason == LINTELRYE_NOT_ALLOWED;
-            int reads = which == 4 || which == 5;
-            check(answer.left == (allowed || reads ? 0 : rows[i].left) && answer.reason == (allowed || reads ? 0 : rows[i].reason), "the first reference that stays", which);
+            int decodes = which == 2 || which == 3;
+            check(answer.left == (decodes ? rows[i].left : 0) && answer.reason == (decodes ? rows[i].reason : 0), "the first reference that stays", which);
         }
     }
     check(of(2, 1, "&;&lt;", 2).reason == 0, "no reason without room", 2);

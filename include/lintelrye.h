@@ -88,7 +88,7 @@ typedef struct lintelrye_answer {
     uint64_t same;     /* 1 exactly if nothing was replaced, so that the result is the text; after a refusal 0 */
     uint64_t replaced; /* how many places were replaced: characters by encode and take, references or escapes by decode and browse; after a refusal 0 */
     uint64_t place;    /* after NOT_UTF8, CUT_SHORT, NOT_A_FORM and LONE_SURROGATE the length of the longest correct prefix; otherwise 0 */
-    uint64_t left;     /* decode and browse in contexts 0 to 6: the place of the `&` of the first reference that stayed; 0 if none did, and after a refusal */
+    uint64_t left;     /* decode in contexts 0 to 6: the place of the `&` of the first reference that stayed; 0 if none did, and after a refusal */
     uint64_t reason;   /* why it stayed, see lintelrye_reason; 0 if none did, in every other call, and after a refusal */
 } lintelrye_answer;
 
@@ -99,7 +99,7 @@ typedef struct lintelrye_checked {
     uint64_t place;  /* after NOT_UTF8, CUT_SHORT and NOT_A_FORM the length of the longest correct prefix; otherwise 0 */
 } lintelrye_checked;
 
-/* Why a reference stayed. One that has both a byte that is no digit and too large a number has NO_DIGIT. browse never gives NOT_ALLOWED. */
+/* Why a reference stayed. One that has both a byte that is no digit and too large a number has NO_DIGIT. */
 enum lintelrye_reason {
     LINTELRYE_NO_END = 1,       /* there is no `;` before the next `&` or the end */
     LINTELRYE_EMPTY = 2,        /* its body is empty: `&;`, `&#;`, `&#x;` or `&#X;` */
@@ -145,8 +145,9 @@ lintelrye_answer lintelrye_take(uint32_t context, const uint8_t *text, size_t te
 /* take as a borrowing call. */
 lintelrye_answer lintelrye_take_borrowing(uint32_t context, const uint8_t *text, size_t text_length, uint8_t *output, size_t output_length);
 
-/* browse: as decode in contexts 0 to 6, but every numeric reference is replaced, as in a browser: 0, surrogates and numbers above 10FFFF hex by U+FFFD,
- * 27 numbers from 80 to 9F hex by the character that windows-1252 has there (&#150; by an en dash), and every other number by its character. */
+/* browse, contexts 0 to 6: undoes character references as a browser does, by the HTML Standard. The longest name counts, 106 names need no `;`, and
+ * any other byte ends a number. In 2, 3, 4 and 6 (attributes) a name without `;` stays before `=` or an ASCII letter or digit; 0, 1 and 5 are text. Of
+ * the numbers 0, surrogates and those above 10FFFF hex give U+FFFD, and 27 from 80 to 9F hex the character that windows-1252 has there. */
 lintelrye_answer lintelrye_browse(uint32_t context, const uint8_t *text, size_t text_length, uint8_t *output, size_t output_length);
 
 /* browse as a borrowing call. */

@@ -1,16 +1,18 @@
 #!/usr/bin/env python3
-"""Writes the number tables of the crates names_upper and names_lower from the readable entries of crates/rules/specs/Names.antt.
+"""Writes the number tables of the crates names_upper and names_lower from the readable entries of crates/rules/specs/Names.antt, and that of names_bare from
+them and the names of Bare.antt.
 
-    tools/make_names.py           write src/lib.rt of both crates and the proof of each of its functions
+    tools/make_names.py           write the tables of the three crates and the proof of each function that has one
     tools/make_names.py --check   write nothing; fail if a file is not what would be written
 
-Nothing rests on this script: the check of the two crates compares every number with the entries."""
+Nothing rests on this script: the check of the crates compares every number with the entries."""
 import re
 import sys
 from pathlib import Path
 
 ROOT = Path(__file__).resolve().parent.parent
 ENTRIES = ROOT / "crates/rules/specs/Names.antt"
+BARE = ROOT / "crates/rules/specs/Bare.antt"
 
 # The groups of each crate, by their first and last letters: few enough for the check, and small enough to be laid out anew at each look-up, of which the
 # largest is the deepest stack of the library.
@@ -31,7 +33,108 @@ ghost use Rattle.names_search.specs.Starting.{{starting}};
 use rules::Meaning;
 """
 
-GROUP = """
+BARE_CODE = """\
+// Made by tools/make_names.py from crates/rules/specs/Bare.antt and Names.antt; not to be edited.
+// The names without `;` as numbers: a name's bytes, the first highest, and behind them three bits that say how many they are.
+ghost use mathlib.Core.Bool.{{false}};
+ghost use mathlib.Core.Path.{{_≡_}};
+ghost use Rattle.rules.specs.Bytes.{{In}};
+ghost use Rattle.names_bare.specs.Words.{{words, charFor, heads}};
+
+// Reports whether the first two bytes of a text may begin such a name. Most references that stay end here.
+pub fn begins(head: u64) -> bool
+    ensures {{ λ r. ⌜ (r ≡ false → In head heads → ⊥) ⌝ }}
+{{
+    match head {{
+{heads}
+        _ => false,
+    }}
+}}
+
+// Returns the number of the character that such a name stands for, 0 for any other number.
+pub fn character(word: u64) -> u32
+    ensures {{ λ r. ⌜ r ≡ charFor words word ⌝ }}
+{{
+    match word {{
+{arms}
+        _ => 0,
+    }}
+}}
+"""
+
+BARE_WORDS = """\
+-- Made by tools/make_names.py from crates/rules/specs/Bare.antt and Names.antt; not to be edited.
+-- The names without `;` as numbers, each with the number of the character that it stands for, and the first two bytes of each. That they are those of the
+-- tables is computed (proofs/Words.antt). Assumes nothing.
+use mathlib.Core.Bool.{{cond}}
+use mathlib.Core.List.{{List, [], _∷_}}
+use Prim.Native.Nat.{{ℕ}}
+use lib.Dec.{{eqb}}
+
+-- The number beside n in a table of pairs, or 0 where it is in none.
+abbrev pub charFor : List (ℕ × ℕ) → ℕ → ℕ
+charFor [] n = 0
+charFor (pair ∷ pairs) n = cond (eqb n (pair .0)) (pair .1) (charFor pairs n)
+
+-- The names.
+unfoldable pub words : List (ℕ × ℕ)
+words =
+    {words}
+    ∷ []
+
+-- Their first two bytes.
+unfoldable pub heads : List ℕ
+heads =
+    {heads}
+    ∷ []
+"""
+
+BARE_PROOF = """\
+-- `names_bare::table::character` meets its contract: each name is one arm, and a number of none of them stands for none.
+-- Made by tools/make_names.py. Assumes nothing.
+use mathlib.Core.Path.{{sym}}
+use mathlib.Core.List.{{map}}
+use Prim.Native.Nat.{{ℕ}}
+use Rattle.names_bare.specs.Words.{{words}}
+use Rattle.names_bare.proofs.Arms.{{rest-none, char-out}}
+use Rattle.names_bare.proofs.table.character.Statement.{{statement}}
+use Rattle.names_bare.proofs.table.character.Tie as tie
+
+{arms}
+{rest} : tie.Need-{rest}
+unfolding words
+{rest} c = let n = c .before .args .word in sym (char-out words n (rest-none n _ (map (λ (pair : ℕ × ℕ). pair .0) words) (c .match .rest)))
+
+pub character-spec : {{M : Type 1}} → statement M
+character-spec =
+    tie.close
+    (tie.spec
+{names})
+"""
+
+HEADS_PROOF = """\
+-- `names_bare::table::begins` meets its contract: each head is one arm, and the last arm knows that it is none of them.
+-- Made by tools/make_names.py. Assumes nothing.
+use mathlib.Core.Path.{{subst}}
+use lib.Dec.{{T}}
+use Rattle.names_bare.specs.Words.{{heads}}
+use Rattle.names_bare.proofs.Arms.{{rest-none}}
+use Rattle.names_bare.proofs.table.begins.Statement.{{statement}}
+use Rattle.names_bare.proofs.table.begins.Tie as tie
+
+{arms}
+{rest} : tie.Need-{rest}
+unfolding heads
+{rest} c = λ e. rest-none (c .before .args .head) _ heads (c .match .rest)
+
+pub begins-spec : {{M : Type 1}} → statement M
+begins-spec =
+    tie.close
+    (tie.spec
+{names})
+"""
+
+TABLES = """
 const {const}_NAMES: [u8; {size}] = *b"\\
 {names}";
 
@@ -42,10 +145,88 @@ const {const}_OFFSETS: [u16; {places}] = [
 const {const}_VALUES: [u64; {count}] = [
 {values}
 ];
+"""
 
+GROUP = TABLES + """
 // What `name` stands for among the names that begin with {letters}.
 pub fn {function}(name: &[u8]) -> Meaning
     ensures {{ λ r. ⌜ meaningBytes r ≡ lookup (starting ({low}, {high}) names) (now (name .entry)) ⌝ }}
+{{
+    names_search::find(name, &{const}_NAMES, &{const}_OFFSETS, &{const}_VALUES)
+}}
+"""
+
+PROOF = """\
+-- `names_bare::table::character` meets its contract: each name is one arm, and a number of none of them stands for none.
+-- Made by tools/make_names.py. Assumes nothing.
+use mathlib.Core.Path.{{sym}}
+use mathlib.Core.List.{{map}}
+use Prim.Native.Nat.{{ℕ}}
+use Rattle.names_bare.specs.Words.{{words}}
+use Rattle.names_bare.proofs.Arms.{{rest-none, char-out}}
+use Rattle.names_bare.proofs.table.character.Statement.{{statement}}
+use Rattle.names_bare.proofs.table.character.Tie as tie
+
+{arms}
+{rest} : tie.Need-{rest}
+unfolding words
+{rest} c = let n = c .before .args .word in sym (char-out words n (rest-none n _ (map (λ (pair : ℕ × ℕ). pair .0) words) (c .match .rest)))
+
+pub character-spec : {{M : Type 1}} → statement M
+character-spec =
+    tie.close
+    (tie.spec
+{names})
+"""
+
+HEADS_PROOF = """\
+-- `names_bare::table::begins` meets its contract: each head is one arm, and the last arm knows that it is none of them.
+-- Made by tools/make_names.py. Assumes nothing.
+use mathlib.Core.Path.{{subst}}
+use lib.Dec.{{T}}
+use Rattle.names_bare.specs.Words.{{heads}}
+use Rattle.names_bare.proofs.Arms.{{rest-none}}
+use Rattle.names_bare.proofs.table.begins.Statement.{{statement}}
+use Rattle.names_bare.proofs.table.begins.Tie as tie
+
+{arms}
+{rest} : tie.Need-{rest}
+unfolding heads
+{rest} c = λ e. rest-none (c .before .args .head) _ heads (c .match .rest)
+
+pub begins-spec : {{M : Type 1}} → statement M
+begins-spec =
+    tie.close
+    (tie.spec
+{names})
+"""
+
+TABLES = """
+const {const}_NAMES: [u8; {size}] = *b"\\
+{names}";
+
+const {const}_OFFSETS: [u16; {places}] = [
+{offsets}
+];
+
+const {const}_VALUES: [u64; {count}] = [
+{values}
+];
+"""
+
+GROUP = TABLES + """
+// What `name` stands for among the names that begin with {letters}.
+pub fn {function}(name: &[u8]) -> Meaning
+    ensures {{ λ r. ⌜ meaningBytes r ≡ lookup (starting ({low}, {high}) names) (now (name .entry)) ⌝ }}
+{{
+    names_search::find(name, &{const}_NAMES, &{const}_OFFSETS, &{const}_VALUES)
+}}
+"""
+
+BARE_GROUP = TABLES + """
+// What `name` stands for among the names without `;`.
+pub fn {function}(name: &[u8]) -> Meaning
+    ensures {{ λ r. ⌜ meaningBytes r ≡ lookup (map withoutEnd bare) (now (name .entry)) ⌝ }}
 {{
     names_search::find(name, &{const}_NAMES, &{const}_OFFSETS, &{const}_VALUES)
 }}
@@ -102,6 +283,34 @@ def lines_of(words, width):
     return "\\\n".join("    " + line for line in lines)
 
 
+def returns(count):
+    """What the returns of a function are called in its proof."""
+    return ["returns" + (f"-{k}" if k > 1 else "") for k in range(1, count + 1)]
+
+
+def bare_of(rows):
+    """The names without `;`: the code, the definitions that it is held to, and the proofs of the two functions with an arm for each."""
+    words = [(int.from_bytes(name.encode(), "big") * 8 + len(name), ord(value.decode()), name) for name, value in rows]
+    heads = sorted({word >> 8 * (len(name) - 2) + 3 for word, _, name in words})
+    names = returns(len(words) + 1)
+    begins = returns(len(heads) + 1)
+    arms = [f"{name} : tie.Need-{name}\nunfolding words\n{name} c = rw (c .match .keys{k + 1})\n" for k, name in enumerate(names[:-1])]
+    code = BARE_CODE.format(heads="\n".join(f"        0x{head:X} => true," for head in heads), arms="\n".join(f"        0x{word:X} => 0x{value:X}, // {name}" for word, value, name in words))
+    specs = BARE_WORDS.format(
+        words="\n    ∷ ".join(f"(0x{word:X}, 0x{value:X})" for word, value, _ in words),
+        heads="\n    ∷ ".join(f"0x{head:X}" for head in heads),
+    )
+    proofs = {
+        "character": BARE_PROOF.format(arms="\n".join(arms), rest=names[-1], names="\n".join("    " + name for name in names)),
+        "begins": HEADS_PROOF.format(
+            arms="\n".join(f"{name} : tie.Need-{name}\n{name} c = λ e. absurd (subst T e tt)\n" for name in begins[:-1]),
+            rest=begins[-1],
+            names="\n".join("    " + name for name in begins),
+        ),
+    }
+    return code, specs, proofs
+
+
 def group_of(crate, first, last, rows):
     """The code of one group, the name of its function, and its proof."""
     one = first == last
@@ -138,6 +347,13 @@ def files():
             code += group
             made[folder / "proofs" / function / "Proof.antt"] = proof
         made[folder / "src/lib.rt"] = code
+    values = dict(table)
+    folder = ROOT / "crates/names_bare"
+    code, specs, proofs = bare_of([(name, values[name]) for name in re.findall(r'ascii "(\w+)"', BARE.read_text(encoding="utf-8"))])
+    made[folder / "src/table.rt"] = code
+    made[folder / "specs/Words.antt"] = specs
+    for function, proof in proofs.items():
+        made[folder / "proofs/table" / function / "Proof.antt"] = proof
     return made
 
 

@@ -1,6 +1,7 @@
 //! What the programs beside the crate share: the library's calls as its archive exports them, the crate's functions by context, what each
 //! call is to answer, and a generator of numbers with a fixed seed.
 
+pub mod browser;
 pub mod json;
 pub mod model;
 #[cfg(feature = "archive")]

@@ -1,11 +1,15 @@
-//! What each call is to answer, worked out from the crate html-escape, from `std::str::from_utf8` and from docs/RULES.md. The crate gives no count of
-//! replaced places: that is counted here, by the rules' own division of the text. Nothing here calls the library.
+//! What each call is to answer, worked out from the crate html-escape, from `std::str::from_utf8`, from the HTML Standard's states (browser.rs) and from
+//! docs/RULES.md. The crate gives no count of replaced places: that is counted here, by the rules' own division of the text. Nothing here calls the library.
 
+use crate::browser::Browser;
 use crate::{json, lending_encoder, Answer, Checked, Field, Filled, Operation, CRATE_DECODERS, CRATE_ENCODERS, CRATE_LENDING_DECODERS};
 use std::borrow::Cow;
 
 /// The number of the context json, which the crate has not.
 const JSON: u32 = 14;
+
+/// The contexts in which browse reads a text as the value of an attribute: double_quoted, single_quoted, quoted, unquoted.
+const ATTRIBUTES: [usize; 4] = [2, 3, 4, 6];
 
 /// The longest text that a call takes.
 pub const LONGEST: usize = 65_536;
@@ -77,11 +81,13 @@ pub fn has_context(operation: Operation, context: u32) -> bool {
 /// The model: the crate's functions and those of json.rs, and the units of every context's forms, taken from the encoders; script_raw has none.
 pub struct Model {
     units: Vec<Option<Units>>,
+    browser: Browser,
 }
 
 impl Model {
     pub fn new() -> Model {
-        Model { units: (0..15).map(|context| has_context(Operation::Read, context).then(|| Units::of_context(context))).collect() }
+        let units = (0..15).map(|context| has_context(Operation::Read, context).then(|| Units::of_context(context))).collect();
+        Model { units, browser: Browser::new() }
     }
 
     /// What the call on a page leaves, by single calls: each record with its answer, the bytes of the output, and what the call answers.
@@ -137,8 +143,8 @@ impl Model {
             Operation::Decode => self.decode(context, text),
             Operation::Read => self.units(context).read(text),
             Operation::Browse => {
-                let (result, replaced) = references(text, browsed);
-                Outcome::passed(result.into_bytes(), replaced, first_left(text, browsed))
+                let (result, taken) = self.browser.read(text, ATTRIBUTES.contains(&context));
+                Outcome::passed(result.into_bytes(), taken, (0, 0))
             }
         }
     }
@@ -167,12 +173,12 @@ impl Model {
     fn decode(&self, context: usize, text: &str) -> Outcome {
         let decoded = of_crate(CRATE_LENDING_DECODERS[context](text), text, CRATE_DECODERS[context]);
         let (result, replaced) = match context {
-            0..=6 => references(text, decoded_reference),
+            0..=6 => references(text),
             7..=9 => self.units(context).unescape(text, "script"),
             _ => self.units(context).unescape(text, "style"),
         };
         assert!(result.as_bytes() == decoded.result, "the places that the rules replace do not make the crate's result of {:?}", text);
-        let left = if context <= 6 { first_left(text, decoded_reference) } else { (0, 0) };
+        let left = if context <= 6 { first_left(text) } else { (0, 0) };
         decoded.counted(replaced, left)
     }
 }
@@ -285,8 +291,8 @@ fn closes(rest: &str, element: &str) -> bool {
     bytes.len() > end && bytes[0] == b'/' && bytes[1..end].eq_ignore_ascii_case(element.as_bytes()) && matches!(bytes[end], 9..=13 | 28..=32 | b'/' | b'>')
 }
 
-/// References are found by RULES 10.1, and each that stands for another text is replaced. Gives the result, and how many are replaced.
-fn references(text: &str, meaning: fn(&str) -> Cow<'_, str>) -> (String, u64) {
+/// decode: references are found by RULES 10.1, and each that stands for another text is replaced. Gives the result, and how many are replaced.
+fn references(text: &str) -> (String, u64) {
     let mut result = String::new();
     let mut replaced = 0;
     let mut rest = text;
@@ -304,7 +310,7 @@ fn references(text: &str, meaning: fn(&str) -> Cow<'_, str>) -> (String, u64) {
         }
         let reference = &rest[..=end];
         rest = &rest[end + 1..];
-        let meant = meaning(reference);
+        let meant = decoded_reference(reference);
         replaced += matches!(meant, Cow::Owned(_)) as u64;
         result.push_str(&meant);
     }
@@ -313,11 +319,11 @@ fn references(text: &str, meaning: fn(&str) -> Cow<'_, str>) -> (String, u64) {
 }
 
 /// Place and reason of the first `&` that begins no reference which is replaced: RULES 10.7, read `&` by `&`.
-fn first_left(text: &str, meaning: fn(&str) -> Cow<'_, str>) -> (u64, u64) {
+fn first_left(text: &str) -> (u64, u64) {
     for (place, _) in text.match_indices('&') {
         let after = &text[place + 1..];
         let reason = match after.find(|c| c == '&' || c == ';') {
-            Some(end) if after.as_bytes()[end] == b';' => match meaning(&text[place..place + end + 2]) {
+            Some(end) if after.as_bytes()[end] == b';' => match decoded_reference(&text[place..place + end + 2]) {
                 Cow::Owned(_) => continue,
                 Cow::Borrowed(_) => reason_of(&after[..end]),
             },
@@ -348,31 +354,7 @@ fn reason_of(body: &str) -> u64 {
     }
 }
 
-/// What a browser takes the numbers from 80 to 9F hex for: the bytes of windows-1252, and the control character for the five that it leaves free.
-const WINDOWS: [char; 32] = [
-    '€', '\u{81}', '‚', 'ƒ', '„', '…', '†', '‡', 'ˆ', '‰', 'Š', '‹', 'Œ', '\u{8D}', 'Ž', '\u{8F}', //
-    '\u{90}', '‘', '’', '“', '”', '•', '–', '—', '˜', '™', 'š', '›', 'œ', '\u{9D}', 'ž', 'Ÿ',
-];
-
 /// What decode takes one reference for, from its `&` to its `;`: what the crate's decoder does.
 fn decoded_reference(reference: &str) -> Cow<'_, str> {
     CRATE_LENDING_DECODERS[0](reference)
-}
-
-/// What browse takes one for: names are the crate's decode, numbers are RULES 10.5.
-fn browsed(reference: &str) -> Cow<'_, str> {
-    let body = &reference[1..reference.len() - 1];
-    let (digits, base) = match digits_of(body) {
-        Some(digits) => digits,
-        None => return CRATE_LENDING_DECODERS[0](reference),
-    };
-    if digits.is_empty() || !digits.chars().all(|c| c.is_digit(base)) {
-        return Cow::Borrowed(reference);
-    }
-    let number = digits.chars().fold(0, |n: u32, c| (n * base + c.to_digit(base).unwrap()).min(0x11_0000));
-    let meant = match number {
-        0x80..=0x9F => WINDOWS[number as usize - 0x80],
-        _ => char::from_u32(number).filter(|&c| c != '\0').unwrap_or('\u{FFFD}'),
-    };
-    Cow::Owned(meant.to_string())
 }

@@ -115,7 +115,7 @@ pub struct Written<'a> {
     left: Option<Left>,
 }
 
-/// A reference that [`decode`] or [`browse`] left as it stands: where its `&` is in the text, and why.
+/// A reference that [`decode`] left as it stands: where its `&` is in the text, and why.
 #[derive(Clone, Copy, Debug, PartialEq, Eq)]
 pub struct Left {
     /// The place of the `&` in the text.
@@ -124,7 +124,7 @@ pub struct Left {
     pub reason: Reason,
 }
 
-/// Why a reference stayed. `NoDigit` goes before `NotAllowed`, and [`browse`] never gives `NotAllowed`.
+/// Why a reference stayed in [`decode`]. `NoDigit` goes before `NotAllowed`.
 #[derive(Clone, Copy, Debug, PartialEq, Eq)]
 pub enum Reason {
     /// There is no `;` before the next `&` or the end of the text.
@@ -176,7 +176,7 @@ impl<'a> Written<'a> {
         self.replaced
     }
 
-    /// The first reference that [`decode`] or [`browse`] left as it stands, with its place in the text and the reason.
+    /// The first reference that [`decode`] left as it stands, with its place in the text and the reason; [`browse`] tells none.
     ///
     /// ```
     /// use lintelrye::{Left, Reason};
@@ -334,14 +334,18 @@ pub fn check<T: ?Sized + AsRef<[u8]>>(context: Context, text: &T) -> Result<usiz
 }
 
 operation! {
-    /// As [`decode`] in the first seven contexts, but every numeric reference is replaced, as in a browser: 0, surrogates and numbers above 10FFFF hex by
-    /// U+FFFD, 27 numbers from 80 to 9F hex by the character that windows-1252 has there, and every other number by its character.
+    /// Undoes character references as a browser does, by the HTML Standard, in the first seven contexts. The longest name counts, 106 names need no `;`,
+    /// and any other byte ends a number. In the four contexts of attributes a name without `;` stays before `=` or an ASCII letter or digit;
+    /// [`Context::TextMinimal`], [`Context::Text`] and [`Context::Safe`] are text. The numbers 0, surrogates and those above 10FFFF hex give U+FFFD, and
+    /// 27 from 80 to 9F hex the character that windows-1252 has there.
     ///
     /// ```
     /// use lintelrye::{browse, Context};
     /// let mut line = [0; 16];
     /// assert_eq!(browse(Context::Text, "&#0;", &mut line)?, "\u{FFFD}");
     /// assert_eq!(browse(Context::Text, "&#150;", &mut line)?, "\u{2013}");
+    /// assert_eq!(browse(Context::Text, "&copy2019", &mut line)?, "\u{A9}2019");
+    /// assert_eq!(browse(Context::DoubleQuoted, "&copy2019", &mut line)?, "&copy2019");
     /// # Ok::<(), lintelrye::Refusal>(())
     /// ```
     browse browse_borrowing

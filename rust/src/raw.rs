@@ -15,7 +15,7 @@ pub struct Answer {
     pub replaced: u64,
     /// After [`NOT_UTF8`], [`CUT_SHORT`] and [`NOT_A_FORM`] the length of the longest correct prefix; otherwise 0.
     pub place: u64,
-    /// decode and browse in the HTML contexts: the place of the `&` of the first reference that stayed; 0 if none did, and after a refusal.
+    /// decode in the HTML contexts: the place of the `&` of the first reference that stayed; 0 if none did, and after a refusal.
     pub left: u64,
     /// Why it stayed, 1 to 5, see [`Reason`](crate::Reason); 0 if none did, in every other call, and after a refusal.
     pub reason: u64,

@@ -289,8 +289,7 @@ fn the_first_reference_that_stays_is_told() {
         for call in [copying, borrowing] {
             assert_eq!(call(Context::Text, text.as_bytes(), &mut [0; 64]).unwrap().left(), left);
         }
-        let browsed = lintelrye::browse(Context::Text, text, &mut [0; 64]).unwrap().left();
-        assert_eq!(browsed, left.filter(|_| reason != Reason::NotAllowed));
+        assert_eq!(lintelrye::browse(Context::Text, text, &mut [0; 64]).unwrap().left(), None);
     }
     assert_eq!(lintelrye::decode(Context::ScriptQuoted, "&;", &mut [0; 64]).unwrap().left(), None);
     assert_eq!(lintelrye::decode(Context::Text, "&lt;", &mut [0; 64]).unwrap().left(), None);

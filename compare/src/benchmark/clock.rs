@@ -1,7 +1,8 @@
 //! Measuring: four passes over the same texts, in rounds that interleave them, and the median of each.
 
 use crate::texts::{Case, Kind, FORTY};
-use compare::{check, closing_tag, fill_page, parts, Answer, Call, Closing, Field, Filled, ToVec};
+use compare::browser::Browser;
+use compare::{check, closing_tag, fill_page, parts, Answer, Call, Closing, Field, Filled, Operation, ToVec};
 use std::arch::asm;
 use std::str::from_utf8;
 use std::time::Duration;
@@ -103,7 +104,8 @@ fn compare_pages(case: &Case, rooms: &mut Rooms) -> Result<(), String> {
     Ok(())
 }
 
-/// Whether both sides give the same bytes for every text of the case; the words say where they do not. closing_tag, which the crate does not have, has to
+/// Whether both sides give the same bytes for every text of the case; the words say where they do not. browse has to give what the HTML Standard's states
+/// do; closing_tag, which the crate does not have, has to
 /// read every text to its end.
 pub fn compare(case: &Case, rooms: &mut Rooms) -> Result<(), String> {
     if case.kind == Kind::Closing {
@@ -113,7 +115,7 @@ pub fn compare(case: &Case, rooms: &mut Rooms) -> Result<(), String> {
     if case.kind == Kind::Page {
         return compare_pages(case, rooms);
     }
-    let (call, others) = (Call::find(case.operation, case.kind == Kind::Borrowing), case.others());
+    let (call, others, browser) = (Call::find(case.operation, case.kind == Kind::Borrowing), case.others(), Browser::new());
     for (i, text) in case.texts.iter().enumerate() {
         // No result has this byte: what an earlier text left cannot pass for this one's result.
         rooms.ours[..6 * text.len()].fill(0xFF);
@@ -132,10 +134,13 @@ pub fn compare(case: &Case, rooms: &mut Rooms) -> Result<(), String> {
         }
         let borrowed = case.kind == Kind::Borrowing && answer.same == 1;
         let ours = if borrowed { text.as_bytes() } else { &rooms.ours[..answer.length as usize] };
-        let expected = case.expected(i, &others[i]);
+        let expected = match case.operation {
+            Operation::Browse => browser.read(text, false).0.into_bytes(),
+            _ => case.expected(i, &others[i]),
+        };
         if ours != expected {
             let place = ours.iter().zip(&expected).take_while(|(one, other)| one == other).count();
-            return Err(format!("{}, text {}: from byte {} of the result on it is not what was expected", case.name(), i, place));
+            return Err(format!("{}, text {}: from byte {} of the result on it is not what it should be", case.name(), i, place));
         }
     }
     Ok(())

@@ -115,6 +115,8 @@ const CLASSES: &str = "\
 | English | `unquoted` alone: 64 KiB of English words with the spaces between them |
 | only `<!--`, only `</script>`, only `<` | script_raw alone: 64 KiB of that piece |
 | stray & | decode and browse: 64 KiB of English words in which 1 % of the pieces are `&` or `&bogus;`, which stay |
+| names without ; | browse alone: 64 KiB of the 106 names that need no `;`, a blank behind each; html-escape leaves them, so no limit is set beside it |
+| one long name, only `&a` | browse alone: an `&` and 65,535 letters, and 32,768 times `&a`; nothing is replaced, and each byte is to cost the same whatever the length |
 | in `closing_tag` | special are `<!--`, `-->`, `<script>`, `</scripts>`, `<` and `-`; escaped plain and escaped twice are plain text after `<!--` and `<!--<script>`, only `-` and only `<s` that piece after `<!--` |
 | numbers only, named only | decode and browse: 64 KiB of numeric references, or of names from the whole table; in strings, of the escapes with digits, or of the others |
 ";

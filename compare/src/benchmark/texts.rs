@@ -1,5 +1,6 @@
 //! The texts of the benchmark: for every operation and context the same classes, made by a generator with a fixed seed.
 
+use compare::browser::WITHOUT_END;
 use compare::{json, Numbers, Operation, ToVec, CONTEXTS, CRATE_DECODERS, CRATE_ENCODERS};
 
 /// The context json, which the crate has not, and the one of the crate's that its texts are made for: both escape the same characters.
@@ -176,6 +177,7 @@ impl Case {
             (Operation::Encode, _, _) => Some(1.5),
             (Operation::Decode, JSON, "plain") => Some(0.5),
             (Operation::Decode | Operation::Browse, _, "plain" | "stray &") => Some(1.0),
+            (Operation::Browse, _, "names without ;" | "one long name" | "only &a") => None,
             (Operation::Decode | Operation::Browse, _, _) => Some(2.0),
             (Operation::Read, _, _) => None,
         }
@@ -261,6 +263,12 @@ fn cases_of(operation: Operation, kind: Kind, context: usize) -> Vec<Case> {
     if matches!((operation, context), (Operation::Decode | Operation::Browse, 0..=6)) {
         let stray = ["&".to_string(), "&bogus;".to_string()];
         add("stray &", vec![fill(numbers, &english, &stray, 1, LONGEST)]);
+    }
+    if operation == Operation::Browse {
+        let bare: Vec<String> = WITHOUT_END.split(' ').map(|name| format!("&{} ", name)).collect();
+        add("names without ;", vec![fill(numbers, &english, &bare, 100, LONGEST)]);
+        add("one long name", vec![format!("&{}", "a".repeat(LONGEST - 1))]);
+        add("only &a", vec!["&a".repeat(LONGEST / 2)]);
     }
     all
 }

@@ -1,6 +1,7 @@
 //! Compares the library's speed with the crate's, both sides in one process.
-//!   compare/run benchmark [--crate PATH] [--quick] [--only WORD] [--instructions] [--write]
-//! --quick takes fewer rounds; --only takes the lines whose operation, context or class holds WORD; --write writes docs/BENCHMARKS.md and its
+//!   compare/run benchmark [--crate PATH] [--quick] [--only WORD] [--instructions] [--texts PATH] [--write]
+//! --quick takes fewer rounds; --only takes the lines whose operation, context or class holds WORD; --texts writes their texts to a file and measures
+//! nothing; --write writes docs/BENCHMARKS.md and its
 //! picture. --instructions counts the instructions of the x86-64 code under an emulator and times nothing; with --write it writes
 //! docs/INSTRUCTIONS.md. Each line of the table is an operation in a context on texts of a class. Both sides must give the same bytes there; where
 //! they do not, it ends with status 1.
@@ -54,8 +55,15 @@ fn options() -> Options {
             "--quick" => options.effort = Effort { rounds: 7, round: Duration::from_millis(1) },
             "--only" => options.only = words.next().unwrap_or_else(|| stop("--only needs a word")),
             "--instructions" => options.counter = Some(Counter::open().unwrap_or_else(|why| stop(&why))),
+            "--texts" => {
+                let path = words.next().unwrap_or_else(|| stop("--texts needs a path"));
+                let cases = texts::cases().into_iter().filter(|case| case.name().contains(&options.only));
+                let text: String = cases.flat_map(|case| case.texts).collect();
+                std::fs::write(&path, text).unwrap_or_else(|error| stop(&format!("{} cannot be written: {}", path, error)));
+                exit(0)
+            }
             "--write" => options.write = Some(std::env::var("LINTELRYE_ROOT").unwrap_or_else(|_| stop("--write works only through compare/run"))),
-            _ => stop(&format!("unknown word {}; known are --quick, --only WORD, --instructions, --write", word)),
+            _ => stop(&format!("unknown word {}; known are --quick, --only WORD, --instructions, --texts PATH, --write", word)),
         }
     }
     if options.write.is_some() && !options.only.is_empty() {

@@ -382,7 +382,8 @@ impl Run {
         }
     }
 
-    /// What the model itself must agree with: the encoding of what is read is the text, and browse is decode where there is no number.
+    /// What the model itself must agree with: the encoding of what is read is the text, and browse is decode where decode leaves no reference and there is
+    /// no number.
     fn cross_check(&mut self, operation: Operation, context: u32, text: &[u8], outcome: &Outcome) {
         if outcome.status != PASSED {
             return;
@@ -393,7 +394,7 @@ impl Run {
             assert!(lending_encoder(context)(meant) == text, "the model reads {:?}, and the crate does not write it so", text);
             self.read_back += 1;
         }
-        if operation == Operation::Browse && !text.contains("&#") {
+        if operation == Operation::Browse && !text.contains("&#") && self.model.outcome(Operation::Decode, context, text.as_bytes()).left.1 == 0 {
             assert!(CRATE_LENDING_DECODERS[context as usize](text).as_bytes() == outcome.result, "the model browses {:?} otherwise than decode", text);
             self.as_decoded += 1;
         }
@@ -433,7 +434,7 @@ impl Run {
         println!("beside each of the {} calls of read the check was made, and compared in status, length and place;", 2 * taken);
         println!("read with the units that the crate's encoders write, and {} times the crate wrote what was read back to the same text;", self.read_back);
         println!("{} texts were written as a script string into an attribute, as the crate writes them, and read back by decode and by take;", self.nested);
-        println!("browse with RULES 10.5 for numbers and the crate's decode of names, and {} times with the crate's decode alone", self.as_decoded);
+        println!("browse with the HTML Standard's states, and {} times with the crate's decode too, where that leaves no reference and there is no number", self.as_decoded);
     }
 }
 

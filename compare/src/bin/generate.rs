@@ -4,6 +4,7 @@
 //!   compare/run generate [--crate PATH]
 //! The format of a line is described at the top of crates/replay/src/main.rt.
 
+use compare::browser::WITHOUT_END;
 use compare::model::{Model, Outcome, LONGEST, PASSED};
 use compare::{lending_encoder, Numbers, Operation, CONTEXTS, OPERATIONS};
 use std::path::PathBuf;
@@ -234,6 +235,20 @@ fn names(list: &mut List) {
     }
 }
 
+/// The names that need no `;`, with what may follow them, in text and in attributes, and what only begins like one.
+fn bare_names(list: &mut List) {
+    list.remark("names without `;`, before the end, `;`, `=`, letters, digits and other characters: browse in text and in attributes");
+    let ends = ["", ";", "=1", "x", "7", " 2019", "&", "\u{E9}"];
+    for (i, name) in WITHOUT_END.split(' ').enumerate() {
+        for (j, end) in ends.iter().enumerate() {
+            list.cases(&[Browse], &[(i + j) as u32 % 7], format!("&{}{}", name, end).as_bytes(), Rooms::Turns);
+        }
+    }
+    for text in ["&notit;", "&notin;", "&notin", "&ampamp;", "&copy;=", "&copy=;", "&am", "&zwnj", "&lt&gt&amp", "&#65", "&#65x", "&#x41g", "&#65=", "&#0", "&#128", "&#", "&#x", "&#xg"] {
+        list.cases(&[Browse], &HTML, text.as_bytes(), Rooms::Turns);
+    }
+}
+
 /// Numeric references: small numbers, those that browse takes for others, the edges, signs, leading zeros, numbers past 32 and 64 bits.
 fn numbers(list: &mut List) {
     list.remark("numeric references");
@@ -248,6 +263,7 @@ fn numbers(list: &mut List) {
     bodies.extend(["#\u{664}", "#x\u{FF11}", "#99999999999999999999999999999999", "#xFFFFFFFFFFFFFFFFFFFFFFFFFFFFFFFF"].map(String::from));
     for (i, body) in bodies.iter().enumerate() {
         list.cases(&[Decode, Browse], &[i as u32 % 7], format!("&{};", body).as_bytes(), Rooms::Turns);
+        list.cases(&[Browse], &[(i + 1) as u32 % 7], format!("&{}", body).as_bytes(), Rooms::Turns);
     }
 }
 
@@ -373,7 +389,7 @@ fn damaged(list: &mut List) {
 
 fn main() {
     let mut list = List { model: Model::new(), lines: String::new(), result: Vec::new(), counts: [[0; 16]; 4], turn: 0 };
-    let sections = [characters, short_texts, names, numbers, tags, sequences_of_bytes, lengths, json_strings, refusals, damaged];
+    let sections = [characters, short_texts, names, bare_names, numbers, tags, sequences_of_bytes, lengths, json_strings, refusals, damaged];
     for section in sections {
         let (bytes, cases) = (list.lines.len(), list.total());
         section(&mut list);
