@@ -53,20 +53,36 @@ ascii-char b h =
     let q = le-leb b 127 (omega arith) in
     ((0x00, 0x7F) ∷ [], inl refl, subst T (sym (λ i. (p i && q i) && true)) tt, refl)
 
-module _ (o : Context) where
-  -- Bytes that a context gives back one by one are such a text.
-  given-free : (v : List ℕ) → T (all (givesBack o) v) → IsFree (undecoded o) v
-  given-free [] t = ([], tt, tt, refl)
-  given-free (b ∷ v) t =
-      let one = and-left (givesBack o b) (all (givesBack o) v) t in
-      let low = and-left (ltb b 128) (not (any (sameBytes (b ∷ [])) (undecoded o))) one in
-      let away = and-right (ltb b 128) (not (any (sameBytes (b ∷ [])) (undecoded o))) one in
-      let (cs, h, f, e) = given-free v (and-right (givesBack o b) (all (givesBack o) v) t) in (
-        (b ∷ []) ∷ cs,
-        (ascii-char b (ltb→lt b 128 low), h),
-        ((λ i. T-not (any (sameBytes (b ∷ [])) (undecoded o)) away (in-same (b ∷ []) (undecoded o) i)), f),
-        ap (λ (s : List ℕ). b ∷ s) e,
-      )
+-- ASCII bytes, none of them one of the bad characters, are such a text.
+pub ascii-free : (bad : List (List ℕ)) (v : List ℕ) → T (all (λ (b : ℕ). ltb b 128 && not (any (sameBytes (b ∷ [])) bad)) v) → IsFree bad v
+ascii-free bad [] t = ([], tt, tt, refl)
+ascii-free bad (b ∷ v) t =
+    let here : Bool = ltb b 128 && not (any (sameBytes (b ∷ [])) bad) in
+    let there : Bool = all (λ (b : ℕ). ltb b 128 && not (any (sameBytes (b ∷ [])) bad)) v in
+    let one = and-left here there t in
+    let low = and-left (ltb b 128) (not (any (sameBytes (b ∷ [])) bad)) one in
+    let away = and-right (ltb b 128) (not (any (sameBytes (b ∷ [])) bad)) one in
+    let (cs, h, f, e) = ascii-free bad v (and-right here there t) in (
+      (b ∷ []) ∷ cs,
+      (ascii-char b (ltb→lt b 128 low), h),
+      ((λ i. T-not (any (sameBytes (b ∷ [])) bad) away (in-same (b ∷ []) bad i)), f),
+      ap (λ (s : List ℕ). b ∷ s) e,
+    )
+
+-- A context that replaces each of the bad characters and writes none of them.
+module _ (bad : List (List ℕ)) (i : Context) (hidden : (a : List ℕ) → In a bad → In a (replacedChars i)) (spared : (row : Row) → In row (rows i) → IsFree bad (value row)) where
+  run-clear : (us : List Move) → IsRun i us → IsFree bad (taken us)
+  run-clear [] g = ([], tt, tt, refl)
+  run-clear (keep a ∷ us) g =
+      let (cs, h, f, e) = run-clear us (g .1) in
+      (a ∷ cs, (g .0 .0, h), ((λ j. g .0 .1 (hidden a j)), f), ap (λ (s : List ℕ). a ++ s) e)
+  run-clear (swap v k ∷ us) g = free-append bad v (taken us) (spared (k, v) (g .0)) (run-clear us (g .1))
+  run-clear (leave r a ∷ us) g = absurd (g .0)
+  run-clear (stop w ∷ us) g = absurd (g .0)
+
+  -- What it writes has none of them.
+  pub form-clear : (t : List ℕ) → IsText t → IsFree bad (encodeOf i t)
+  form-clear t h = let (us, g, e) = encode-any i t h in subst (IsFree bad) (sym e) (run-clear us g)
 
 -- ---- a pair of contexts, of which the outer one carries the inner one
 
@@ -75,21 +91,11 @@ module _ (o i : Context) (fits : T (carries o i)) where
   hidden a j = same-in a (replacedChars i) (all-in (λ (a : List ℕ). any (sameBytes a) (replacedChars i)) (undecoded o) (and-left (hides o i) (spares o i) fits) a j)
 
   spared : (row : Row) → In row (rows i) → IsFree (undecoded o) (value row)
-  spared row j = given-free o (value row) (all-in (λ (row : Row). all (givesBack o) (value row)) (rows i) (and-right (hides o i) (spares o i) fits) row j)
+  spared row j = ascii-free (undecoded o) (value row) (all-in (λ (row : Row). all (givesBack o) (value row)) (rows i) (and-right (hides o i) (spares o i) fits) row j)
 
-  -- What a run of the inner units takes has no character that outer decode does not give back.
-  run-carried : (us : List Move) → IsRun i us → IsFree (undecoded o) (taken us)
-  run-carried [] g = ([], tt, tt, refl)
-  run-carried (keep a ∷ us) g =
-      let (cs, h, f, e) = run-carried us (g .1) in
-      (a ∷ cs, (g .0 .0, h), ((λ j. g .0 .1 (hidden a j)), f), ap (λ (s : List ℕ). a ++ s) e)
-  run-carried (swap v k ∷ us) g = free-append (undecoded o) v (taken us) (spared (k, v) (g .0)) (run-carried us (g .1))
-  run-carried (leave r a ∷ us) g = absurd (g .0)
-  run-carried (stop w ∷ us) g = absurd (g .0)
-
-  -- Nor has what the inner context writes.
+  -- What the inner context writes has no character that outer decode does not give back.
   pub inner-carried : (t : List ℕ) → IsText t → IsFree (undecoded o) (encodeOf i t)
-  inner-carried t h = let (us, g, e) = encode-any i t h in subst (IsFree (undecoded o)) (sym e) (run-carried us g)
+  inner-carried = form-clear (undecoded o) i hidden spared
 
   -- Nor one that no outer form stands for.
   pub inner-read : (t : List ℕ) → IsText t → IsFree (unread o) (encodeOf i t)

@@ -27,7 +27,7 @@ use Rattle.rules.proofs.ScriptModes.{modes-agree}
 abbrev upperFits : ℕ → Bool
 upperFits b = not (between "A" "Z" b) || oneOf (anyCase (b + 32)) b
 
-case-fits : (b c : ℕ) → T (eqb (lower b) c) → T (oneOf (anyCase c) b)
+pub case-fits : (b c : ℕ) → T (eqb (lower b) c) → T (oneOf (anyCase c) b)
 case-fits b c t = go (between "A" "Z" b) refl t
   where
     upper : between "A" "Z" b ≡ true → T (upperFits b) → T (oneOf (anyCase (b + 32)) b)
@@ -106,7 +106,7 @@ module _ (b : ℕ) (s u : List ℕ) (m : marked b s ≡ false) where
 
 -- ---- the laws
 
-tally-zero : (m : Bool) (n : ℕ) → tally m n ≡ 0 → (m ≡ false) × (n ≡ 0)
+pub tally-zero : (m : Bool) (n : ℕ) → tally m n ≡ 0 → (m ≡ false) × (n ≡ 0)
 tally-zero true n e = absurd (suc-ne-zero n e)
 tally-zero false n e = (refl, e)
 
