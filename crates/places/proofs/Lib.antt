@@ -13,3 +13,4 @@ pub mod Nested
 pub mod Matrix
 pub mod Samples
 pub mod States
+pub mod Calls
