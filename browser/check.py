@@ -6,6 +6,7 @@ import sys
 
 import chromium
 import journey
+import matrix
 import references
 from library import CONTEXTS, Library
 from places import PLACES, Place
@@ -126,6 +127,7 @@ def main():
     check_references(tally, library, work)
     progress('%d of %d: journey log' % (len(CONTEXTS) + 2, len(CONTEXTS) + 2))
     check_journey(tally, library, work, image)
+    matrix.check(tally, lambda *words: seen(work, *words), predict, library, typed, progress)
     sys.exit(1 if tally.show() else 0)
 
 

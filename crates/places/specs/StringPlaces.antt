@@ -63,21 +63,39 @@ letterEscapes =
 abbrev pub separators : List (List ℕ)
 separators = utf8 0x2028 ∷ utf8 0x2029 ∷ []
 
--- What a `\` begins: line continuations, hex and Unicode escapes, octal ones (B.1.2), single letters; any other character is itself.
-abbrev pub scriptEscapes : List Entry
-scriptEscapes =
+-- What a `\` begins in strings and templates: line continuations, hex and Unicode escapes.
+abbrev pub numberedEscapes : List Entry
+numberedEscapes =
     map (λ (end : List ℕ). standFor (92 ∷ end) []) ((13 ∷ 10 ∷ []) ∷ (10 ∷ []) ∷ (13 ∷ []) ∷ separators)
     ++ (exactly (ascii "\\x") ++ times 2 hexDigits, means 4 (λ (s : List ℕ). utf8 (hexOf (drop 2 s))))
     ∷ unicode
     ++ map braced (1 ∷ 2 ∷ 3 ∷ 4 ∷ 5 ∷ 6 ∷ [])
     ++ (ascii "\\" ∷ ascii "xu" ∷ [], leaves)
-    ∷ (ascii "\\" ∷ ascii "0123" ∷ times 2 octalDigits, means 4 octalChar)
+    ∷ []
+
+-- Octal escapes, in strings only (B.1.2).
+abbrev pub octalEscapes : List Entry
+octalEscapes =
+    (ascii "\\" ∷ ascii "0123" ∷ times 2 octalDigits, means 4 octalChar)
     ∷ (ascii "\\" ∷ times 2 octalDigits, means 3 octalChar)
     ∷ (ascii "\\" ∷ times 1 octalDigits, means 2 octalChar)
-    ∷ map short letterEscapes
-    ++ (ascii "\\" ∷ anyByte ∷ [], means 2 (drop 1))
-    ∷ leftAt (ascii "\\")
     ∷ []
+
+-- A template has `\0` for NUL, where no digit follows, and no other escape with a digit.
+abbrev pub zeroEscape : List Entry
+zeroEscape =
+    (exactly (ascii "\\0") ++ bytes 48 57 ∷ [], leaves)
+    ∷ standFor (ascii "\\0") (0 ∷ [])
+    ∷ (ascii "\\" ∷ bytes 49 57 ∷ [], leaves)
+    ∷ []
+
+-- Single letters; any other character is itself; a `\` at the very end is none.
+abbrev pub characterEscapes : List Entry
+characterEscapes = map short letterEscapes ++ (ascii "\\" ∷ anyByte ∷ [], means 2 (drop 1)) ∷ leftAt (ascii "\\") ∷ []
+
+-- The escapes of a string.
+abbrev pub scriptEscapes : List Entry
+scriptEscapes = numberedEscapes ++ octalEscapes ++ characterEscapes
 
 -- A string literal in quotes q: it is left at the quote and at a line end.
 abbrev pub scriptString : ℕ → Place
@@ -93,7 +111,11 @@ scriptStringOld q = record {
 
 -- A template: it is left at the backtick and at `${`.
 abbrev pub template : Place
-template = record { references = none; entries = leftAt (ascii "`") ∷ (exactly (ascii "${"), leaves) ∷ lineEnds ++ scriptEscapes; never = [] }
+template = record {
+  references = none;
+  entries = leftAt (ascii "`") ∷ (exactly (ascii "${"), leaves) ∷ lineEnds ++ numberedEscapes ++ zeroEscape ++ characterEscapes;
+  never = [];
+}
 
 -- ---- CSS
 
