@@ -1,4 +1,4 @@
-"""The matrix of contexts and places (crates/places/specs/Matrix.antt) beside Chromium: each cell on the texts, and the samples of each place.
+"""The matrix of contexts and places (crates/contained/specs/Matrix.antt) beside Chromium: each cell on the texts, and the samples of each place.
 
 A cell that holds must do so on every text, with no difference but the exceptions of the law; one that alters must keep every text in its place, and change
 the text that it names; one that breaks must do so on the text that it names, and on no shorter one of the texts."""

@@ -1,5 +1,5 @@
 #!/usr/bin/env python3
-"""Which context goes where: reads the table of crates/places/specs/Matrix.antt, and prints it for the papers.
+"""Which context goes where: reads the table of crates/contained/specs/Matrix.antt, and prints it for the papers.
 
     tools/places_table.py             as a table of Markdown, for README.md
     tools/places_table.py --rust      the same in the documentation of rust/src/lib.rs
@@ -51,14 +51,14 @@ def contexts():
 def matrix():
     """Each place by its name, and for each context in their order its verdict: a word and, of `holds`, the exceptions' mark, otherwise the text."""
     lines, count = {}, len(contexts())
-    body = re.sub(r'(?m)^ *--.*', '', spec('places/specs/Matrix.antt').split('\nmatrix =\n')[1])
+    body = re.sub(r'(?m)^ *--.*', '', spec('contained/specs/Matrix.antt').split('\nmatrix =\n')[1])
     for name, cells in re.findall(r'line (\w+) \((.*?)∷ \[\]\s*\)', body, re.S):
         found = re.findall(r'holds (\[\]|\w+)|(alters|breaks) \(((?:ascii "(?:\\.|[^"\\])*"|[^()"])*)\)', cells)
         lines[name] = [('holds', EXCEPTIONS[bad]) if bad else (word, bytes_of(term).decode()) for bad, word, term in found]
         if len(found) != count:
-            sys.exit('crates/places/specs/Matrix.antt: %s has %d verdicts for %d contexts' % (name, len(found), count))
+            sys.exit('crates/contained/specs/Matrix.antt: %s has %d verdicts for %d contexts' % (name, len(found), count))
     if list(lines) != list(PLACES):
-        sys.exit('crates/places/specs/Matrix.antt: its places are not those of tools/places_table.py')
+        sys.exit('crates/contained/specs/Matrix.antt: its places are not those of tools/places_table.py')
     return lines
 
 

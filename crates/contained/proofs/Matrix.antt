@@ -21,15 +21,15 @@ use Rattle.rules.specs.declared.Context.{Context}
 use Rattle.rules.specs.declared.AnyContext.{AnyContext}
 use Rattle.rules.specs.declared.AnyContext.the-variants.{Units, ScriptRaw, Unknown}
 use Rattle.rules.proofs.Tests.{and-left, and-right, or-cases, all-in}
 use Rattle.places.specs.Places.{Place, placeStep, begins, stage}
-use Rattle.places.specs.Matrix.{PlaceName, ElementText, TitleText, TextareaText, DoubleQuotedValue, SingleQuotedValue, UnquotedValue, ScriptElement, StyleElement, ScriptSingle, ScriptDouble, OldScriptSingle, OldScriptDouble, ScriptTemplate, StyleSingle, StyleDouble, JsonText, placeOf, endsOf, formOf, Stays, Holds, allowed, Verdict, holds, alters, breaks, Line, nulAndCr, matrix}
-use Rattle.places.proofs.Steps.{leavesAt}
-use Rattle.places.proofs.Judged.{staysIn, holdsBut}
-use Rattle.places.proofs.Contained.{contained, contained-text}
-use Rattle.places.proofs.Begins.{beginsIn, form-begins}
-use Rattle.places.proofs.Less.{lessFree, lessOnly, less-contained}
-use Rattle.places.proofs.Exact.{exactIn, held-exactly}
-use Rattle.places.proofs.RawContained.{raw-contained}
+use Rattle.contained.specs.Matrix.{PlaceName, ElementText, TitleText, TextareaText, DoubleQuotedValue, SingleQuotedValue, UnquotedValue, ScriptElement, StyleElement, ScriptSingle, ScriptDouble, OldScriptSingle, OldScriptDouble, ScriptTemplate, StyleSingle, StyleDouble, JsonText, placeOf, endsOf, formOf, Stays, Holds, allowed, Verdict, holds, alters, breaks, Line, nulAndCr, matrix}
+use Rattle.contained.proofs.Steps.{leavesAt}
+use Rattle.contained.proofs.Judged.{staysIn, holdsBut}
+use Rattle.contained.proofs.Contained.{contained, contained-text}
+use Rattle.contained.proofs.Begins.{beginsIn, form-begins}
+use Rattle.contained.proofs.Less.{lessFree, lessOnly, less-contained}
+use Rattle.contained.proofs.Exact.{exactIn, held-exactly}
+use Rattle.contained.proofs.RawContained.{raw-contained}
 
 -- ---- what is computed of one text
 

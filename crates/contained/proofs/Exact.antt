@@ -15,18 +15,18 @@ use Rattle.rules.specs.Utf8.{IsText}
 use Rattle.rules.specs.Tables.{Row, key, value, table, replacedChars}
 use Rattle.rules.specs.Units.{IsUnit}
 use Rattle.rules.specs.Operations.{encodeOf}
 use Rattle.places.specs.Places.{Effect, leaves, means, Entry, Place, entryAt, act, actOn, refers, placeStep, single, stage}
 use Rattle.rules.specs.declared.Context.{Context}
 use Rattle.rules.proofs.Tests.{and-left, and-right, and-both, or-cases, or-right, is-false, all-in, any-in, in-same}
 use Rattle.rules.proofs.Machine.{singly, result-singly}
 use Rattle.rules.proofs.Chars.{isTail, char-tails}
 use Rattle.rules.proofs.Every.{contexts}
 use Rattle.rules.proofs.Encoder.{encode-run, table-run}
-use Rattle.places.proofs.Steps.{prev-free, one-byte, result-append, leavesAt, left-there}
-use Rattle.places.proofs.Heads.{headHas, headsSingle, head-has, mild, mild-takes, quiet, quiet-keeps, no-amp, above, high-apart, char-case}
-use Rattle.places.proofs.Judged.{staysIn, holdsBut, stays-byte}
-use Rattle.places.proofs.Contained.{unit-held}
-use Rattle.places.proofs.Begins.{to-not}
+use Rattle.contained.proofs.Steps.{prev-free, one-byte, result-append, leavesAt, left-there}
+use Rattle.contained.proofs.Heads.{headHas, headsSingle, head-has, mild, mild-takes, quiet, quiet-keeps, no-amp, above, high-apart, char-case}
+use Rattle.contained.proofs.Judged.{staysIn, holdsBut, stays-byte}
+use Rattle.contained.proofs.Contained.{unit-held}
+use Rattle.contained.proofs.Begins.{to-not}
 
 -- ---- the same byte, before the same or another text
 

@@ -21,8 +21,8 @@ use Rattle.rules.specs.declared.Kind.{Kind}
 use Rattle.rules.specs.declared.Kind.the-variants.{InText, InAttribute}
 use Rattle.rules.proofs.Tests.{and-left, and-right, all-in, any-in, same-bytes}
 use Rattle.rules.proofs.Machine.{Makes}
 use Rattle.places.specs.Places.{Entry, Place, entryAt, actOn, refers, afterAmp, placeStep}
-use Rattle.places.proofs.Settled.{ampSettled, reference-settled}
+use Rattle.contained.proofs.Settled.{ampSettled, reference-settled}
 
 -- ---- a reference
 

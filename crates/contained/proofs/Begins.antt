@@ -18,9 +18,9 @@ use Rattle.rules.specs.declared.Context.{Context}
 use Rattle.rules.proofs.Tests.{and-left, and-right, all-in}
 use Rattle.rules.proofs.Chars.{sequence-pos}
 use Rattle.rules.proofs.Encoder.{encode-run, table-run}
 use Rattle.places.specs.Places.{Place, begins}
-use Rattle.places.proofs.Heads.{char-case, asciiSet, high-apart}
-use Rattle.places.proofs.Judged.{plainBytes, plain-byte}
+use Rattle.contained.proofs.Heads.{char-case, asciiSet, high-apart}
+use Rattle.contained.proofs.Judged.{plainBytes, plain-byte}
 
 pub to-not : (b : Bool) → (T b → ⊥) → T (not b)
 to-not true f = f tt

@@ -18,11 +18,11 @@ use Rattle.rules.proofs.Tests.{and-left, and-right, or-cases, is-false, same-by
 use Rattle.rules.proofs.Machine.{Follows, retrace, singly, taken-append, result-singly}
 use Rattle.rules.proofs.Chars.{taken-singles, char-singly}
 use Rattle.rules.proofs.Encoder.{encode-run, run-of, wide, table-run}
 use Rattle.places.specs.Places.{Place, placeStep}
-use Rattle.places.proofs.Steps.{prev-free, made-first, one-byte, result-append, steady, steady-moves, leavesAt, left-there}
-use Rattle.places.proofs.Heads.{mild-takes, quiet-keeps, char-case, tail-kept, lead-kept}
-use Rattle.places.proofs.Written.{meant, known, known-made}
-use Rattle.places.proofs.Judged.{staysIn, holdsBut, copiesIn, rowHolds, rowCopied, stays-high, stays-byte, stays-row, holds-unread, holds-byte, holds-row, copies-byte, copies-row}
+use Rattle.contained.proofs.Steps.{prev-free, made-first, one-byte, result-append, steady, steady-moves, leavesAt, left-there}
+use Rattle.contained.proofs.Heads.{mild-takes, quiet-keeps, char-case, tail-kept, lead-kept}
+use Rattle.contained.proofs.Written.{meant, known, known-made}
+use Rattle.contained.proofs.Judged.{staysIn, holdsBut, copiesIn, rowHolds, rowCopied, stays-high, stays-byte, stays-row, holds-unread, holds-byte, holds-row, copies-byte, copies-row}
 
 -- ---- through a run of units
 

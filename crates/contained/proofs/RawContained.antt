@@ -15,10 +15,10 @@ use Rattle.rules.specs.Operations.{rawOf}
 use Rattle.rules.proofs.Tests.{and-left, and-right, and-both, or-left, or-right, all-in, any-in}
 use Rattle.rules.proofs.RawAgain.{marked, marks, marks-cons, raw-quiet, lessFree}
 use Rattle.rules.proofs.RawCloses.{tally-zero}
 use Rattle.places.specs.Places.{Entry, placeStep, exactly}
 use Rattle.places.specs.HtmlPlaces.{endTag, scriptData}
-use Rattle.places.proofs.Steps.{prev-free, one-byte, left-there}
-use Rattle.places.proofs.Heads.{mild, mild-takes, exact-stands, none-kept}
+use Rattle.contained.proofs.Steps.{prev-free, one-byte, left-there}
+use Rattle.contained.proofs.Heads.{mild, mild-takes, exact-stands, none-kept}
 
 -- ---- patterns
 

@@ -21,11 +21,11 @@ use Rattle.rules.specs.declared.Context.{Context}
 use Rattle.rules.proofs.Tests.{and-left, and-right, and-both, or-left, or-right, or-false, is-false, all-in, any-in, first-sound}
 use Rattle.rules.proofs.ScriptModes.{modes-agree}
 use Rattle.rules.proofs.RawCloses.{case-fits}
 use Rattle.places.specs.Places.{leaves as leaving, Entry, placeStep, entryAt, act, actOn, exactly, nulReplaced, lineEnds}
 use Rattle.places.specs.HtmlPlaces.{endTag, scriptData}
-use Rattle.places.proofs.Steps.{one-byte}
-use Rattle.places.proofs.Heads.{no-amp}
-use Rattle.places.proofs.Less.{noLess, lessFree, form-less}
+use Rattle.contained.proofs.Steps.{one-byte}
+use Rattle.contained.proofs.Heads.{no-amp}
+use Rattle.contained.proofs.Less.{noLess, lessFree, form-less}
 
 -- ---- the end tag as a pattern, and as the states spell it
 

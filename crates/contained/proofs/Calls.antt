@@ -14,9 +14,9 @@ use Rattle.rules.specs.declared.AnyContext.{AnyContext}
 use Rattle.rules.specs.declared.AnyContext.the-variants.{Units, ScriptRaw, Unknown}
 use Rattle.rules.specs.declared.Operation.the-variants.{Encode}
 use Rattle.rules.proofs.Calls.{passed-given, passed-view}
-use Rattle.places.specs.Matrix.{ScriptElement, StyleElement, placeOf, formOf, Stays, Holds, allowed, holds, alters, Line, nul}
-use Rattle.places.proofs.Nested.{Keeps, Put, strings, attributes, in-script, in-style, in-value}
-use Rattle.places.proofs.Matrix.{Says, matrix-holds, matrix-stays, matrix-alters}
+use Rattle.contained.specs.Matrix.{ScriptElement, StyleElement, placeOf, formOf, Stays, Holds, allowed, holds, alters, Line, nul}
+use Rattle.contained.proofs.Nested.{Keeps, Put, strings, attributes, in-script, in-style, in-value}
+use Rattle.contained.proofs.Matrix.{Says, matrix-holds, matrix-stays, matrix-alters}
 
 -- A call of encode that passed on the text t, copying or borrowing: its answer, its output, and what view gives of them.
 pub record Encoded (n : AnyContext) (t : List ℕ) : Type 0 where

@@ -26,9 +26,9 @@ use Rattle.rules.proofs.Tests.{and-left, and-right, and-both, or-cases, or-fals
 use Rattle.rules.proofs.Chars.{isTail, char-tails}
 use Rattle.rules.proofs.Encoder.{encode-run, table-run}
 use Rattle.rules.proofs.Browsing.{Cases, reference-cases, reference-here}
 use Rattle.places.specs.Places.{Effect, leaves, means, single, Entry, Place, entryAt, act, actOn, refers, afterAmp, placeStep}
-use Rattle.places.proofs.Steps.{goes, prev-free, step-free, then-append, taken-then, leavesAt, left-there}
-use Rattle.places.proofs.Heads.{single-takes, char-case}
+use Rattle.contained.proofs.Steps.{goes, prev-free, step-free, then-append, taken-then, leavesAt, left-there}
+use Rattle.contained.proofs.Heads.{single-takes, char-case}
 
 -- No `<`.
 abbrev pub noLess : List ℕ → Bool

@@ -17,10 +17,10 @@ use Rattle.rules.specs.declared.Context.{Context}
 use Rattle.rules.specs.declared.Context.the-variants.{InHtml, InScript, InStyle, InJson}
 use Rattle.rules.proofs.Tests.{and-left, and-right, all-in, same-in}
 use Rattle.rules.proofs.Nested.{ascii-free, form-clear}
 use Rattle.places.specs.Places.{Place, placeStep}
-use Rattle.places.specs.Matrix.{PlaceName, DoubleQuotedValue, SingleQuotedValue, UnquotedValue, ScriptElement, StyleElement, ScriptSingle, ScriptDouble, StyleSingle, StyleDouble, JsonText, placeOf, nul, nulAndCr}
-use Rattle.places.proofs.Judged.{among, staysIn, holdsBut, copiesIn}
-use Rattle.places.proofs.Contained.{stays, holds}
+use Rattle.contained.specs.Matrix.{PlaceName, DoubleQuotedValue, SingleQuotedValue, UnquotedValue, ScriptElement, StyleElement, ScriptSingle, ScriptDouble, StyleSingle, StyleDouble, JsonText, placeOf, nul, nulAndCr}
+use Rattle.contained.proofs.Judged.{among, staysIn, holdsBut, copiesIn}
+use Rattle.contained.proofs.Contained.{stays, holds}
 
 -- ---- forms without some characters
 

@@ -10,8 +10,8 @@ use lib.ListN.{length}
 use Rattle.rules.specs.Moves.{Move, keep, swap, leave, stop, takes, gives, andThen, moves, through, taken, result}
 use Rattle.rules.proofs.Tests.{and-left, and-right}
 use Rattle.rules.proofs.Machine.{Makes, one-move}
 use Rattle.places.specs.Places.{Place, placeStep}
-use Rattle.places.proofs.Settled.{settled, step-settled}
+use Rattle.contained.proofs.Settled.{settled, step-settled}
 
 -- ---- the byte before does not count
 
