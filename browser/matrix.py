@@ -1,13 +1,14 @@
 """The matrix of contexts and places (crates/contained/specs/Matrix.antt) beside Chromium: each cell on the texts, and the samples of each place.
 
-A cell that holds must do so on every text, with no difference but the exceptions of the law; one that alters must keep every text in its place, and change
-the text that it names; one that breaks must do so on the text that it names, and on no shorter one of the texts."""
+A cell that holds must do so on every text, with no difference but the exceptions of the law; one that alters must keep a thousand of the texts in its place, and
+change the text that it names; one that breaks must do so on the text that it names, and on no shorter one of the texts."""
 import base64
 import json
 import os
 import sys
 
 from places import LINE_ENDS, NUL_DROPPED, NUL_NUMBER, NUL_REPLACED, NUL_STYLE, Place
+from texts import MARKUP, TYPED, ascii_texts
 
 HERE = os.path.dirname(os.path.abspath(__file__))
 sys.path.insert(0, os.path.join(os.path.dirname(HERE), 'tools'))
@@ -27,6 +28,8 @@ SAMPLED = {
     'scriptData': ('ScriptElement', b'</script>'), 'rawtext (ascii "style")': ('StyleElement', b'</style>'), 'scriptString 39': ('ScriptSingle', b"'"),
     'scriptString 34': ('ScriptDouble', b'"'), 'scriptStringOld 39': ('OldScriptSingle', b"'"), 'template': ('ScriptTemplate', b'`'),
     'styleString 39': ('StyleSingle', b"'"), 'styleString 34': ('StyleDouble', b'"'), 'jsonString': ('JsonText', b'"')}
+# Texts for the cells that alter.
+SOME = list(dict.fromkeys(TYPED + MARKUP + list(ascii_texts())))
 OUT, CHANGED, STAYS = 'leaves the place', 'is changed', 'stays'
 
 
@@ -77,15 +80,16 @@ class Cells:
 
 
 def check_context(tally, look, predict, library, context, verdicts, typed):
-    """All cells of a context: those that keep every text on all of them, those that break on the text that they name and on shorter ones."""
+    """All cells of a context: those that hold on every text, those that alter on some, those that break on the text that they name and on shorter ones."""
     cells = Cells(tally, look, predict, context)
-    kept = [name for name, (word, _) in verdicts.items() if word != 'breaks']
-    pages = [(kept, typed + [verdicts[name][1] for name in kept if verdicts[name][0] == 'alters'])]
-    broken = [name for name in verdicts if name not in kept]
+    held, altered, broken = ([name for name, (word, _) in verdicts.items() if word == wanted] for wanted in ('holds', 'alters', 'breaks'))
+    pages = [(held, typed), (altered, SOME + [verdicts[name][1] for name in altered])]
     for length in sorted({len(verdicts[name][1]) for name in broken}):
         names = [name for name in broken if len(verdicts[name][1]) == length]
         pages.append((names, [text for text in typed if len(text) < length] + [verdicts[name][1] for name in names]))
     for k, (names, texts) in enumerate(pages):
+        if not names:
+            continue
         texts = list(dict.fromkeys(texts))
         forms = [None if form is None else form.decode() for form in library.call('encode', context, [text.encode() for text in texts])]
         for name, column in zip(names, cells.held(names, forms, 'matrix-%s-%d' % (context, k))):

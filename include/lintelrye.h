@@ -19,6 +19,32 @@
  * Escaping depends on the place: choose the context of the place where the result goes. No context makes a text safe in a URL, in CSS or script
  * outside a string, in a comment, or as the name of a tag or attribute. LINTELRYE_SAFE is no sanitizer: like LINTELRYE_QUOTED it is right between tags
  * and in attributes with quotes, and nowhere else.
+ *
+ * Which context goes where (tools/places_table.py --header):
+ *
+ *   place                    minimal  text     double   single   quoted   safe     unquoted  js '     js "     js both  css '     css "     css both  raw            json
+ *   element text             NC       NC       NC       NC       NC       NC       N         s '      s "      s "      s '       s "       s "       x </           s "
+ *   title                    NC       NC       NC       NC       NC       NC       N         s '      s "      s "      s '       s "       s "       x </title>     s "
+ *   textarea                 NC       NC       NC       NC       NC       NC       N         s '      s "      s "      s '       s "       s "       x </textarea>  s "
+ *   attribute "              x "      x "      NC       x "      NC       NC       N         x "      x "      x "      x "       x "       x "       x "            x "
+ *   attribute '              x '      x '      x '      NC       NC       NC       N         x '      x '      x '      x '       x '       x '       x '            x '
+ *   attribute, no quotes     x space  x space  x space  x space  x space  x space  N         x space  x space  x space  x space   x space   x space   x space        x space
+ *   script element           s &      s &      s "      s &      s "      s "      s space   s '      s "      s "      s '       s "       s "       s <!--         s "
+ *   style element            s &      s &      s "      s &      s "      s "      s space   s '      s "      s "      s '       s "       s "       x </style>     s "
+ *   JS string '              x '      x '      x '      x \      x \      x \      s space   yes      x '      yes      s <       x '       s <       x '            x '
+ *   JS string "              x "      x "      x \      x "      x \      x \      s space   x "      yes      yes      x "       s <       s <       x "            yes
+ *   JS string ' before 2019  x '      x '      x '      x \      x \      x \      x U+2028  yes      x '      yes      x U+2028  x '       x U+2028  x '            x '
+ *   JS string " before 2019  x "      x "      x \      x "      x \      x \      x U+2028  x "      yes      yes      x "       x U+2028  x U+2028  x "            yes
+ *   JS template              x \      x \      x \      x \      x \      x \      s space   x `      x `      x `      x `       x `       x `       x \            x `
+ *   CSS string '             x '      x '      x '      x \      x \      x \      s space   s <      x '      s <      N         x '       N         x '            x '
+ *   CSS string "             x "      x "      x \      x "      x \      x \      s space   x "      s <      s <      x "       N         N         x "            s <
+ *   JSON string              x "      x "      x \      x "      x \      x \      s space   x "      x <      x '      x "       x <       x '       x "            yes
+ *
+ * End of the table.
+ * In every cell "yes", "N" and "NC" what encode writes stays in the place where it is put, whatever is typed and whatever follows, and the place holds the text, by
+ * proof: yes every text, N all but NUL (it is held as U+FFFD), NC all but NUL (U+FFFD, or dropped) and CR (LF). In a cell "s" every text stays, but the one
+ * that is shown is held as another one; in a cell "x" the text that is shown leaves the place. An attribute value without quotes cannot be empty.
+ *
  * For a script string in an attribute, such as onclick="f('HERE')": inner context first, then the outer one. Encode the name by SCRIPT_SINGLE, put f(' and
  * ') around the result, and encode that whole handler by DOUBLE_QUOTED (c/event_button.c). The other order lets a quote in the name end the string.
  *

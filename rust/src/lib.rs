@@ -42,6 +42,37 @@
 //! `encode_script` is no JSON encoder.
 //! In a style string a NUL becomes U+FFFD, so a text with NUL is not given back.
 //!
+//! # Every context in every place
+//!
+//! Whatever is typed and whatever follows, what [`encode`] writes stays in the place where it is put, and the place holds the text, by proof, in every
+//! cell **yes** (every text), **N** (all but NUL, which is held as U+FFFD) and **NC** (all but NUL, held as U+FFFD or dropped, and CR, held as LF). In a cell
+//! s every text stays, but the one that is shown is held as another one; in a cell x the text that is shown leaves the place.
+//!
+//! <!-- tools/places_table.py --rust -->
+//!
+//! | place | `text_minimal` | `text` | `double_quoted` | `single_quoted` | `quoted` | `safe` | `unquoted` | `script_single` | `script_double` | `script_quoted` | `style_single` | `style_double` | `style_quoted` | `script_raw` | `json` |
+//! |---|---|---|---|---|---|---|---|---|---|---|---|---|---|---|---|
+//! | element text | **NC** | **NC** | **NC** | **NC** | **NC** | **NC** | **N** | s `'` | s `"` | s `"` | s `'` | s `"` | s `"` | x `</` | s `"` |
+//! | title | **NC** | **NC** | **NC** | **NC** | **NC** | **NC** | **N** | s `'` | s `"` | s `"` | s `'` | s `"` | s `"` | x `</title>` | s `"` |
+//! | textarea | **NC** | **NC** | **NC** | **NC** | **NC** | **NC** | **N** | s `'` | s `"` | s `"` | s `'` | s `"` | s `"` | x `</textarea>` | s `"` |
+//! | attribute `"` | x `"` | x `"` | **NC** | x `"` | **NC** | **NC** | **N** | x `"` | x `"` | x `"` | x `"` | x `"` | x `"` | x `"` | x `"` |
+//! | attribute `'` | x `'` | x `'` | x `'` | **NC** | **NC** | **NC** | **N** | x `'` | x `'` | x `'` | x `'` | x `'` | x `'` | x `'` | x `'` |
+//! | attribute, no quotes | x space | x space | x space | x space | x space | x space | **N** | x space | x space | x space | x space | x space | x space | x space | x space |
+//! | script element | s `&` | s `&` | s `"` | s `&` | s `"` | s `"` | s space | s `'` | s `"` | s `"` | s `'` | s `"` | s `"` | s `<!--` | s `"` |
+//! | style element | s `&` | s `&` | s `"` | s `&` | s `"` | s `"` | s space | s `'` | s `"` | s `"` | s `'` | s `"` | s `"` | x `</style>` | s `"` |
+//! | JS string `'` | x `'` | x `'` | x `'` | x `\` | x `\` | x `\` | s space | **yes** | x `'` | **yes** | s `<` | x `'` | s `<` | x `'` | x `'` |
+//! | JS string `"` | x `"` | x `"` | x `\` | x `"` | x `\` | x `\` | s space | x `"` | **yes** | **yes** | x `"` | s `<` | s `<` | x `"` | **yes** |
+//! | JS string `'` before 2019 | x `'` | x `'` | x `'` | x `\` | x `\` | x `\` | x U+2028 | **yes** | x `'` | **yes** | x U+2028 | x `'` | x U+2028 | x `'` | x `'` |
+//! | JS string `"` before 2019 | x `"` | x `"` | x `\` | x `"` | x `\` | x `\` | x U+2028 | x `"` | **yes** | **yes** | x `"` | x U+2028 | x U+2028 | x `"` | **yes** |
+//! | JS template | x `\` | x `\` | x `\` | x `\` | x `\` | x `\` | s space | x `` ` `` | x `` ` `` | x `` ` `` | x `` ` `` | x `` ` `` | x `` ` `` | x `\` | x `` ` `` |
+//! | CSS string `'` | x `'` | x `'` | x `'` | x `\` | x `\` | x `\` | s space | s `<` | x `'` | s `<` | **N** | x `'` | **N** | x `'` | x `'` |
+//! | CSS string `"` | x `"` | x `"` | x `\` | x `"` | x `\` | x `\` | s space | x `"` | s `<` | s `<` | x `"` | **N** | **N** | x `"` | s `<` |
+//! | JSON string | x `"` | x `"` | x `\` | x `"` | x `\` | x `\` | s space | x `"` | x `<` | x `'` | x `"` | x `<` | x `'` | x `"` | **yes** |
+//!
+//! <!-- end of the table -->
+//!
+//! An attribute value without quotes cannot be empty.
+//!
 //! # Names inside event attributes
 //!
 //! A handler has a script string inside an attribute: the inner context is written first, then the outer one, and the whole handler is the text of the

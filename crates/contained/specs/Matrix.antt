@@ -1,4 +1,4 @@
--- RULES 28. Which context goes where: for each place and each context, whether what is written stays there and is held as the text that was typed.
+-- RULES 29. Which context goes where: for each place and each context, whether what is written stays there and is held as the text that was typed.
 -- Assumes nothing.
 use mathlib.Core.Bool.{Bool, true}
 use mathlib.Core.Path.{_≡_}

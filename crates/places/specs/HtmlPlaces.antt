@@ -1,4 +1,4 @@
--- RULES 27.2. The places of a page: the states of the HTML Standard's tokenizer (13.2.5) with its input stage (13.2.3.5: CR LF and CR are LF) and what becomes
+-- RULES 28.2. The places of a page: the states of the HTML Standard's tokenizer (13.2.5) with its input stage (13.2.3.5: CR LF and CR are LF) and what becomes
 -- of NUL.
 -- Assumes nothing.
 use mathlib.Core.Option.{none, some}

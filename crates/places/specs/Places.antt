@@ -1,4 +1,4 @@
--- RULES 27.1. Places: where a written form is put, in the words of the place's standard. A place is a rule of the one machine of moves: what it holds is
+-- RULES 28.1. Places: where a written form is put, in the words of the place's standard. A place is a rule of the one machine of moves: what it holds is
 -- the result, and where it is left the rule stops.
 -- Assumes nothing.
 use mathlib.Core.Bool.{Bool, true, false, not, cond}

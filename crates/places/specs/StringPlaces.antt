@@ -1,4 +1,4 @@
--- RULES 27.3. The places of scripts, style sheets and JSON: string literals and templates (ECMAScript 12.9.4, 12.9.6 and B.1.2), string tokens (CSS Syntax 3.3, 4.3.5 and
+-- RULES 28.3. The places of scripts, style sheets and JSON: string literals and templates (ECMAScript 12.9.4, 12.9.6 and B.1.2), string tokens (CSS Syntax 3.3, 4.3.5 and
 -- 4.3.7), strings (RFC 8259, section 7). A place begins after its opening quote.
 -- Assumes nothing.
 use mathlib.Core.Bool.{not, _&&_, cond}
