@@ -15,7 +15,7 @@ use Rattle.rules.specs.Operations.{rawOf}
 use Rattle.rules.proofs.Tests.{and-left, and-right, and-both, or-left, or-right, all-in, any-in}
 use Rattle.rules.proofs.RawAgain.{marked, marks, marks-cons, raw-quiet, lessFree}
 use Rattle.rules.proofs.RawCloses.{tally-zero}
-use Rattle.places.specs.Places.{Entry, placeStep, exactly}
+use Rattle.places.specs.Places.{leaves, Entry, placeStep, exactly, standFor, nulReplaced}
 use Rattle.places.specs.HtmlPlaces.{endTag, scriptData}
 use Rattle.contained.proofs.Steps.{prev-free, one-byte, left-there}
 use Rattle.contained.proofs.Heads.{mild, mild-takes, exact-stands, none-kept}
@@ -72,12 +72,10 @@ less-takes s w n = ap takes (none-kept scriptData 0 60 (s ++ 60 ∷ w) (λ a. a)
 
     go : (e : Entry) → In e (scriptData .entries) → T (fits oneOf (e .0) (60 ∷ (s ++ 60 ∷ w))) → ⊥
     go e (inl q) f = n (script-parted s (fits-before slashScript s w tt (moved e (endTag (ascii "script")) q f)))
-    go e (inr (inl q)) f =
-        let g : T (fits oneOf (exactly (ascii "<!--")) (60 ∷ (s ++ 60 ∷ w))) = subst (λ (d : Entry). T (fits oneOf (d .0) (60 ∷ (s ++ 60 ∷ w)))) q f in
-        n (comment-parted s (fits-before (exactly (ascii "!--")) s w tt g))
-    go e (inr (inr (inl q))) f = subst (λ (d : Entry). T (fits oneOf (d .0) (60 ∷ (s ++ 60 ∷ w)))) q f
+    go e (inr (inl q)) f = n (comment-parted s (fits-before (exactly (ascii "!--")) s w tt (moved e (exactly (ascii "<!--"), leaves) q f)))
+    go e (inr (inr (inl q))) f = moved e nulReplaced q f
     go e (inr (inr (inr (inl q)))) f = subst (λ (d : Entry). T (fits oneOf (d .0) (60 ∷ (s ++ 60 ∷ w)))) q f
-    go e (inr (inr (inr (inr (inl q))))) f = subst (λ (d : Entry). T (fits oneOf (d .0) (60 ∷ (s ++ 60 ∷ w)))) q f
+    go e (inr (inr (inr (inr (inl q))))) f = moved e (standFor (13 ∷ []) (10 ∷ [])) q f
     go e (inr (inr (inr (inr (inr i))))) f = i
 
 -- ---- at any other byte
