@@ -1,7 +1,7 @@
 -- Contained: whatever is typed and whatever follows, the place takes exactly the written form, and holds the text. Once over context and place: a form is a
 -- run of units, and each unit is a copied byte, a character above 7F or what a row writes, which the tests have judged.
 -- Assumes nothing.
-use mathlib.Core.Bool.{Bool, not, _&&_, _||_, cond}
+use mathlib.Core.Bool.{Bool, not, _&&_, cond}
 use mathlib.Core.Logic.{_⊎_, inl, inr}
 use mathlib.Core.Path.{_≡_, refl, sym, ap, _∙_, subst}
 use mathlib.Core.List.{List, [], _∷_, _++_, append-assoc, append-nil}
@@ -10,7 +10,7 @@ use lib.Dec.{T, leb, T-not}
 use Rattle.rules.specs.Bytes.{In, All, sameBytes}
 use Rattle.rules.specs.Moves.{Move, keep, swap, leave, stop, takes, gives, moves, through, taken, result}
 use Rattle.rules.specs.Utf8.{IsText, IsFree, substitute}
-use Rattle.rules.specs.Tables.{Row, table, replacedChars}
+use Rattle.rules.specs.Tables.{table, replacedChars}
 use Rattle.rules.specs.Units.{IsUnit}
 use Rattle.rules.specs.Operations.{encodeOf}
 use Rattle.rules.specs.declared.Context.{Context}

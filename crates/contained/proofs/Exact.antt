@@ -7,9 +7,9 @@ use mathlib.Core.Option.{some}
 use mathlib.Core.Path.{_≡_, refl, sym, ap, _∙_, subst}
 use mathlib.Core.List.{List, [], _∷_, _++_, append-assoc, append-nil}
 use Prim.Native.Nat.{ℕ, _<_}
-use lib.Dec.{T, eqb, leb, ltb, eqb→eq, T-not}
+use lib.Dec.{T, leb, ltb, eqb→eq, T-not}
 use lib.ListN.{take}
-use Rattle.rules.specs.Bytes.{In, All, all, any, only, fits, oneOf, sameBytes}
+use Rattle.rules.specs.Bytes.{In, All, all, only, fits, oneOf}
 use Rattle.rules.specs.Moves.{Move, keep, swap, leave, stop, takes, gives, moves, through, taken, result}
 use Rattle.rules.specs.Utf8.{IsText}
 use Rattle.rules.specs.Tables.{Row, key, value, table, replacedChars}
@@ -17,7 +17,7 @@ use Rattle.rules.specs.Units.{IsUnit}
 use Rattle.rules.specs.Operations.{encodeOf}
 use Rattle.places.specs.Places.{Effect, leaves, means, Entry, Place, entryAt, act, actOn, refers, placeStep, single, stage}
 use Rattle.rules.specs.declared.Context.{Context}
-use Rattle.rules.proofs.Tests.{and-left, and-right, and-both, or-cases, or-right, is-false, all-in, any-in, in-same}
+use Rattle.rules.proofs.Tests.{and-left, and-right, and-both, or-cases, or-right, is-false, all-in, in-same}
 use Rattle.rules.proofs.Machine.{singly, result-singly}
 use Rattle.rules.proofs.Chars.{isTail, char-tails}
 use Rattle.rules.proofs.Encoder.{encode-run, table-run}

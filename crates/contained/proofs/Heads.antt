@@ -12,7 +12,7 @@ use native.Mathlib.Omega.{arith}
 use lib.Dec.{T, eqb, leb, ltb, leb→le, le→leb, ltb→lt, eqb→eq, T-not}
 use lib.ListN.{length, take}
 use Rattle.rules.specs.Bytes.{In, all, any, fits, stands, oneOf, Range, inside}
-use Rattle.rules.specs.Moves.{Move, keep, takes}
+use Rattle.rules.specs.Moves.{keep, takes}
 use Rattle.rules.specs.Utf8.{IsChar, sequences}
 use Rattle.rules.specs.Tables.{key, table, replacedChars}
 use Rattle.rules.specs.Units.{IsUnit}

@@ -12,7 +12,7 @@ use Rattle.rules.specs.Units.{unread}
 use Rattle.rules.specs.declared.Context.{Context}
 use Rattle.rules.proofs.Tests.{and-left, and-right, or-cases, all-in, same-in}
 use Rattle.rules.proofs.Below.{below}
-use Rattle.places.specs.Places.{Place, placeStep, begins}
+use Rattle.places.specs.Places.{Place, placeStep}
 use Rattle.contained.proofs.Steps.{steady}
 use Rattle.contained.proofs.Heads.{mild, quiet, headsApart}
 use Rattle.contained.proofs.Written.{known}

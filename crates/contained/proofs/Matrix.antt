@@ -3,11 +3,11 @@
 -- Assumes nothing.
 use mathlib.Core.Bool.{Bool, true, false, not, _&&_, _||_}
 use mathlib.Core.Logic.{_⊎_, inl, inr}
-use mathlib.Core.Path.{_≡_, refl, sym, subst}
+use mathlib.Core.Path.{_≡_, sym, subst}
 use mathlib.Core.List.{List, [], _∷_, _++_}
 use Prim.Native.Nat.{ℕ}
 use lib.Dec.{T, eqb, eqb→eq}
-use Rattle.rules.specs.Bytes.{ascii, In, all, any, sameBytes}
+use Rattle.rules.specs.Bytes.{In, all, any, sameBytes}
 use Rattle.rules.specs.Moves.{through, taken, result}
 use Rattle.rules.specs.Utf8.{IsText, IsFree}
 use Rattle.rules.specs.Contexts.{Label, contextNames}

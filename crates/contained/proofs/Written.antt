@@ -1,15 +1,15 @@
 -- The references that the HTML contexts write are read back by every place that reads references, whatever follows: each row is looked up once for each
 -- kind of place.
 -- Assumes nothing.
-use mathlib.Core.Bool.{Bool, true, false, not, _&&_, cond}
+use mathlib.Core.Bool.{Bool, false, _&&_, cond}
 use mathlib.Core.Option.{Option, none, some}
 use mathlib.Core.Path.{_≡_, refl, sym, ap, _∙_, subst}
 use mathlib.Core.List.{List, [], _∷_, _++_}
 use Prim.Native.Nat.{ℕ}
 use lib.Dec.{T, eqb, eqb→eq}
 use lib.ListN.{length}
-use Rattle.rules.specs.Bytes.{In, all, any, sameBytes}
-use Rattle.rules.specs.Moves.{Move, keep, swap, leave, stop}
+use Rattle.rules.specs.Bytes.{all, any, sameBytes}
+use Rattle.rules.specs.Moves.{swap}
 use Rattle.rules.specs.Utf8.{substitute}
 use Rattle.rules.specs.Tables.{Row, key, value, htmlRows}
 use Rattle.rules.specs.Names.{names}
@@ -21,7 +21,7 @@ use Rattle.rules.specs.declared.Kind.{Kind}
 use Rattle.rules.specs.declared.Kind.the-variants.{InText, InAttribute}
 use Rattle.rules.proofs.Tests.{and-left, and-right, all-in, any-in, same-bytes}
 use Rattle.rules.proofs.Machine.{Makes}
-use Rattle.places.specs.Places.{Entry, Place, entryAt, actOn, refers, afterAmp, placeStep}
+use Rattle.places.specs.Places.{Place, entryAt, actOn, refers, afterAmp, placeStep}
 use Rattle.contained.proofs.Settled.{ampSettled, reference-settled}
 
 -- ---- a reference

@@ -122,7 +122,7 @@ abbrev pub nulAndCr : List (List ℕ)
 nulAndCr = (0 ∷ []) ∷ (13 ∷ []) ∷ []
 
 -- text_minimal, text, double_quoted, single_quoted, quoted, safe, unquoted; script_single, script_double, script_quoted; style_single, style_double,
--- style_quoted; script_raw; json. tools/show_places prints it as the table of README.md.
+-- style_quoted; script_raw; json. tools/places_table.py prints it as the table of README.md.
 abbrev pub matrix : List Line
 matrix =
     -- The text of an element.

@@ -2,7 +2,6 @@
 -- held as. All of RCDATA, RAWTEXT and attributes that do not turn on the end of a tag, and a choice of the data state's.
 -- Assumes nothing.
 use mathlib.Core.List.{List, [], _∷_, _++_}
-use Prim.Native.Nat.{ℕ}
 use Rattle.rules.specs.Bytes.{ascii}
 use Rattle.places.specs.HtmlPlaces.{elementText, rcdata, rawtext, attribute}
 use Rattle.places.specs.Samples.{Samples, sample, samples}
