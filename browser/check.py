@@ -114,7 +114,7 @@ def check_journey(tally, library, work, image):
 
 
 def main():
-    """Every context, the references, the journey log; then the summary."""
+    """Every context, the references, the journey log, the table of contexts and places; then the summary."""
     work, image, command = sys.argv[1], sys.argv[2], sys.argv[3:]
     library, tally, typed = Library(command), Tally(), texts()
     progress('%s; %d texts in each context' % (chromium.version(work), len(typed)))
