@@ -1,12 +1,12 @@
--- By how much a byte grows is the sum that the code adds up: computed tests of every byte in every context. And a text grows by what its bytes
--- and its parts do.
+-- A byte grows by three, four or five bytes where the code counts it so: computed tests of every byte in every context. And a text grows by what its
+-- bytes and its parts do.
 -- Assumes nothing.
 use mathlib.Core.Bool.{Bool, true, false, not, _||_, cond}
-use mathlib.Core.Path.{_≡_, refl, ap, _∙_}
+use mathlib.Core.Path.{_≡_, refl, ap, _∙_, subst}
 use mathlib.Core.List.{List, [], _∷_}
 use Prim.Native.Nat.{ℕ, _+_, _-_, _*_, _≤_, _<_}
 use native.Mathlib.Omega.{arith}
-use lib.Dec.{eqb, ltb}
+use lib.Dec.{eqb, ltb, leb, leb→le}
 use lib.ListN.{length, take, drop, getD, length-append, drop-of-length-le}
 use Rattle.rules.specs.Tables.{letterOrDigit}
 use Rattle.rules.specs.Encoding.{encodeStep}
@@ -16,52 +16,81 @@ use Rattle.rules.specs.declared.Html.the-variants.{Unquoted}
 use Rattle.rules.specs.declared.Context.the-variants.{InHtml}
 use Rattle.plain.specs.Plain.{unquoted}
 use Rattle.encode_html.specs.Written.{written, onlyText}
-use Rattle.encode_html.specs.Gains.{gainOf, gainsOf, Grows, hitsOf, Hits}
+use Rattle.encode_html.specs.Gains.{gainOf, grows, growsBy, gainsOf, Grows, hitsOf, Hits}
+use Rattle.encode_html.specs.Words.{wordOf}
 use Rattle.encode_html.specs.declared.gains.Gains.{Gains}
-use Rattle.encode_html.proofs.Seven.{agree}
+use Rattle.encode_html.proofs.Seven.{seven-bytes, agree}
 use Rattle.base.proofs.Part.{part-length}
 use Rattle.encode_html.proofs.Text.{written-most, next-byte, next-part, next-none, hits-byte, hits-part}
 
 -- ---- a byte
 
--- The sum over `&`, `<` and `>`, and that over all six.
-unfoldable pub sum3 : Html → ℕ → ℕ
-sum3 h b = cond (eqb b 38) 4 0 + cond (eqb b 60) 3 0 + cond (eqb b 62) (gainOf h 62) 0
-
-unfoldable pub sum6 : Html → ℕ → ℕ
-sum6 h b = sum3 h b + cond (eqb b 34) (gainOf h 34) 0 + cond (eqb b 39) (gainOf h 39) 0 + cond (eqb b 47) (gainOf h 47) 0
-
--- The growth of a byte in an unquoted attribute.
-unfoldable pub sumOfAll : ℕ → ℕ
-sumOfAll b = cond (ltb 127 b || letterOrDigit b) 0 (5 - cond (eqb b 38) 1 0 - cond (eqb b 60) 2 0 - cond (eqb b 62) 2 0)
-
--- In each kind of context the sum is the growth.
-pub gain3 : (h : Html) (b : ℕ) → b < 256 → onlyText h ≡ true → sum3 h b + 1 ≡ length (written h b)
-unfolding sum3 written encodeStep
-gain3 = agree onlyText (λ h b. sum3 h b + 1) (λ h b. length (written h b)) tt
-
-pub gain6 : (h : Html) (b : ℕ) → b < 256 → unquoted h ≡ false → sum6 h b + 1 ≡ length (written h b)
-unfolding sum3 sum6 written encodeStep
-gain6 h b l e = agree (λ h. not (unquoted h)) (λ h b. sum6 h b + 1) (λ h b. length (written h b)) tt h b l (ap not e)
-
-pub gain-all : (b : ℕ) → b < 256 → sumOfAll b ≡ gainOf Unquoted b
-unfolding sumOfAll written encodeStep
-gain-all b l = agree unquoted (λ h b. sumOfAll b) gainOf tt Unquoted b l refl
-
-pub gain-unquoted : (h : Html) (b : ℕ) → b < 256 → unquoted h ≡ true → gainOf Unquoted b + 1 ≡ length (written h b)
+-- A byte grows by four, by three or by five bytes where the code's tests say so.
+pub four-is : (h : Html) (b : ℕ) → b < 256 → cond (eqb b 38) 1 0 ≡ growsBy h 4 b
 unfolding written encodeStep
-gain-unquoted = agree unquoted (λ h b. gainOf Unquoted b + 1) (λ h b. length (written h b)) tt
+four-is h b l = agree (λ h. true) (λ h b. cond (eqb b 38) 1 0) (λ h b. growsBy h 4 b) tt h b l refl
 
-gain-most : (h : Html) (b : ℕ) → gainOf h b ≤ 5
-gain-most h b = omega (arith, written-most h b)
+pub three-is : (h : Html) (b : ℕ) → b < 256 → cond (eqb b 60) 1 0 + cond (eqb b 62) (grows h 62) 0 ≡ growsBy h 3 b
+unfolding written encodeStep
+three-is h b l = agree (λ h. true) (λ h b. cond (eqb b 60) 1 0 + cond (eqb b 62) (grows h 62) 0) (λ h b. growsBy h 3 b) tt h b l refl
 
--- What is known of a context is small.
-pub small : (h : Html) (g : Gains) → g ≡ gainsOf h → (g .gt ≤ 5) × (g .double ≤ 5) × (g .single ≤ 5) × (g .slash ≤ 5)
-small h g e = rw e (gain-most h 62, gain-most h 34, gain-most h 39, gain-most h 47)
+pub five-none : (h : Html) (b : ℕ) → b < 256 → onlyText h ≡ true → 0 ≡ growsBy h 5 b
+unfolding written encodeStep
+five-none = agree onlyText (λ h b. 0) (λ h b. growsBy h 5 b) tt
 
--- And so is what a byte grows by.
-pub gain-is : (h : Html) (b n : ℕ) → n + 1 ≡ length (written h b) → (n + 1 ≡ length (written h b)) × (n ≤ 5)
-gain-is h b n e = (e, omega (arith, written-most h b))
+unfoldable pub other : ℕ → ℕ
+other b = cond (ltb 127 b || letterOrDigit b || eqb b 38 || eqb b 60 || eqb b 62) 0 1
+
+pub other-is : (b : ℕ) → b < 256 → other b ≡ growsBy Unquoted 5 b
+unfolding other written encodeStep
+other-is b l = agree unquoted (λ h b. other b) (λ h b. growsBy h 5 b) tt Unquoted b l refl
+
+pub five-unquoted : (h : Html) (b : ℕ) → b < 256 → unquoted h ≡ true → growsBy Unquoted 5 b ≡ growsBy h 5 b
+unfolding written encodeStep
+five-unquoted = agree unquoted (λ h b. growsBy Unquoted 5 b) (λ h b. growsBy h 5 b) tt
+
+unfoldable pub quotes : Html → ℕ → ℕ
+quotes h b = cond (eqb b 34) (grows h 34) 0 + cond (eqb b 39) (grows h 39) 0 + cond (eqb b 47) (grows h 47) 0
+
+pub five-is : (h : Html) (b : ℕ) → b < 256 → unquoted h ≡ false → quotes h b ≡ growsBy h 5 b
+unfolding quotes written encodeStep
+five-is h b l e = agree (λ h. not (unquoted h)) quotes (λ h b. growsBy h 5 b) tt h b l (ap not e)
+
+-- What is counted of a byte is small.
+one : (x : Bool) → cond x 1 0 ≤ 1
+one true = omega arith
+one false = omega arith
+
+none : (x : Bool) → cond x 0 1 ≤ 1
+none true = omega arith
+none false = omega arith
+
+pub few : (h : Html) (n b r : ℕ) → r ≡ growsBy h n b → (r ≡ growsBy h n b) × (r ≤ 1)
+few h n b r e = (e, rw e (one (eqb (gainOf h b) n)))
+
+pub small : (h : Html) (g : Gains) → g ≡ gainsOf h → (g .gt ≤ 1) × (g .double ≤ 1) × (g .single ≤ 1) × (g .slash ≤ 1)
+small h g e = rw e (none (eqb (gainOf h 62) 0), none (eqb (gainOf h 34) 0), none (eqb (gainOf h 39) 0), none (eqb (gainOf h 47) 0))
+
+-- The length of a byte's word tells whether it grows.
+word-grows : (h : Html) (b : ℕ) → b < 256 → cond (ltb (wordOf (written h b)) 0x200000000000000) 0 1 ≡ grows h b
+unfolding wordOf written encodeStep
+word-grows h b l = agree (λ h. true) (λ h b. cond (ltb (wordOf (written h b)) 0x200000000000000) 0 1) grows tt h b l refl
+
+pub grows-is : (h : Html) (b x r : ℕ) → b < 256 → x ≡ wordOf (written h b) → r ≡ cond (ltb x 0x200000000000000) 0 1 → r ≡ grows h b
+grows-is h b x r l e q = q ∙ ap (λ (x : ℕ). cond (ltb x 0x200000000000000) 0 1) e ∙ word-grows h b l
+
+-- The three counts of a byte are its growth, and whether it is replaced.
+grown-sum : (h : Html) (b : ℕ) → b < 256 → 3 * growsBy h 3 b + 4 * growsBy h 4 b + 5 * growsBy h 5 b + 1 ≡ length (written h b)
+unfolding written encodeStep
+grown-sum h b l = agree (λ h. true) (λ h b. 3 * growsBy h 3 b + 4 * growsBy h 4 b + 5 * growsBy h 5 b + 1) (λ h b. length (written h b)) tt h b l refl
+
+hits-sum : (h : Html) (b : ℕ) → b < 256 → growsBy h 3 b + growsBy h 4 b + growsBy h 5 b ≡ hitsOf h (b ∷ [])
+unfolding written encodeStep
+hits-sum h b l = agree (λ h. true) (λ h b. growsBy h 3 b + growsBy h 4 b + growsBy h 5 b) (λ h b. hitsOf h (b ∷ [])) tt h b l refl
+
+hits-few : (h : Html) (b : ℕ) → b < 256 → hitsOf h (b ∷ []) ≤ 1
+unfolding written encodeStep
+hits-few h b l = leb→le (hitsOf h (b ∷ [])) 1 (seven-bytes (λ h b. leb (hitsOf h (b ∷ [])) 1) tt h b l)
 
 -- ---- a text
 
@@ -77,6 +106,16 @@ module _ (h : Html) (t : List ℕ) where
   pub grown-byte : (i n w : ℕ) → i < length t → (w + 1 ≡ length (written h (getD t i 0))) × (w ≤ 5) → Grown h t i n → Grown h t (i + 1) (n + w)
   grown-byte i n w l e g = (omega arith, omega arith, omega (arith, rw length-append at (ap length (next-byte h t i l .next))))
 
+  -- The same by the three counts.
+  pub grown-counts : (i x y z p q r : ℕ) → i < length t → getD t i 0 < 256
+      → p ≡ growsBy h 3 (getD t i 0) → q ≡ growsBy h 4 (getD t i 0) → r ≡ growsBy h 5 (getD t i 0)
+      → Grown h t i (3 * x + 4 * y + 5 * z) → Grown h t (i + 1) (3 * (x + p) + 4 * (y + q) + 5 * (z + r))
+  grown-counts i x y z p q r l k a b c g =
+      let w = 3 * p + 4 * q + 5 * r in
+      let s : w + 1 ≡ length (written h (getD t i 0)) = rw (a, b, c) (grown-sum h (getD t i 0) k) in
+      let same : 3 * x + 4 * y + 5 * z + w ≡ 3 * (x + p) + 4 * (y + q) + 5 * (z + r) = omega arith in
+      subst (Grown h t (i + 1)) same (grown-byte i (3 * x + 4 * y + 5 * z) w l (s, omega (arith, s, written-most h (getD t i 0))) g)
+
   -- One part more.
   pub grown-part : (i e n w : ℕ) → i ≤ e → e ≤ length t → Grows h (take (e - i) (drop i t)) w → Grown h t i n → Grown h t e (n + w)
   grown-part i e n w l k p g =
@@ -89,20 +128,6 @@ module _ (h : Html) (t : List ℕ) where
 
 -- ---- how many places are replaced
 
--- A byte is replaced exactly if it grows.
-byte-hits : (h : Html) (b : ℕ) → b < 256 → cond (eqb (gainOf h b) 0) 0 1 ≡ hitsOf h (b ∷ [])
-unfolding written encodeStep
-byte-hits h b l = agree (λ h. true) (λ h b. cond (eqb (gainOf h b) 0) 0 1) (λ h b. hitsOf h (b ∷ [])) tt h b l refl
-
-pub hit-is : (h : Html) (b n k : ℕ) → b < 256 → n + 1 ≡ length (written h b) → k ≡ cond (eqb n 0) 0 1 → (k ≡ hitsOf h (b ∷ [])) × (k ≤ 1)
-hit-is h b n k l e f =
-    let g : n ≡ gainOf h b = omega (arith, e) in
-    (f ∙ ap (λ (n : ℕ). cond (eqb n 0) 0 1) g ∙ byte-hits h b l, few (eqb n 0) f)
-  where
-    few : (x : Bool) → k ≡ cond x 0 1 → k ≤ 1
-    few true q = omega (arith, q)
-    few false q = omega (arith, q)
-
 -- Of the first i bytes k are replaced: with what is left they are the whole.
 abbrev pub Hit : Html → List ℕ → ℕ → ℕ → Type 0
 Hit h t i k = (k ≤ i) × (k + hitsOf h (drop i t) ≡ hitsOf h t)
@@ -114,6 +139,15 @@ module _ (h : Html) (t : List ℕ) where
   -- One byte more.
   pub hit-byte : (i k w : ℕ) → i < length t → (w ≡ hitsOf h (getD t i 0 ∷ [])) × (w ≤ 1) → Hit h t i k → Hit h t (i + 1) (k + w)
   hit-byte i k w l e g = (omega (arith, e .1, g .0), omega (arith, e .0, g .1, hits-byte h t i l))
+
+  -- The same by the three counts.
+  pub hit-counts : (i x y z p q r : ℕ) → i < length t → getD t i 0 < 256
+      → p ≡ growsBy h 3 (getD t i 0) → q ≡ growsBy h 4 (getD t i 0) → r ≡ growsBy h 5 (getD t i 0)
+      → Hit h t i (x + y + z) → Hit h t (i + 1) (x + p + (y + q) + (z + r))
+  hit-counts i x y z p q r l k a b c g =
+      let s : p + q + r ≡ hitsOf h (getD t i 0 ∷ []) = rw (a, b, c) (hits-sum h (getD t i 0) k) in
+      let same : x + y + z + (p + q + r) ≡ x + p + (y + q) + (z + r) = omega arith in
+      subst (Hit h t (i + 1)) same (hit-byte i (x + y + z) (p + q + r) l (s, omega (arith, s, hits-few h (getD t i 0) k)) g)
 
   -- One part more.
   pub hit-part : (i e k w : ℕ) → i ≤ e → e ≤ length t → Hits h (take (e - i) (drop i t)) w → Hit h t i k → Hit h t e (k + w)

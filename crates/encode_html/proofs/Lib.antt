@@ -4,3 +4,4 @@ pub mod Growth
 pub mod Choices
 pub mod Spilt
 pub mod Unchanged
+pub mod Sixteen

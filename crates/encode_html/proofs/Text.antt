@@ -98,11 +98,14 @@ module _ (h : Html) where
       let sum = ap length (halves t e) ∙ length-append (encodeOf (InHtml h) (take e t)) (encodeOf (InHtml h) rest) in
       (sym sum, n, omega (arith, encode-sum (InHtml h) rest))
 
+  -- A text of bytes that are written as one does not grow.
+  pub single-length : (t : List ℕ) → Each (λ (b : ℕ). length (written h b) ≡ 1) t → length (encodeOf (InHtml h) t) ≡ length t
+  single-length [] f = refl
+  single-length (b ∷ t) f = rw (cons-written b t, length-append, f 0 (omega arith)) (omega (arith, single-length t (λ k l. f (suc k) (omega arith))))
+
   -- An unchanged text does not grow.
   pub unchanged-length : (t : List ℕ) → Each (Unchanged h) t → length (encodeOf (InHtml h) t) ≡ length t
-  unchanged-length [] f = refl
-  unchanged-length (b ∷ t) f =
-      rw (cons-written b t, length-append, f 0 (omega arith) .0) (omega (arith, unchanged-length t (λ k l. f (suc k) (omega arith))))
+  unchanged-length t f = single-length t (λ k l. f k l .0)
 
   -- And nothing in it is replaced.
   pub unchanged-hits : (t : List ℕ) → Each (Unchanged h) t → hitsOf h t ≡ 0

@@ -1,8 +1,10 @@
 -- By how many bytes a byte grows in its encoding.
 -- Assumes nothing.
+use mathlib.Core.Bool.{cond}
 use mathlib.Core.Path.{_≡_}
 use mathlib.Core.List.{List}
 use Prim.Native.Nat.{ℕ, _+_, _-_, _*_, _≤_, _<_}
+use lib.Dec.{eqb}
 use lib.ListN.{length, getD}
 use Rattle.rules.specs.Moves.{through, replaced}
 use Rattle.rules.specs.Encoding.{encodeStep}
@@ -17,9 +19,17 @@ use Rattle.encode_html.specs.declared.gains.Gains.{Gains}
 abbrev pub gainOf : Html → ℕ → ℕ
 gainOf h b = length (written h b) - 1
 
--- The growths of a context: which kind it is, and by how many bytes `>`, `"`, `'` and `/` grow.
+-- 1 for a byte that grows, else 0.
+abbrev pub grows : Html → ℕ → ℕ
+grows h b = cond (eqb (gainOf h b) 0) 0 1
+
+-- 1 for a byte that grows by n bytes, else 0.
+abbrev pub growsBy : Html → ℕ → ℕ → ℕ
+growsBy h n b = cond (eqb (gainOf h b) n) 1 0
+
+-- What is known of a context: which kind it is, and which of `>`, `"`, `'` and `/` grow.
 abbrev pub gainsOf : Html → Gains
-gainsOf h = record { text = onlyText h; unquoted = unquoted h; gt = gainOf h 62; double = gainOf h 34; single = gainOf h 39; slash = gainOf h 47 }
+gainsOf h = record { text = onlyText h; unquoted = unquoted h; gt = grows h 62; double = grows h 34; single = grows h 39; slash = grows h 47 }
 
 -- A text grows by n bytes, which is at most five times its length.
 abbrev pub Grows : Html → List ℕ → ℕ → Type 0

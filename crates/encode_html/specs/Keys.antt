@@ -3,6 +3,7 @@
 use mathlib.Core.Bool.{Bool, _||_, cond}
 use mathlib.Core.List.{List}
 use Prim.Native.Nat.{ℕ}
+use lib.Bits.{bitXor}
 use lib.Dec.{eqb, ltb}
 use lib.ListN.{getD}
 use Rattle.encode_html.specs.declared.gains.Gains.{Gains}
@@ -26,3 +27,14 @@ special k b =
 -- Such a byte is at place i of a text.
 abbrev pub specialAt : Keys → List ℕ → ℕ → Bool
 specialAt k t i = special k (getD t i 0)
+
+-- The lesser of two numbers.
+abbrev pub lesser : ℕ → ℕ → ℕ
+lesser a b = cond (ltb a b) a b
+
+-- 0 where the byte is `&`, `<` or a key: the least of its differences from them, bit by bit.
+abbrev pub farOf : Keys → ℕ → ℕ
+farOf k b =
+    lesser
+    (lesser (lesser (bitXor b 38) (bitXor b 60)) (lesser (bitXor b (k .gt)) (bitXor b (k .double))))
+    (lesser (bitXor b (k .single)) (bitXor b (k .slash)))

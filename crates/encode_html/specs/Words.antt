@@ -2,8 +2,8 @@
 -- Assumes nothing.
 use mathlib.Core.Path.{_≡_}
 use mathlib.Core.List.{List, [], _∷_}
-use Prim.Native.Nat.{ℕ, _+_, _*_, _/_, _%_}
-use lib.ListN.{length, take, drop}
+use Prim.Native.Nat.{ℕ, _+_, _*_, _/_, _%_, _<_}
+use lib.ListN.{length, take, drop, getD}
 use Rattle.rules.specs.declared.Html.{Html}
 use Rattle.plain.specs.Plain.{unquoted}
 use Rattle.encode_html.specs.Written.{written, onlyText}
@@ -41,6 +41,10 @@ wordsOf h = record {
   single = wordOf (written h 39);
   slash = wordOf (written h 47);
 }
+
+-- The word of every byte, in the order of the bytes.
+abbrev pub Table : Html → List ℕ → Type 0
+Table h table = (b : ℕ) → b < 256 → getD table b 0 ≡ wordOf (written h b)
 
 -- The bytes w stand at the start of the output, and it is as before from seven bytes past them on.
 abbrev pub Spills : List ℕ → List ℕ → List ℕ → Type 0

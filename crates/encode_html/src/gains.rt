@@ -1,17 +1,17 @@
-// By how many bytes the encoding of a byte is longer than the byte, as a sum of comparisons: a loop over it has no branch and becomes vector code.
+// By how many bytes a byte grows in its encoding: three, four or five, or not at all. Each is a sum of comparisons, so that a loop over it has no
+// branch and becomes vector code.
 use super::words::Words;
 use rules::Html;
 ghost use mathlib.Core.Bool.{cond};
 ghost use mathlib.Core.Path.{_≡_};
-ghost use Prim.Native.Nat.{_+_, _-_, _*_, _/_, _≤_};
-ghost use lib.Dec.{eqb};
-ghost use lib.ListN.{length};
+ghost use Prim.Native.Nat.{_≤_};
+ghost use lib.Dec.{ltb};
 ghost use Rattle.rules.specs.declared.Html.the-variants.{Unquoted};
-ghost use Rattle.encode_html.specs.Written.{written};
-ghost use Rattle.encode_html.specs.Gains.{gainOf, gainsOf, Grows};
+ghost use Rattle.encode_html.specs.Gains.{growsBy, gainsOf};
 ghost use Rattle.encode_html.specs.Words.{wordsOf};
 
-// Per context: whether it replaces nothing but `&`, `<` and `>`, whether it replaces all punctuation, and by how many bytes `>`, `"`, `'` and `/` grow.
+// Per context: whether it replaces nothing but `&`, `<` and `>`, whether it replaces all punctuation, and 1 for each of `>`, `"`, `'` and `/` that it
+// replaces, else 0.
 pub struct Gains {
     pub text: bool,
     pub unquoted: bool,
@@ -21,15 +21,14 @@ pub struct Gains {
     pub slash: u8,
 }
 
-// By how many bytes the text of a word is longer than one byte. The word's highest byte is the text's length.
-fn gain_of(word: u64) -> u8
-    requires { ⌜ 0x100000000000000 ≤ word ⌝ }
-    ensures { λ r. ⌜ r ≡ word / 0x100000000000000 - 1 ⌝ }
+// Returns 1 if the word of a byte has more than one byte, else 0. The word's highest byte is their number.
+fn grows_to(word: u64) -> u8
+    ensures { λ r. ⌜ r ≡ cond (ltb word 0x200000000000000) 0 1 ⌝ }
 {
-    (word / 0x100_0000_0000_0000 - 1) as u8
+    if word < 0x0200_0000_0000_0000 { 0 } else { 1 }
 }
 
-// Returns the growths of a context, read off its words.
+// Returns which bytes of a context grow, read off its words.
 pub fn gains_of(h: Html, w: Words) -> Gains
     requires { ⌜ w ≡ wordsOf h ⌝ }
     ensures { λ r. ⌜ r ≡ gainsOf h ⌝ }
@@ -37,61 +36,48 @@ pub fn gains_of(h: Html, w: Words) -> Gains
     Gains {
         text: w.text,
         unquoted: w.unquoted,
-        gt: gain_of(w.gt),
-        double: gain_of(w.double),
-        single: gain_of(w.single),
-        slash: gain_of(w.slash),
+        gt: grows_to(w.gt),
+        double: grows_to(w.double),
+        single: grows_to(w.single),
+        slash: grows_to(w.slash),
     }
 }
 
-// Returns by how many bytes a byte grows in an unquoted attribute.
-fn gain_unquoted(b: u8) -> u8
-    ensures { λ r. ⌜ r ≡ gainOf Unquoted b ⌝ }
+// Returns 1 for a byte that grows by four bytes: `&`.
+pub fn four(h: Html, b: u8) -> u8
+    ensures { λ r. ⌜ (r ≡ growsBy h 4 b) × (r ≤ 1) ⌝ }
 {
-    if 127 < b {
-        return 0;
-    }
-    if base::is_letter_or_digit(b) {
-        return 0;
-    }
-    5 - base::when(b, b'&', 1) - base::when(b, b'<', 2) - base::when(b, b'>', 2)
+    base::when(b, b'&', 1)
 }
 
-// Returns by how many bytes a byte grows.
-pub fn gain(h: Html, g: Gains, b: u8) -> u8
+// Returns 1 for a byte that grows by three bytes: `<`, and `>` if it is replaced.
+pub fn three(h: Html, g: Gains, b: u8) -> u8
     requires { ⌜ g ≡ gainsOf h ⌝ }
-    ensures { λ r. ⌜ (r + 1 ≡ length (written h b)) × (r ≤ 5) ⌝ }
+    ensures { λ r. ⌜ (r ≡ growsBy h 3 b) × (r ≤ 1) ⌝ }
 {
-    if g.unquoted {
-        return gain_unquoted(b);
+    base::when(b, b'<', 1) + base::when(b, b'>', g.gt)
+}
+
+// Returns 1 for a byte that grows by five bytes in an unquoted attribute: ASCII but for letters, digits, `&`, `<` and `>`.
+fn five_unquoted(b: u8) -> u8
+    ensures { λ r. ⌜ r ≡ growsBy Unquoted 5 b ⌝ }
+{
+    if (127 < b) | base::is_letter_or_digit(b) | (b == b'&') | (b == b'<') | (b == b'>') {
+        return 0;
     }
-    let n = base::when(b, b'&', 4) + base::when(b, b'<', 3) + base::when(b, b'>', g.gt);
+    1
+}
+
+// Returns 1 for a byte that grows by five bytes. Its branches are the same for every byte.
+pub fn five(h: Html, g: Gains, b: u8) -> u8
+    requires { ⌜ g ≡ gainsOf h ⌝ }
+    ensures { λ r. ⌜ (r ≡ growsBy h 5 b) × (r ≤ 1) ⌝ }
+{
     if g.text {
-        return n;
+        return 0;
     }
-    n
-        + base::when(b, b'"', g.double)
-        + base::when(b, b'\'', g.single)
-        + base::when(b, b'/', g.slash)
-}
-
-// Returns 1 for a byte that grows by `gain` bytes, and so is replaced, and 0 for one that does not.
-pub fn hit(gain: u8) -> u8
-    ensures { λ r. ⌜ r ≡ cond (eqb gain 0) 0 1 ⌝ }
-{
-    if gain == 0 { 0 } else { 1 }
-}
-
-// Returns by how many bytes a part grows. The part is short enough for the sum to fit a byte.
-pub fn growth(h: Html, g: Gains, part: &[u8]) -> u8
-    requires { ⌜ (g ≡ gainsOf h) × (5 * length (now part) ≤ 255) ⌝ }
-    ensures { λ r. ⌜ Grows h (now (part .entry)) r ⌝ }
-{
-    let mut n: u8 = 0;
-    let mut i: usize = 0;
-    while i < part.len() {
-        n += gain(h, g, part[i]);
-        i += 1;
+    if g.unquoted {
+        return five_unquoted(b);
     }
-    n
+    base::when(b, b'"', g.double) + base::when(b, b'\'', g.single) + base::when(b, b'/', g.slash)
 }

@@ -1,52 +1,61 @@
 // Passes over a text before it is written: whether it is ASCII, by how many bytes it grows, and how many of them are replaced.
 use super::Scan;
 use super::gains::Gains;
-use super::gains::gain;
-use super::gains::hit;
+use super::gains::five;
+use super::gains::four;
+use super::gains::three;
 use rules::Html;
 ghost use mathlib.Core.Path.{_≡_};
 ghost use mathlib.Core.Bool.{true, false};
-ghost use Prim.Native.Nat.{_*_, _≤_, _<_};
+ghost use Prim.Native.Nat.{_≤_};
 ghost use lib.ListN.{length};
 ghost use Rattle.base.specs.First.{Free};
 ghost use Rattle.encode_html.specs.Gains.{gainsOf, Grows, Hits, Each, Ascii, Unchanged};
 ghost use Rattle.encode_html.specs.Keys.{keyOf, keysOf, special, specialAt};
 
-// Bytes that are counted together: two vectors, and few enough for their growth to fit a byte.
-const PART: usize = 32;
+// Bytes that are counted together: fourteen vectors, and few enough for each count to fit a byte.
+const PART: usize = 224;
 
 // Bytes that are tested together before the outcome is looked at: many, since most texts have nothing to replace or have it early.
 const BLOCK: usize = 1024;
 
 // Returns 0 for an ASCII byte, else 1.
-fn high(b: u8) -> u8
+fn high(b: u8) -> usize
     ensures { λ r. ⌜ (r ≤ 1) × (r ≡ 0 → Ascii b) ⌝ }
 {
     if b < 128 { 0 } else { 1 }
 }
 
-// Counts the bytes of a part that are not ASCII, by how many bytes it grows, and those that are replaced. The part is short enough for each to fit a
-// byte.
-fn tally(h: Html, g: Gains, part: &[u8]) -> Scan
-    requires { ⌜ (g ≡ gainsOf h) × (5 * length (now part) ≤ 255) ⌝ }
-    ensures { λ r. ⌜ Grows h (now (part .entry)) (r .grow) × Hits h (now (part .entry)) (r .replaced) × (r .high ≤ length (now (part .entry))) × (r .high ≡ 0 → Each Ascii (now (part .entry))) ⌝ }
+// Returns the greater of two bytes.
+fn top(a: u8, b: u8) -> u8
+    ensures { λ r. ⌜ (a ≤ r) × (b ≤ r) ⌝ }
 {
-    let mut high_bytes: u8 = 0;
-    let mut n: u8 = 0;
-    let mut hits: u8 = 0;
+    if a < b { b } else { a }
+}
+
+// Counts by how many bytes a part grows and how many of its bytes are replaced, and finds its greatest byte, which tells whether it is ASCII. There
+// is one count for each growth, so that a byte adds 1 to one of them or to none. The part is short enough for each to fit a byte.
+fn tally(h: Html, g: Gains, part: &[u8]) -> Scan
+    requires { ⌜ (g ≡ gainsOf h) × (length (now part) ≤ 224) ⌝ }
+    ensures { λ r. ⌜ Grows h (now (part .entry)) (r .grow) × Hits h (now (part .entry)) (r .replaced) × (r .high ≤ 1) × (r .high ≡ 0 → Each Ascii (now (part .entry))) ⌝ }
+{
+    let mut greatest: u8 = 0;
+    let mut threes: u8 = 0;
+    let mut fours: u8 = 0;
+    let mut fives: u8 = 0;
     let mut i: usize = 0;
     while i < part.len() {
         let b = part[i];
-        high_bytes += high(b);
-        let more = gain(h, g, b);
-        n += more;
-        hits += hit(more);
+        greatest = top(greatest, b);
+        threes += three(h, g, b);
+        fours += four(h, b);
+        fives += five(h, g, b);
         i += 1;
     }
     Scan {
-        high: high_bytes as usize,
-        grow: n as usize,
-        replaced: hits as usize,
+        high: high(greatest),
+        grow: 3 * threes as usize + 4 * fours as usize + 5 * fives as usize,
+        replaced: threes as usize + fours as usize + fives as usize,
     }
 }
 
@@ -92,7 +101,7 @@ fn key(gain: u8, b: u8) -> u8
 }
 
 // Returns the keys of a context, read off its growths.
-fn keys_of(g: Gains) -> Keys
+pub fn keys_of(g: Gains) -> Keys
     ensures { λ r. ⌜ r ≡ keysOf g ⌝ }
 {
     Keys {

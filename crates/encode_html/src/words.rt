@@ -8,7 +8,7 @@ ghost use lib.Dec.{eqb};
 ghost use Rattle.rules.specs.Tables.{value, reference};
 ghost use Rattle.rules.specs.declared.Html.the-variants.{Unquoted};
 ghost use Rattle.encode_html.specs.Written.{written};
-ghost use Rattle.encode_html.specs.Words.{wordOf, wordsOf};
+ghost use Rattle.encode_html.specs.Words.{wordOf, wordsOf, Table};
 
 // `&amp;`
 const AMP: u64 = 0x0500_003B_706D_6126;
@@ -137,4 +137,18 @@ pub fn word(h: Html, w: Words, b: u8) -> u64
     let x = select(b, b'/', w.slash, x);
     let x = select(b, b'\'', w.single, x);
     select(b, b'"', w.double, x)
+}
+
+// Returns the word of every byte. A call on a long text makes them once and lends them to its loops, in which a word is then one load.
+pub fn table_of(h: Html, w: Words) -> [u64; 256]
+    requires { ⌜ w ≡ wordsOf h ⌝ }
+    ensures { λ r. ⌜ Table h r ⌝ }
+{
+    let mut table: [u64; 256] = [0x0100_0000_0000_0000; 256];
+    let mut b: usize = 0;
+    while b < 256 {
+        table[b] = word(h, w, b as u8);
+        b += 1;
+    }
+    table
 }

@@ -11,27 +11,23 @@ use Rattle.encode_html.proofs.Text.{written-some, written-most}
 use Rattle.encode_html.proofs.fill.write_byte.Statement.{statement}
 use Rattle.encode_html.proofs.fill.write_byte.Tie as tie
 
-word-requires : tie.Need-word-requires
-word-requires c κs = search needs
-
 store-requires : tie.Need-store-requires
-store-requires c κs = omega (arith, written-some (c .before .before .before .args .h) (c .before .before .before .args .b), c .before .before .before .pre .1)
+store-requires c κs = omega (arith, written-some (c .before .before .args .h) (c .before .before .args .b), c .before .before .pre .1)
 
 same-length : tie.Need-same-length
 same-length c = search needs
 
 returns : tie.Need-returns
 returns c =
-    let s = c .before .before .before .before .before .before in
+    let s = c .before .before .before .before .before in
     let a = s .args in
     let w = written (a .h) (a .b) in
-    let x = c .before .before .before .before .word in
     let p = c .before .before .store in
     let e = word-is (a .h) (a .b) (s .fits .b .fits) in (
-      p .ensures .0 ∙ rw (x .ensures) (e .0),
-      rw (p .ensures .1, x .ensures)
+      p .ensures .0 ∙ rw (s .pre .0) (e .0),
+      rw (p .ensures .1, s .pre .0)
           (word-spills w (eight (wordOf w)) (a .output .now) (e .1) refl (written-some (a .h) (a .b)) (omega (arith, written-most (a .h) (a .b)))),
     )
 
 pub write-byte-spec : {M : Type 1} → statement M
-write-byte-spec = tie.close (tie.spec word-requires store-requires same-length returns)
+write-byte-spec = tie.close (tie.spec store-requires same-length returns)

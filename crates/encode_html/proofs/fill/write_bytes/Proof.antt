@@ -20,8 +20,11 @@ abbrev μ-loop : tie.MeasureT-loop
 loop-holds : tie.Need-loop-holds Inv-loop μ-loop
 loop-holds c = (search needs, spilt-start _ _ (c .before .before .pre .1))
 
-shared-slice-read-write-byte : tie.Need-shared-slice-read-write-byte Inv-loop μ-loop
-shared-slice-read-write-byte c = search needs
+shared-slice-read-b : tie.Need-shared-slice-read-b Inv-loop μ-loop
+shared-slice-read-b c = search needs
+
+word-requires : tie.Need-word-requires Inv-loop μ-loop
+word-requires c κs = c .before .before .before .before .before .pre .0
 
 sub-write-byte : tie.Need-sub-write-byte Inv-loop μ-loop
 sub-write-byte c = search needs
@@ -34,14 +37,14 @@ part-write-byte-end c = search needs
 
 write-byte-requires : tie.Need-write-byte-requires Inv-loop μ-loop
 write-byte-requires c κs =
-    let s = c .before .before .before .before .before .before in
-    let l = c .before .before .before .loop in
-    (s .pre .0, spilt-room (l .inv .1) (next-byte (s .args .h) (s .args .text .now) (l .i) (search needs)))
+    let s = c .before .before .before .before .before .before .before in
+    let l = c .before .before .before .before .loop in
+    (c .before .word .ensures, spilt-room (l .inv .1) (next-byte (s .args .h) (s .args .text .now) (l .i) (search needs)))
 
 add-at : tie.Need-add-at Inv-loop μ-loop
 add-at c =
-    let s = c .before .before .before .before .before .before .before .before .before in
-    let l = c .before .before .before .before .before .before .loop in
+    let s = c .before .before .before .before .before .before .before .before .before .before in
+    let l = c .before .before .before .before .before .before .before .loop in
     omega (arith, c .before .before .write-byte .ensures .0, spilt-next (l .inv .1) (next-byte (s .args .h) (s .args .text .now) (l .i) (search needs)))
 
 add-i : tie.Need-add-i Inv-loop μ-loop
@@ -52,8 +55,8 @@ loop-less c = search needs
 
 loop-again : tie.Need-loop-again Inv-loop μ-loop
 loop-again c =
-    let s = c .before .before .before .before .before .before .before .before .before in
-    let l = c .before .before .before .before .before .before .loop in
+    let s = c .before .before .before .before .before .before .before .before .before .before in
+    let l = c .before .before .before .before .before .before .before .loop in
     let p = c .before .before .write-byte in
     let next = next-byte (s .args .h) (s .args .text .now) (l .i) (search needs) in
     (search needs, spilt-put (l .inv .1) next (p .last .1 .1 .1 .0) (p .result) (p .ensures .0) (p .kept .1 .1 .1 .0) (p .ensures .1))
@@ -74,7 +77,8 @@ write-bytes-spec =
     Inv-loop
     μ-loop
     loop-holds
-    shared-slice-read-write-byte
+    shared-slice-read-b
+    word-requires
     sub-write-byte
     part-write-byte-start
     part-write-byte-end

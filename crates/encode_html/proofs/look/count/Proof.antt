@@ -62,7 +62,7 @@ loop-again c =
     let size = part-length t (l .i) (e .result) from (search needs) in (
       grown-part (a .h) t (l .i) (e .result) (l .n) (y .result .grow) from (search needs) (y .ensures .0) (l .inv .0),
       hit-part (a .h) t (l .i) (e .result) (l .hits) (y .result .replaced) from (search needs) (y .ensures .1) (l .inv .1),
-      omega (arith, y .ensures .2),
+      omega (arith, y .ensures .2, e .ensures),
       λ z. each-part Ascii t (l .i) (e .result) from (search needs) (l .inv .3 (omega arith)) (y .ensures .3 (omega arith)),
     )
 

@@ -1,0 +1,14 @@
+-- The test, both ways.
+-- Assumes nothing.
+use borrow.Author.Tests.{lt-ltb, le-ltb}
+use Rattle.encode_html.proofs.cold.low.Statement.{statement}
+use Rattle.encode_html.proofs.cold.low.Tie as tie
+
+returns : tie.Need-returns
+returns c = rw (lt-ltb _ _ (c .if1 .taken))
+
+returns-2 : tie.Need-returns-2
+returns-2 c = rw (le-ltb _ _ (c .if1 .left))
+
+pub low-spec : {M : Type 1} → statement M
+low-spec = tie.close (tie.spec returns returns-2)

@@ -1,0 +1,99 @@
+-- What is written so far, with what the rest of the text gives, is the encoding of the whole; the measure is what is left of the text.
+-- Assumes nothing.
+use Prim.Native.Nat.{_-_, _≤_}
+use native.Mathlib.Omega.{arith}
+use lib.ListN.{length, drop}
+use borrow.Author.Needs.{needs}
+use Rattle.rules.specs.Operations.{encodeOf}
+use Rattle.rules.specs.declared.Context.the-variants.{InHtml}
+use Rattle.encode_html.proofs.Spilt.{Spilt, spilt-start, spilt-room, spilt-next, spilt-put, spilt-end}
+use Rattle.encode_html.proofs.Text.{next-byte, next-none}
+use Rattle.encode_html.proofs.fill.write_words.Statement.{statement}
+use Rattle.encode_html.proofs.fill.write_words.Tie as tie
+
+abbrev Inv-loop : tie.InvT-loop
+Inv-loop h table text output₀ at₀ i₀ output at i = (i ≤ length text) × Spilt (encodeOf (InHtml h) text) (encodeOf (InHtml h) (drop i text)) output₀ output at
+
+abbrev μ-loop : tie.MeasureT-loop
+μ-loop h table text output₀ at₀ i₀ output at i = length text - i
+
+loop-holds : tie.Need-loop-holds Inv-loop μ-loop
+loop-holds c = (search needs, spilt-start _ _ (c .before .before .pre .1))
+
+shared-slice-read-b : tie.Need-shared-slice-read-b Inv-loop μ-loop
+shared-slice-read-b c = search needs
+
+cast-write-byte : tie.Need-cast-write-byte Inv-loop μ-loop
+cast-write-byte c = let byte = c .before .before .before .before .shared-slice-known .given (c .before .before .loop .i) .fits in search needs
+
+mul-write-byte : tie.Need-mul-write-byte Inv-loop μ-loop
+mul-write-byte c = let byte = c .before .before .before .before .shared-slice-known .given (c .before .before .loop .i) .fits in search needs
+
+element-copy-out-write-byte : tie.Need-element-copy-out-write-byte Inv-loop μ-loop
+element-copy-out-write-byte c = let byte = c .before .before .before .before .shared-slice-known .given (c .before .before .loop .i) .fits in search needs
+
+sub-write-byte : tie.Need-sub-write-byte Inv-loop μ-loop
+sub-write-byte c = search needs
+
+part-write-byte-start : tie.Need-part-write-byte-start Inv-loop μ-loop
+part-write-byte-start c = search needs
+
+part-write-byte-end : tie.Need-part-write-byte-end Inv-loop μ-loop
+part-write-byte-end c = search needs
+
+write-byte-requires : tie.Need-write-byte-requires Inv-loop μ-loop
+write-byte-requires c κs =
+    let s = c .before .before .before .before .before .before .before in
+    let l = c .before .before .before .before .loop in
+    (s .pre .0 _ (c .before .before .before .before .before .before .shared-slice-known .given (l .i) .fits), spilt-room (l .inv .1) (next-byte (s .args .h) (s .args .text .now) (l .i) (search needs)))
+
+add-at : tie.Need-add-at Inv-loop μ-loop
+add-at c =
+    let s = c .before .before .before .before .before .before .before .before .before .before in
+    let l = c .before .before .before .before .before .before .before .loop in
+    omega (arith, c .before .before .write-byte .ensures .0, spilt-next (l .inv .1) (next-byte (s .args .h) (s .args .text .now) (l .i) (search needs)))
+
+add-i : tie.Need-add-i Inv-loop μ-loop
+add-i c = search needs
+
+loop-less : tie.Need-loop-less Inv-loop μ-loop
+loop-less c = search needs
+
+loop-again : tie.Need-loop-again Inv-loop μ-loop
+loop-again c =
+    let s = c .before .before .before .before .before .before .before .before .before .before in
+    let l = c .before .before .before .before .before .before .before .loop in
+    let p = c .before .before .write-byte in
+    let next = next-byte (s .args .h) (s .args .text .now) (l .i) (search needs) in
+    (search needs, spilt-put (l .inv .1) next (p .last .1 .1 .1 .0) (p .result) (p .ensures .0) (p .kept .1 .1 .1 .0) (p .ensures .1))
+
+same-length : tie.Need-same-length Inv-loop μ-loop
+same-length c = search needs
+
+returns : tie.Need-returns Inv-loop μ-loop
+returns c =
+    let s = c .before .before .before .before in
+    let l = c .before .loop in
+    spilt-end (rw (next-none (s .args .h) (s .args .text .now) (l .i) (c .loop-test .left)) at (l .inv .1))
+
+pub write-words-spec : {M : Type 1} → statement M
+write-words-spec =
+    tie.close
+    (tie.spec
+    Inv-loop
+    μ-loop
+    loop-holds
+    shared-slice-read-b
+    cast-write-byte
+    mul-write-byte
+    element-copy-out-write-byte
+    sub-write-byte
+    part-write-byte-start
+    part-write-byte-end
+    write-byte-requires
+    add-at
+    add-i
+    loop-less
+    loop-again
+    same-length
+    returns)
