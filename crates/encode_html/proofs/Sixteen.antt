@@ -1,33 +1,30 @@
 -- Sixteen bytes of which none is a key are their own encoding: a byte that is no key is written as itself, which is computed for every byte in
 -- each of the HTML seven but the unquoted attribute.
 -- Assumes nothing.
-use mathlib.Core.Bool.{Bool, true, false, not, cond}
-use mathlib.Core.Path.{_≡_, refl, sym, ap, _∙_, subst}
+use mathlib.Core.Bool.{Bool, false, not, cond}
+use mathlib.Core.Path.{_≡_, sym, ap, _∙_, subst}
 use mathlib.Core.List.{List}
 use Prim.Native.Nat.{ℕ, _<_}
 use native.Mathlib.Omega.{arith}
-use borrow.Author.Tests.{ltb-true, ltb-false, lt-ltb}
+use borrow.Author.Tests.{lt-ltb}
 use lib.Dec.{ltb}
 use lib.ListN.{length, getD}
 use Rattle.rules.specs.Encoding.{encodeStep}
 use Rattle.rules.specs.Operations.{encodeOf}
 use Rattle.rules.specs.declared.Html.{Html}
 use Rattle.rules.specs.declared.Context.the-variants.{InHtml}
-use Rattle.plain.specs.Plain.{unquoted}
+use Rattle.plain.specs.Plain.{unquoted, lesser}
+use Rattle.plain.proofs.Xors.{lesser-most}
 use Rattle.encode_html.specs.Written.{written}
 use Rattle.encode_html.specs.Gains.{gainsOf}
-use Rattle.encode_html.specs.Keys.{keysOf, lesser, farOf}
+use Rattle.encode_html.specs.Keys.{keysOf, farOf}
 use Rattle.encode_html.specs.declared.look.Keys.{Keys}
 use Rattle.encode_html.proofs.Seven.{agree}
 use Rattle.encode_html.proofs.Text.{copied, single-length}
 
 -- The lesser of two is above 0 only if both are.
 pub lesser-some : (a b : ℕ) → 0 < lesser a b → (0 < a) × (0 < b)
-lesser-some a b = go (ltb a b) refl
-  where
-    go : (x : Bool) → ltb a b ≡ x → 0 < cond x a b → (0 < a) × (0 < b)
-    go true q l = (l, omega (arith, l, ltb-true a b q))
-    go false q l = (omega (arith, l, ltb-false a b q), l)
+lesser-some a b l = let most = lesser-most a b in (omega (arith, l, most), omega (arith, l, most))
 
 far-single : (h : Html) → unquoted h ≡ false → (b : ℕ) → b < 256 → 0 < farOf (keysOf (gainsOf h)) b → length (written h b) ≡ 1
 unfolding written encodeStep

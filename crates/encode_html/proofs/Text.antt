@@ -27,18 +27,6 @@ use Rattle.encode_html.proofs.Seven.{seven}
 bytewise : (h : Html) → T (all ofByte (table (InHtml h)))
 bytewise = seven (λ (h : Html). all ofByte (table (InHtml h))) tt
 
--- What holds of every byte before a part and of every byte of the part.
-pub each-part : (P : ℕ → Type 0) (t : List ℕ) (i e : ℕ) → i ≤ e → e ≤ length t → ((k : ℕ) → k < i → P (getD t k 0)) → Each P (take (e - i) (drop i t))
-    → (k : ℕ) → k < e → P (getD t k 0)
-each-part P t i e h l f g k b = go (ltb k i) refl
-  where
-    go : (x : Bool) → ltb k i ≡ x → P (getD t k 0)
-    go true q = f k (ltb-true k i q)
-    go false q =
-        let m : i ≤ k = ltb-false k i q in
-        let j : i + (k - i) ≡ k = omega arith in
-        rw (part-at t i e (k - i) (omega arith), j) at (g (k - i) (rw (part-length t i e h l) (omega arith)))
-
 module _ (h : Html) where
   -- ---- a byte
 

@@ -6,6 +6,7 @@ use Prim.Native.Nat.{ℕ}
 use lib.Bits.{bitXor}
 use lib.Dec.{eqb, ltb}
 use lib.ListN.{getD}
+use Rattle.plain.specs.Plain.{lesser}
 use Rattle.encode_html.specs.declared.gains.Gains.{Gains}
 use Rattle.encode_html.specs.declared.look.Keys.{Keys}
 
@@ -27,10 +28,6 @@ special k b =
 -- Such a byte is at place i of a text.
 abbrev pub specialAt : Keys → List ℕ → ℕ → Bool
 specialAt k t i = special k (getD t i 0)
-
--- The lesser of two numbers.
-abbrev pub lesser : ℕ → ℕ → ℕ
-lesser a b = cond (ltb a b) a b
 
 -- 0 where the byte is `&`, `<` or a key: the least of its differences from them, bit by bit.
 abbrev pub farOf : Keys → ℕ → ℕ

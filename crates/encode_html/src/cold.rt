@@ -2,17 +2,11 @@
 // outcomes is kept: two vector instructions for each key. A test that is true or false for each byte and key is not compiled so,
 // nor is one that has a branch, even if it is the same for every byte.
 use super::look::Keys;
+use plain::look::low;
 ghost use mathlib.Core.Path.{_≡_};
 ghost use Prim.Native.Nat.{ℕ, _≤_, _<_};
 ghost use lib.ListN.{length, getD};
-ghost use Rattle.encode_html.specs.Keys.{lesser, farOf};
-
-// Returns the lesser of two bytes.
-fn low(a: u8, b: u8) -> u8
-    ensures { λ r. ⌜ r ≡ lesser a b ⌝ }
-{
-    if a < b { a } else { b }
-}
+ghost use Rattle.encode_html.specs.Keys.{farOf};
 
 // Returns 0 if the byte is `&`, `<` or one of the keys, else more.
 fn far(k: Keys, b: u8) -> u8

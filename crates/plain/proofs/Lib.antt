@@ -1,2 +1,4 @@
 -- The laws of plain texts.
 pub mod Kept
+pub mod Xors
+pub mod Parts

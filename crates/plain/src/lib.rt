@@ -1,10 +1,13 @@
 // Plain texts, which no operation changes, as most names are: they are found many bytes at a time.
+pub mod look;
+
 ghost use mathlib.Core.Bool.{true, false, not};
 ghost use mathlib.Core.Path.{_≡_};
 ghost use Prim.Native.Nat.{_+_, _≤_, _<_};
 ghost use lib.ListN.{length};
 ghost use Rattle.base.specs.First.{Free};
-ghost use Rattle.plain.specs.Plain.{plain, specialAt};
+ghost use Rattle.plain.specs.Plain.{plain, specialAt, farOf};
+use look::low;
 
 // The sizes of the blocks in which a text is tested: the largest that fits into it, since fewer blocks are fewer branches. LARGE is four vectors.
 const SMALL: usize = 8;
@@ -32,7 +35,7 @@ fn is_special(unquoted: bool, b: u8) -> bool
 }
 
 // Reports whether one of the `size` bytes at `at` is not plain. The loop has no early exit, so that it becomes vector code.
-fn has_special(unquoted: bool, text: &[u8], at: usize, size: usize) -> bool
+fn any_special(unquoted: bool, text: &[u8], at: usize, size: usize) -> bool
     requires { ⌜ at + size ≤ length (now text) ⌝ }
     ensures { λ r. ⌜ (r ≡ false → Free (specialAt unquoted (now (text .entry))) at (at + size)) ⌝ }
 {
@@ -43,6 +46,44 @@ fn has_special(unquoted: bool, text: &[u8], at: usize, size: usize) -> bool
         j += 1;
     }
     hit
+}
+
+// Returns the least xor of a byte with each byte that is not plain, whose highest bit is set, and of 31 for a control: above 128 only for a plain byte.
+fn far(b: u8) -> u8
+    ensures { λ r. ⌜ r ≡ farOf b ⌝ }
+{
+    low(
+        low(low(b ^ 0xA2, b ^ 0xA6), low(b ^ 0xA7, b ^ 0xAF)),
+        low(low(b ^ 0xBC, b ^ 0xBE), low(b ^ 0xDC, (b | 31) ^ 0x9F)),
+    )
+}
+
+// Returns the least of these for the `size` bytes at `at`. It is quicker than a test of each byte, for one vector or more.
+fn least(text: &[u8], at: usize, size: usize) -> u8
+    requires { ⌜ at + size ≤ length (now text) ⌝ }
+    ensures { λ r. ⌜ (128 < r → Free (specialAt false (now (text .entry))) at (at + size)) ⌝ }
+{
+    let mut m: u8 = 255;
+    let mut j: usize = 0;
+    while j < size {
+        m = low(m, far(text[at + j]));
+        j += 1;
+    }
+    m
+}
+
+// Reports whether one of the `size` bytes at `at` is not plain.
+fn has_special(unquoted: bool, text: &[u8], at: usize, size: usize) -> bool
+    requires { ⌜ at + size ≤ length (now text) ⌝ }
+    ensures { λ r. ⌜ (r ≡ false → Free (specialAt unquoted (now (text .entry))) at (at + size)) ⌝ }
+{
+    if unquoted {
+        return any_special(unquoted, text, at, size);
+    }
+    if size < MEDIUM {
+        return any_special(unquoted, text, at, size);
+    }
+    least(text, at, size) <= 128
 }
 
 // Reports whether every byte of a text is plain, by blocks of `size` bytes; the last block may overlap the one before.

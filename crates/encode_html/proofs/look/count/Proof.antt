@@ -8,7 +8,7 @@ use borrow.Author.Needs.{needs}
 use Rattle.base.proofs.Part.{part-length}
 use Rattle.encode_html.specs.Gains.{Ascii}
 use Rattle.encode_html.proofs.Growth.{Grown, grown-start, grown-part, grown-end, Hit, hit-start, hit-part, hit-end}
-use Rattle.encode_html.proofs.Text.{each-part}
+use Rattle.plain.proofs.Parts.{each-part}
 use Rattle.encode_html.proofs.look.count.Statement.{statement}
 use Rattle.encode_html.proofs.look.count.Tie as tie
 

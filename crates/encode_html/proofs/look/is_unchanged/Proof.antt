@@ -10,7 +10,7 @@ use Rattle.encode_html.specs.Keys.{keysOf, special}
 use Rattle.encode_html.specs.declared.gains.Gains.{Gains}
 use Rattle.encode_html.specs.declared.look.Keys.{Keys}
 use Rattle.encode_html.proofs.Seven.{differ}
-use Rattle.encode_html.proofs.Text.{each-part}
+use Rattle.plain.proofs.Parts.{each-part}
 use Rattle.encode_html.proofs.Unchanged.{special-unchanged}
 use Rattle.encode_html.proofs.look.is_unchanged.Statement.{statement}
 use Rattle.encode_html.proofs.look.is_unchanged.Tie as tie

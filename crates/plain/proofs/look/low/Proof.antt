@@ -1,8 +1,8 @@
 -- The test, both ways.
 -- Assumes nothing.
 use borrow.Author.Tests.{lt-ltb, le-ltb}
-use Rattle.encode_html.proofs.cold.low.Statement.{statement}
-use Rattle.encode_html.proofs.cold.low.Tie as tie
+use Rattle.plain.proofs.look.low.Statement.{statement}
+use Rattle.plain.proofs.look.low.Tie as tie
 
 returns : tie.Need-returns
 returns c = rw (lt-ltb _ _ (c .if1 .taken))

@@ -1,0 +1,48 @@
+-- The least so far is at most the xor of each byte that is passed.
+-- Assumes nothing.
+use Prim.Native.Nat.{ℕ, _-_, _≤_, _<_}
+use native.Mathlib.Omega.{arith}
+use lib.Bits.{bitXor}
+use lib.ListN.{length, getD}
+use borrow.Author.Count.{below-more}
+use borrow.Author.Needs.{needs}
+use Rattle.plain.proofs.Xors.{lesser-most}
+use Rattle.plain.proofs.look.least.Statement.{statement}
+use Rattle.plain.proofs.look.least.Tie as tie
+
+abbrev Inv-loop : tie.InvT-loop
+Inv-loop key part m₀ i₀ m i = (i ≤ length part) × ((k : ℕ) → k < i → m ≤ bitXor (getD part k 0) key)
+
+abbrev μ-loop : tie.MeasureT-loop
+μ-loop key part m₀ i₀ m i = length part - i
+
+loop-holds : tie.Need-loop-holds Inv-loop μ-loop
+loop-holds c = (search needs, λ k l. absurd (omega arith))
+
+shared-slice-read-low : tie.Need-shared-slice-read-low Inv-loop μ-loop
+shared-slice-read-low c = search needs
+
+low-requires : tie.Need-low-requires Inv-loop μ-loop
+low-requires c κs = search needs
+
+add-i : tie.Need-add-i Inv-loop μ-loop
+add-i c = search needs
+
+loop-less : tie.Need-loop-less Inv-loop μ-loop
+loop-less c = search needs
+
+loop-again : tie.Need-loop-again Inv-loop μ-loop
+loop-again c =
+    let a = c .before .before .before .before .before .args in
+    let l = c .before .before .before .loop in
+    let x = bitXor (getD (a .part .now) (l .i) 0) (a .key) in
+    let most = lesser-most (l .m) x in
+    (search needs, below-more _ _ (λ k h. omega (arith, l .inv .1 k h, most, c .low .ensures)) (omega (arith, most, c .low .ensures)))
+
+returns : tie.Need-returns Inv-loop μ-loop
+returns c =
+    let l = c .before .loop in
+    λ k h. l .inv .1 k (omega arith)
+
+pub least-spec : {M : Type 1} → statement M
+least-spec = tie.close (tie.spec Inv-loop μ-loop loop-holds shared-slice-read-low low-requires add-i loop-less loop-again returns)
