@@ -39,7 +39,7 @@ fair Decoded p s = decode-fair (InHtml Text) p s
 fair (Browsed kind) p s = browse-fair kind p s
 
 -- Any byte but `&` is kept.
-keeps : (reader : Reader) (p x : ℕ) (s : List ℕ) → (x ≡ 38 → ⊥) → stepBy reader p (x ∷ s) ≡ keep (x ∷ [])
+pub keeps : (reader : Reader) (p x : ℕ) (s : List ℕ) → (x ≡ 38 → ⊥) → stepBy reader p (x ∷ s) ≡ keep (x ∷ [])
 keeps Decoded p x s h = step-quiet p x s h
 keeps (Browsed kind) p x s h = browse-quiet kind p x s (λ t. h (eqb→eq x 38 t))
 
