@@ -19,7 +19,6 @@ use Rattle.rules.proofs.Loops.{drop-next}
 use Rattle.rules.proofs.ScriptModes.{modes-agree}
 use Rattle.base.specs.First.{Free}
 use Rattle.base.proofs.Filled.{lent-rest}
-use Rattle.base.proofs.Firsts.{free-more}
 use Rattle.scripts.specs.Marks.{letterOf, dashOf, mark, markAt, stopAt, Passed}
 
 -- ---- bytes
@@ -162,11 +161,6 @@ module _ (m : ScriptMode) (t : List ℕ) where
             (λ j x y. subst (λ (n : ℕ). markAt n (dashOf m) t j ≡ false) l (subst (λ (n : ℕ). markAt letter n t j ≡ false) d (f j x (omega arith))))
             ∙ ap from q;
       }
-
--- An answer that is false only where there was no mark, and the answer for one place more.
-pub free-mark : (letter dash : ℕ) (t : List ℕ) (a e : ℕ) (hit more : Bool) → more ≡ markAt letter dash t e → (hit ≡ false → Free (markAt letter dash t) a e)
-    → hit || more ≡ false → Free (markAt letter dash t) a (e + 1)
-free-mark letter dash t a e hit more q f z = free-more (markAt letter dash t) a e hit f (ap (λ (x : Bool). hit || x) (sym q) ∙ z)
 
 -- ---- where something may
 

@@ -1,3 +1,4 @@
 pub mod Named
 pub mod Ends
 pub mod Answered
+pub mod Closest

@@ -2,7 +2,7 @@
 // the text is escaped, dash) to the next, and looks at what stands there.
 ghost use mathlib.Core.Bool.{false, _&&_, cond};
 ghost use mathlib.Core.Path.{_≡_};
-ghost use Prim.Native.Nat.{_+_, _≤_};
+ghost use Prim.Native.Nat.{_+_, _≤_, _<_};
 ghost use lib.ListN.{length};
 ghost use Rattle.rules.specs.Bytes.{is};
 ghost use Rattle.rules.specs.ScriptData.{lower, endsName, spells, ends, dashed, turn, closingTag};
@@ -10,6 +10,7 @@ ghost use Rattle.rules.specs.Closings.{closingAt, closingOf};
 ghost use Rattle.rules.specs.declared.ScriptMode.the-variants.{Plain};
 ghost use Rattle.base.specs.First.{Free};
 ghost use Rattle.scripts.specs.Marks.{letterOf, dashOf, mark, markAt, Passed, foundAt};
+use plain::look::low;
 use rules::Closing;
 use rules::ClosingTag;
 use rules::PASSED;
@@ -79,12 +80,13 @@ fn dash_of(mode: ScriptMode) -> u8
     }
 }
 
-// Reports whether the mode may change, or the element end, at three bytes. It has no branch, so that a loop over it compiles to vector code.
-fn is_mark(letter: u8, dash: u8, a: u8, b: u8, c: u8) -> bool
-    ensures { λ r. ⌜ r ≡ mark letter dash a b c ⌝ }
+// Returns 0 if the mode may change, or the element end, at three bytes. A byte is compared by xor, which is 0 where it is the other; of several outcomes
+// the least is 0 if one is, and all their bits together if all are. Such a loop compiles to vector code, one over tests that are true or false not everywhere.
+fn far(letter: u8, dash: u8, a: u8, b: u8, c: u8) -> u8
+    ensures { λ r. ⌜ (0 < r → mark letter dash a b c ≡ false) ⌝ }
 {
-    ((a == b'<') & ((b == b'/') | (b == b'S') | (b == letter)))
-        | ((a == dash) & (b == b'-') & (c == b'>'))
+    let next = low(low(b ^ b'/', b ^ b'S'), b ^ letter);
+    low((a ^ b'<') | next, (a ^ dash) | (b ^ b'-') | (c ^ b'>'))
 }
 
 // Reports whether that is so at a byte of the block at `at`. The loop has no early exit, so that it becomes vector code.
@@ -92,20 +94,22 @@ fn has_mark(text: &[u8], at: usize, letter: u8, dash: u8) -> bool
     requires { ⌜ at + 18 ≤ length (now text) ⌝ }
     ensures { λ r. ⌜ (r ≡ false → Free (markAt letter dash (now (text .entry))) at (at + 16)) ⌝ }
 {
-    let mut hit = false;
+    let mut m: u8 = 255;
     let mut j: usize = 0;
     while j < BLOCK {
-        hit = hit
-            | is_mark(
+        m = low(
+            m,
+            far(
                 letter,
                 dash,
                 text[at + j],
                 text[at + j + 1],
                 text[at + j + 2],
-            );
+            ),
+        );
         j += 1;
     }
-    hit
+    m == 0
 }
 
 // Skips blocks in which nothing happens from `from` on and returns the start of the first other one, or of what is left after the last block. The two
