@@ -3,7 +3,7 @@
 -- Assumes nothing.
 use mathlib.Core.Bool.{Bool, true, false, _&&_, _||_, cond}
 use mathlib.Core.Path.{_≡_, refl, sym, ap, _∙_}
-use mathlib.Core.List.{List, [], _∷_, _++_, map}
+use mathlib.Core.List.{List, [], _∷_, _++_, map, append-nil}
 use Prim.Native.Nat.{ℕ, suc, _+_, _-_, _≤_, _<_}
 use native.Mathlib.Omega.{arith}
 use borrow.Author.Tests.{ne-eqb, eqb-true, eqb-false}
@@ -21,6 +21,7 @@ use Rattle.base.specs.First.{Free, First}
 use Rattle.base.proofs.Filled.{Next, lent-rest}
 use Rattle.base.proofs.Firsts.{free-step}
 use Rattle.base.proofs.Part.{part-length}
+use Rattle.plain.specs.Plain.{Without}
 use Rattle.encode_raw.specs.Cuts.{cutAt, suspect}
 
 -- ---- what is a cut
@@ -155,3 +156,12 @@ module _ (t : List ℕ) (end i e : ℕ) (inside : end ≤ length t) (cut : First
 -- Nothing is left at the end.
 pub end-length : (t : List ℕ) (end i : ℕ) → end ≤ i → length (result (left t end i)) ≡ 0
 end-length t end i h = ap (λ (ms : List Move). length (result ms)) (end-left t end i h)
+
+-- A text without `<` is kept.
+pub clear-moves : (t : List ℕ) (end : ℕ) → end ≤ length t → Without 60 t → result (take end (through rawStep t)) ≡ take end t
+clear-moves t end h w =
+    let cut : First (cutAt t) end 0 end = record { after = omega arith; within = omega arith; none = λ k a b. other-uncut t k (w k (omega arith) .1); here = λ l. absurd (omega arith) } in
+    let z : end - 0 ≡ end = omega arith in
+    ap result (sym (start-left t end)) ∙ next-quiet t end 0 end h cut .next
+    ∙ ap (λ (ms : List Move). take (end - 0) t ++ result ms) (end-left t end end (omega arith))
+    ∙ append-nil (take (end - 0) t) ∙ ap (λ (n : ℕ). take n t) z

@@ -1,6 +1,6 @@
 // The encoder of raw script text, html-escape's script.rs and encode_impl.rs: a backslash goes in after each `<` that could open a comment or close
 // the element. Only a `<` before `!` or `/` can: blocks without one are skipped by one test, and everything between is copied.
-ghost use mathlib.Core.Bool.{false};
+ghost use mathlib.Core.Bool.{true, false};
 ghost use mathlib.Core.Path.{_≡_};
 ghost use Prim.Native.Nat.{_+_, _≤_};
 ghost use lib.ListN.{length, take};
@@ -9,6 +9,7 @@ ghost use Rattle.rules.specs.Encoding.{parted, rawStep};
 ghost use Rattle.rules.specs.Moves.{through, result};
 ghost use Rattle.rules.specs.Operations.{rawOf};
 ghost use Rattle.base.specs.First.{Free, First};
+ghost use Rattle.plain.specs.Plain.{Without};
 ghost use Rattle.encode_raw.specs.Cuts.{suspect, cutAt};
 
 // The bytes that are tested together: one vector.
@@ -124,6 +125,17 @@ pub fn write_to(text: &[u8], end: usize, output: &mut [u8]) -> usize
         i = e + 1;
     }
     at
+}
+
+// Writes the same; a text that is `clear`, ASCII without `<`, is copied.
+pub fn write_with(clear: bool, text: &[u8], end: usize, output: &mut [u8]) -> usize
+    requires { ⌜ (end ≤ length (now text)) × (length (result (take end (through rawStep (now text)))) ≤ length (now output)) × (clear ≡ true → Without 60 (now text)) ⌝ }
+    ensures { λ r. ⌜ (r ≡ length (result (take end (through rawStep (now (text .entry)))))) × (now (output .exit) ≡ over (result (take end (through rawStep (now (text .entry))))) (now (output .entry))) ⌝ }
+{
+    if clear {
+        return base::put(&text[..end], output);
+    }
+    write_to(text, end, output)
 }
 
 // Writes the encoding of a text to the start of `output` and returns its length; what lies past it keeps its values.

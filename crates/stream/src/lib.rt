@@ -10,6 +10,7 @@ ghost use lib.ListN.{length, take};
 ghost use Rattle.rules.specs.Bytes.{over};
 ghost use Rattle.rules.specs.Refusals.{refusal as refusalOf, partSuccess};
 ghost use Rattle.rules.specs.Stream.{begins as beginsOf, settled as settledOf, heldIn, started, holding as holdingOf, PartAllowed};
+ghost use Rattle.plain.specs.Plain.{Without};
 ghost use Rattle.stream.specs.Seams.{opensName, Sound, Joined, Needed, Released, Clipped};
 use rules::Answer;
 use rules::RawPart;
@@ -114,6 +115,17 @@ fn sound_to(text: &[u8]) -> usize
     valid
 }
 
+// Returns the same; of a text that is `clear`, ASCII without `<`, without a look.
+fn sound_with(clear: bool, text: &[u8]) -> usize
+    requires { ⌜ (clear ≡ true → Without 60 (now text)) ⌝ }
+    ensures { λ r. ⌜ Sound (now (text .entry)) r ⌝ }
+{
+    if clear {
+        return text.len();
+    }
+    sound_to(text)
+}
+
 // Returns a length that is above `room` exactly if the settled bytes of the seam and of the rest need more, and is then what they need. The result is
 // at most a quarter longer than what is read, so that it is measured only if the room is short.
 fn needed(seam: &[u8], s: usize, rest: &[u8], e: usize, room: usize) -> usize
@@ -127,9 +139,9 @@ fn needed(seam: &[u8], s: usize, rest: &[u8], e: usize, room: usize) -> usize
     encode_raw::measure_to(seam, s) + encode_raw::measure_to(rest, e)
 }
 
-// Writes what is settled of the seam and of the rest to `output`, if it has the room.
-fn release(seam: &[u8], s: usize, rest: &[u8], e: usize, output: &mut [u8]) -> Answer
-    requires { ⌜ (s ≤ length (now seam)) × (e ≤ length (now rest)) × (length (now seam) ≤ 65536) × (length (now rest) ≤ 65536) ⌝ }
+// Writes what is settled of the seam and of the rest to `output`, if it has the room. A rest that is `clear`, ASCII without `<`, is copied.
+fn release(seam: &[u8], s: usize, clear: bool, rest: &[u8], e: usize, output: &mut [u8]) -> Answer
+    requires { ⌜ (s ≤ length (now seam)) × (e ≤ length (now rest)) × (length (now seam) ≤ 65536) × (length (now rest) ≤ 65536) × (clear ≡ true → Without 60 (now rest)) ⌝ }
     ensures { λ r. ⌜ Released (now (seam .entry)) s (now (rest .entry)) e (now (output .entry)) r (now (output .exit)) ⌝ }
 {
     let length = needed(seam, s, rest, e, output.len());
@@ -137,7 +149,7 @@ fn release(seam: &[u8], s: usize, rest: &[u8], e: usize, output: &mut [u8]) -> A
         return refusal(rules::NO_ROOM, length, 0);
     }
     let at = encode_raw::write_to(seam, s, output);
-    let n = at + encode_raw::write_to(rest, e, &mut output[at..]);
+    let n = at + encode_raw::write_with(clear, rest, e, &mut output[at..]);
     passed(n, n - (s + e))
 }
 
@@ -167,13 +179,14 @@ fn joined(state: RawState, seam: &[u8], s: usize, rest: &[u8], output: &mut [u8]
         let answer = refusal(rules::NOT_UTF8, 0, done + v);
         return RawPart { answer, state };
     }
-    let w = sound_to(rest);
+    let clear = plain::look::is_without(b'<', rest);
+    let w = sound_with(clear, rest);
     if w < rest.len() {
         let answer = refusal(rules::NOT_UTF8, 0, done + s + w);
         return RawPart { answer, state };
     }
     let e = settled(rest);
-    let answer = release(seam, s, rest, e, output);
+    let answer = release(seam, s, clear, rest, e, output);
     if answer.status != rules::PASSED {
         return RawPart { answer, state };
     }

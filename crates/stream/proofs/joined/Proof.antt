@@ -24,8 +24,11 @@ returns c =
     let a = k .args in
     seam-broken (a .state) (a .seam .now) (a .rest .now) u (a .output .now) (a .s) (k .pre .0) (k .pre .3) e f (c .before .before .sound-to .result) (c .before .before .sound-to .ensures) (c .before .if1 .taken) (c .refusal .ensures)
 
-sound-to-requires-2 : tie.Need-sound-to-requires-2
-sound-to-requires-2 c κs = search needs
+is-without-requires : tie.Need-is-without-requires
+is-without-requires c κs = search needs
+
+sound-with-requires : tie.Need-sound-with-requires
+sound-with-requires c κs = c .is-without .ensures
 
 add-refusal-2 : tie.Need-add-refusal-2
 add-refusal-2 c = search needs
@@ -38,11 +41,11 @@ refusal-requires-2 c κs = search needs
 
 returns-2 : tie.Need-returns-2
 returns-2 c =
-    λ u e f. let k = c .before .before .before .before .before .before .before .before in
+    λ u e f. let k = c .before .before .before .before .before .before .before .before .before in
     let a = k .args in
-    let v = c .before .before .before .before .sound-to in
-    let w = c .before .before .sound-to2 in
-    rest-broken (a .state) (a .seam .now) (a .rest .now) u (a .output .now) (a .s) (k .pre .0) (k .pre .3) e f (v .result) (v .ensures) (c .before .before .before .if1 .left) (w .result) (w .ensures) (c .before .if2 .taken) (c .refusal2 .ensures)
+    let v = c .before .before .before .before .before .sound-to in
+    let w = c .before .before .sound-with in
+    rest-broken (a .state) (a .seam .now) (a .rest .now) u (a .output .now) (a .s) (k .pre .0) (k .pre .3) e f (v .result) (v .ensures) (c .before .before .before .before .if1 .left) (w .result) (w .ensures) (c .before .if2 .taken) (c .refusal2 .ensures)
 
 settled-requires : tie.Need-settled-requires
 settled-requires c κs = search needs
@@ -55,12 +58,12 @@ same-length c = search needs
 
 returns-3 : tie.Need-returns-3
 returns-3 c =
-    λ u e f. let k = c .before .before .before .before .before .before .before .before .before .before .before .before .before .before in
+    λ u e f. let k = c .before .before .before .before .before .before .before .before .before .before .before .before .before .before .before in
     let a = k .args in
-    let v = c .before .before .before .before .before .before .before .before .before .before .sound-to in
-    let w = c .before .before .before .before .before .before .before .before .sound-to2 in
+    let v = c .before .before .before .before .before .before .before .before .before .before .before .sound-to in
+    let w = c .before .before .before .before .before .before .before .before .sound-with in
     let s = c .before .before .before .before .before .before .settled in
-    part-refused (a .state) (a .seam .now) (a .rest .now) u (a .output .now) (a .s) (k .pre .0) (k .pre .3) e f (v .result) (v .ensures) (c .before .before .before .before .before .before .before .before .before .if1 .left) (w .result) (w .ensures) (c .before .before .before .before .before .before .before .if2 .left) (s .result) (s .ensures .0) (c .before .before .before .before .release .ensures) (c .if3 .taken)
+    part-refused (a .state) (a .seam .now) (a .rest .now) u (a .output .now) (a .s) (k .pre .0) (k .pre .3) e f (v .result) (v .ensures) (c .before .before .before .before .before .before .before .before .before .before .if1 .left) (w .result) (w .ensures) (c .before .before .before .before .before .before .before .if2 .left) (s .result) (s .ensures .0) (c .before .before .before .before .release .ensures) (c .if3 .taken)
 
 sub-holding : tie.Need-sub-holding
 sub-holding c = search needs
@@ -79,7 +82,7 @@ add-holding-2 c = search needs
 
 holding-requires : tie.Need-holding-requires
 holding-requires c κs =
-    let a = c .before .before .before .before .before .before .before .before .before .before .before .before .before .before .before .args in
+    let a = c .before .before .before .before .before .before .before .before .before .before .before .before .before .before .before .before .args in
     rw (lent-rest, length-drop) (omega (arith, settled-most (a .rest .now), c .before .before .before .before .before .before .before .settled .ensures .0))
 
 same-length-2 : tie.Need-same-length-2
@@ -87,12 +90,12 @@ same-length-2 c = search needs
 
 returns-4 : tie.Need-returns-4
 returns-4 c =
-    λ u e f. let k = c .before .before .before .before .before .before .before .before .before .before .before .before .before .before .before .before in
+    λ u e f. let k = c .before .before .before .before .before .before .before .before .before .before .before .before .before .before .before .before .before in
     let a = k .args in
-    let v = c .before .before .before .before .before .before .before .before .before .before .before .before .sound-to in
-    let w = c .before .before .before .before .before .before .before .before .before .before .sound-to2 in
+    let v = c .before .before .before .before .before .before .before .before .before .before .before .before .before .sound-to in
+    let w = c .before .before .before .before .before .before .before .before .before .before .sound-with in
     let s = c .before .before .before .before .before .before .before .before .settled in
-    part-passed (a .state) (a .seam .now) (a .rest .now) u (a .output .now) (a .s) (k .pre .0) (k .pre .3) e f (v .result) (v .ensures) (c .before .before .before .before .before .before .before .before .before .before .before .if1 .left) (w .result) (w .ensures) (c .before .before .before .before .before .before .before .before .before .if2 .left) (s .result) (s .ensures .0) (c .before .before .before .before .before .before .release .ensures) (c .before .before .if3 .left) (rw lent-rest at (c .holding .ensures))
+    part-passed (a .state) (a .seam .now) (a .rest .now) u (a .output .now) (a .s) (k .pre .0) (k .pre .3) e f (v .result) (v .ensures) (c .before .before .before .before .before .before .before .before .before .before .before .before .if1 .left) (w .result) (w .ensures) (c .before .before .before .before .before .before .before .before .before .if2 .left) (s .result) (s .ensures .0) (c .before .before .before .before .before .before .release .ensures) (c .before .before .if3 .left) (rw lent-rest at (c .holding .ensures))
 
 pub joined-spec : {M : Type 1} → statement M
 joined-spec =
@@ -102,7 +105,8 @@ joined-spec =
     add-refusal
     refusal-requires
     returns
-    sound-to-requires-2
+    is-without-requires
+    sound-with-requires
     add-refusal-2
     add-refusal-3
     refusal-requires-2

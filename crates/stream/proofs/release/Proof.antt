@@ -47,20 +47,22 @@ returns c =
 write-to-requires : tie.Need-write-to-requires
 write-to-requires c κs = (c .before .before .before .before .before .before .pre .0, let r = room (c .before) in omega (arith, r))
 
-sub-write-to : tie.Need-sub-write-to
-sub-write-to c = filled-within (first c)
+sub-write-with : tie.Need-sub-write-with
+sub-write-with c = filled-within (first c)
 
-part-write-to-start : tie.Need-part-write-to-start
-part-write-to-start c = filled-within (first c)
+part-write-with-start : tie.Need-part-write-with-start
+part-write-with-start c = filled-within (first c)
 
-part-write-to-end : tie.Need-part-write-to-end
-part-write-to-end c = search needs
+part-write-with-end : tie.Need-part-write-with-end
+part-write-with-end c = search needs
 
-write-to-requires-2 : tie.Need-write-to-requires-2
-write-to-requires-2 c κs = (c .before .before .before .before .before .before .before .before .before .before .pre .1, filled-room (first (c .before)) (rest (c .before)))
+write-with-requires : tie.Need-write-with-requires
+write-with-requires c κs =
+    let k = c .before .before .before .before .before .before .before .before .before .before in
+    (k .pre .1, filled-room (first (c .before)) (rest (c .before)), k .pre .4)
 
 add-n : tie.Need-add-n
-add-n c = omega (arith, c .before .before .write-to2 .ensures .0, filled-next (first (c .before .before .before .before)) (rest (c .before .before .before .before)))
+add-n c = omega (arith, c .before .before .write-with .ensures .0, filled-next (first (c .before .before .before .before)) (rest (c .before .before .before .before)))
 
 add-passed : tie.Need-add-passed
 add-passed c = search needs
@@ -69,7 +71,7 @@ sub-passed : tie.Need-sub-passed
 sub-passed c =
     let k = c .before .before .before .before .before .before .before .before .before .before .before .before .before in
     let a = k .args in
-    omega (arith, c .before .before .before .before .before .before .write-to .ensures .0, c .before .before .write-to2 .ensures .0, front-long (a .s) (a .seam .now) (k .pre .0), front-long (a .e) (a .rest .now) (k .pre .1))
+    omega (arith, c .before .before .before .before .before .before .write-to .ensures .0, c .before .before .write-with .ensures .0, front-long (a .s) (a .seam .now) (k .pre .0), front-long (a .e) (a .rest .now) (k .pre .1))
 
 passed-requires : tie.Need-passed-requires
 passed-requires c κs = search needs
@@ -81,8 +83,8 @@ returns-2 : tie.Need-returns-2
 returns-2 c =
     let k = c .before .before .before .before .before in
     let a = c .before .before .before .before .before .before .before .before .before .before .before .before .before .before .args in
-    let w = c .before .before .before .write-to2 in
-    let f = filled-put (first k) (rest k) (w .last .1 .1 .0) (w .result) (w .ensures .0) (w .ensures .1) in
+    let w = c .before .before .before .write-with in
+    let f = filled-put (first k) (rest k) (w .last .1 .1 .1 .0) (w .result) (w .ensures .0) (w .ensures .1) in
     released-all (a .seam .now) (a .s) (a .rest .now) (a .e) (a .output .now) (room (k .before .before .before .before)) (filled-all f refl) (c .passed .ensures)
 
 pub release-spec : {M : Type 1} → statement M
@@ -93,10 +95,10 @@ release-spec =
     refusal-requires
     returns
     write-to-requires
-    sub-write-to
-    part-write-to-start
-    part-write-to-end
-    write-to-requires-2
+    sub-write-with
+    part-write-with-start
+    part-write-with-end
+    write-with-requires
     add-n
     add-passed
     sub-passed
