@@ -19,7 +19,7 @@ pub struct Effort {
     pub round: Duration,
 }
 
-/// Medians in nanoseconds per byte of the text; where instructions are counted, their number per byte.
+/// Medians in nanoseconds per byte of the text that the side gets; where instructions are counted, their number per byte.
 pub struct Row {
     pub case: Case,
     /// The most that `ratio` may be. Counts have no limit.
@@ -148,6 +148,7 @@ pub fn compare(case: &Case, rooms: &mut Rooms) -> Result<(), String> {
 
 /// Measures a case: calibrates each pass (which also warms up), then takes rounds, each of which starts with another pass.
 pub fn measure(case: Case, rooms: &mut Rooms, effort: &Effort) -> Row {
+    let bytes = case.bytes();
     let mut passes = passes(&case, rooms);
     let mut repeats = [0; 4];
     for (pass, repeats) in passes.iter_mut().zip(&mut repeats) {
@@ -158,7 +159,7 @@ pub fn measure(case: Case, rooms: &mut Rooms, effort: &Effort) -> Row {
         for turn in 0..4 {
             let i = (round + turn) % 4;
             let spent = time(&mut passes[i], repeats[i]);
-            times[i].push(spent.as_nanos() as f64 / repeats[i] as f64 / case.bytes() as f64);
+            times[i].push(spent.as_nanos() as f64 / repeats[i] as f64 / bytes[i] as f64);
         }
     }
     drop(passes);

@@ -38,14 +38,15 @@ impl Counter {
 
 /// Counts a case: each pass once to warm up, then once more between two looks at the count. What the looks take themselves is not counted.
 pub fn count(case: Case, rooms: &mut Rooms, counter: &Counter) -> Row {
+    let bytes = case.bytes();
     let mut passes = passes(&case, rooms);
     let mut counts = [0.0; 4];
-    for (pass, count) in passes.iter_mut().zip(&mut counts) {
+    for ((pass, count), bytes) in passes.iter_mut().zip(&mut counts).zip(bytes) {
         pass();
         let (first, second) = (counter.now(), counter.now());
         pass();
         let third = counter.now();
-        *count = ((third - second) - (second - first)) as f64 / case.bytes() as f64;
+        *count = ((third - second) - (second - first)) as f64 / bytes as f64;
     }
     drop(passes);
     let [ours, alone, checked, copied] = counts;

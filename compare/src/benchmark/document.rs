@@ -100,7 +100,8 @@ beside the crate's decoder of the same context on the same written form, though 
 it is held beside `encode_script` on the same text, of which none ends before its own end, so that all of it is read. `fill_page` fills forty names in one
 call, and is held beside forty calls of the crate, and beside forty of our own (\"encode for a page\"). script_raw by parts is start, a part for each
 4 KiB of the text, and finish, held beside `encode_script` of the whole text. `json`, which the crate has not, is held beside its functions of
-double-quoted script strings: encode on the same text, decode, take and check beside the decoder on the script form of the same text.
+double-quoted script strings: encode on the same text, decode, take and check beside the decoder on the script form of the same text. As the two forms
+differ in length, the crate's time there is per byte of the script form, which is the text that it reads.
 
 ";
 

@@ -95,9 +95,11 @@ impl Case {
         (self.operation, self.context) == (Operation::Encode, JSON)
     }
 
-    /// The number of bytes that one pass over the texts takes.
-    pub fn bytes(&self) -> usize {
-        self.texts.iter().map(String::len).sum()
+    /// The number of bytes that one pass over the texts takes: ours, the crate's two, which are over `others`, and the copy's.
+    pub fn bytes(&self) -> [usize; 4] {
+        let bytes = |texts: &[String]| texts.iter().map(String::len).sum();
+        let (ours, theirs) = (bytes(&self.texts), bytes(&self.others()));
+        [ours, theirs, theirs, ours]
     }
 
     /// The contexts that are of one kind, with the operation.
