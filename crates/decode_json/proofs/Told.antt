@@ -1,32 +1,42 @@
 -- An escape as the code reads it is the move of the rule: a row of the two-character escapes by its second byte, else the number of four hex digits.
 -- Assumes nothing.
 use mathlib.Core.Bool.{Bool, true, false, not, _&&_, cond}
-use mathlib.Core.Logic.{inl, inr}
-use mathlib.Core.Option.{Option, none, some, Option·none-ne-some}
+use mathlib.Core.Option.{Option, none, some}
 use mathlib.Core.Path.{_≡_, refl, sym, ap, _∙_, subst}
 use mathlib.Core.List.{List, [], _∷_, _++_}
-use Prim.Native.Nat.{ℕ, suc, _+_, _-_, _*_, _≤_, _<_}
+use Prim.Native.Nat.{ℕ, suc, _+_, _*_, _/_, _%_, _^_, _≤_, _<_}
 use native.Mathlib.Omega.{arith}
-use borrow.Author.Tests.{lt-ltb, le-ltb}
+use borrow.Author.Tests.{lt-ltb, le-ltb, le-leb, ltb-true, ltb-false}
 use lib.Dec.{T, eqb, ltb, leb, eqb→eq, ltb→lt, leb→le}
 use lib.ListN.{length, take, drop, getD}
-use Rattle.rules.specs.Bytes.{ascii, In, stands, inside, oneOf, sameBytes}
+use Rattle.rules.specs.Bytes.{ascii, stands, inside, oneOf, sameBytes}
 use Rattle.rules.specs.Moves.{Move, keep, swap, stop, why}
 use Rattle.rules.specs.Utf8.{utf8}
 use Rattle.rules.specs.Tables.{Row, rowAt, key, value}
 use Rattle.rules.specs.Reading.{undo, unless}
 use Rattle.rules.specs.References.{hexDigitAt, number}
 use Rattle.rules.specs.Json.{escapedOnly, shortEscapes, highs, lows, pairOf, fourAt, unicodeAt, atHigh, atUnicode, keepUnescaped, atEscape, jsonStep}
-use Rattle.rules.specs.declared.Escape.{Escape}
 use Rattle.rules.specs.declared.Escape.the-variants.{Taken, Nothing}
-use Rattle.rules.proofs.Tests.{and-left, and-right, is-false, first-none, same-bytes}
+use Rattle.rules.proofs.Tests.{and-left, and-right, is-false, same-bytes}
 use Rattle.rules.proofs.EveryByte.{every-byte}
+use Rattle.rules.proofs.Below.{agree, agrees}
 use Rattle.rules.proofs.Json.{unicode-shape, at-unicode}
 use Rattle.base.specs.Digits.{below}
 use Rattle.base.proofs.Widths.{utf8-length}
-use Rattle.decode_json.specs.Escapes.{charOf, shortOf, Numbered, Tells}
+use Rattle.decode_json.specs.Escapes.{charOf, shortOf, Numbered, single, Tells}
 
 -- ---- two characters
+
+-- A test that passes where two others do.
+abbrev implied : Bool → Bool → Bool → Bool
+implied true true c = c
+implied true false c = true
+implied false b c = true
+
+computed : (a b c : Bool) → T (implied a b c) → a ≡ true → b ≡ true → T c
+computed true true c t e f = t
+computed true false c t e f = absurd (subst T (sym f) tt)
+computed false b c t e f = absurd (subst T (sym e) tt)
 
 -- A row that is found has the value `\b`, and its key is one ASCII character that is not NUL.
 abbrev rowIs : Option Row → ℕ → Bool
@@ -52,23 +62,44 @@ short-none b s h e = go (rowAt value shortEscapes (0x5C ∷ b ∷ [])) (row-is b
         let t₂ = and-right one (ltb 0 (getD (key row) 0 0) && ltb (getD (key row) 0 0) 128) t₁ in
         absurd (none-below (getD (key row) 0 0) (ltb→lt 0 (getD (key row) 0 0) (and-left (ltb 0 (getD (key row) 0 0)) (ltb (getD (key row) 0 0) 128) t₂)) e)
 
--- Any other byte makes none.
-pub no-short : (b : ℕ) → (b ≡ 34 → ⊥) × (b ≡ 92 → ⊥) × (b ≡ 47 → ⊥) × (b ≡ 98 → ⊥) × (b ≡ 102 → ⊥) × (b ≡ 110 → ⊥) × (b ≡ 114 → ⊥) × (b ≡ 116 → ⊥) → 0 ≡ shortOf b
-unfolding shortOf
-no-short b n = ap charOf (sym (first-none (λ (row : Row). stands (value row)) shortEscapes (0x5C ∷ b ∷ []) no-row))
-  where
-    no-row : (e : Row) → In e shortEscapes → T (stands (value e) (0x5C ∷ b ∷ [])) → ⊥
-    no-row e (inl q) t = n .0 (sym (eqb→eq 34 b (and-left (eqb 34 b) true (subst (λ (r : Row). T (stands (value r) (0x5C ∷ b ∷ []))) q t))))
-    no-row e (inr (inl q)) t = n .1 (sym (eqb→eq 92 b (and-left (eqb 92 b) true (subst (λ (r : Row). T (stands (value r) (0x5C ∷ b ∷ []))) q t))))
-    no-row e (inr (inr (inl q))) t = n .2 (sym (eqb→eq 47 b (and-left (eqb 47 b) true (subst (λ (r : Row). T (stands (value r) (0x5C ∷ b ∷ []))) q t))))
-    no-row e (inr (inr (inr (inl q)))) t = n .3 (sym (eqb→eq 98 b (and-left (eqb 98 b) true (subst (λ (r : Row). T (stands (value r) (0x5C ∷ b ∷ []))) q t))))
-    no-row e (inr (inr (inr (inr (inl q))))) t = n .4 (sym (eqb→eq 102 b (and-left (eqb 102 b) true (subst (λ (r : Row). T (stands (value r) (0x5C ∷ b ∷ []))) q t))))
-    no-row e (inr (inr (inr (inr (inr (inl q)))))) t = n .5 (sym (eqb→eq 110 b (and-left (eqb 110 b) true (subst (λ (r : Row). T (stands (value r) (0x5C ∷ b ∷ []))) q t))))
-    no-row e (inr (inr (inr (inr (inr (inr (inl q))))))) t = n .6 (sym (eqb→eq 114 b (and-left (eqb 114 b) true (subst (λ (r : Row). T (stands (value r) (0x5C ∷ b ∷ []))) q t))))
-    no-row e (inr (inr (inr (inr (inr (inr (inr (inl q)))))))) t = n .7 (sym (eqb→eq 116 b (and-left (eqb 116 b) true (subst (λ (r : Row). T (stands (value r) (0x5C ∷ b ∷ []))) q t))))
-    no-row e (inr (inr (inr (inr (inr (inr (inr (inr i)))))))) t = i
+-- Two characters are an escape, by a bit of a word: computed for every byte.
+abbrev short-bit : ℕ → Bool
+short-bit b = ltb b 128 && eqb (cond (ltb b 64) 0x800400000000 0x14404410000000 / 2 ^ (b % 64) % 2) 1
 
-utf8-low : (n : ℕ) → n < 128 → utf8 n ≡ n ∷ []
+pub short-test : (b : ℕ) → b < 256 → short-bit b ≡ ltb 0 (shortOf b)
+unfolding shortOf
+short-test b h = agrees (short-bit b) (ltb 0 (shortOf b)) (every-byte (λ (b : ℕ). agree (short-bit b) (ltb 0 (shortOf b))) tt b h)
+
+-- Its character by the tests of the code, computed for every byte: none,
+pub short-zero : (b : ℕ) → ltb 0 (shortOf b) ≡ false → 0 ≡ shortOf b
+short-zero b e = let h = ltb-false 0 (shortOf b) e in omega arith
+
+-- or the byte itself,
+pub short-itself : (b : ℕ) → b < 256 → ltb 0 (shortOf b) ≡ true → b < 98 → b ≡ shortOf b
+unfolding shortOf
+short-itself b h e l =
+    eqb→eq b (shortOf b)
+    (computed (ltb 0 (shortOf b)) (ltb b 98) (eqb b (shortOf b)) (every-byte (λ (b : ℕ). implied (ltb 0 (shortOf b)) (ltb b 98) (eqb b (shortOf b))) tt b h) e (lt-ltb b 98 l))
+
+-- or four bits of a word.
+pub short-control : (b : ℕ) → b < 256 → ltb 0 (shortOf b) ≡ true → 98 ≤ b → 0x9D0A000C080 / 2 ^ (b % 32 * 2) % 16 ≡ shortOf b
+unfolding shortOf
+short-control b h e l =
+    eqb→eq (0x9D0A000C080 / 2 ^ (b % 32 * 2) % 16) (shortOf b)
+    (computed (ltb 0 (shortOf b)) (leb 98 b) (eqb (0x9D0A000C080 / 2 ^ (b % 32 * 2) % 16) (shortOf b))
+    (every-byte (λ (b : ℕ). implied (ltb 0 (shortOf b)) (leb 98 b) (eqb (0x9D0A000C080 / 2 ^ (b % 32 * 2) % 16) (shortOf b))) tt b h) e (le-leb 98 b l))
+
+-- NUL makes none.
+pub short-none-zero : shortOf 0 ≡ 0
+unfolding shortOf
+short-none-zero = refl
+
+-- The character is one byte.
+pub short-ascii : (b : ℕ) → b < 256 → shortOf b < 128
+unfolding shortOf
+short-ascii b h = ltb→lt (shortOf b) 128 (every-byte (λ (b : ℕ). ltb (shortOf b) 128) tt b h)
+
+pub utf8-low : (n : ℕ) → n < 128 → utf8 n ≡ n ∷ []
 utf8-low n h = rw (lt-ltb n 0x80 h)
 
 -- Where it does, the two bytes give way to the character.
@@ -102,6 +133,13 @@ numbered-none none r n e = refl
 numbered-none (some m) r n e = absurd (go m r (n .0) (n .1) e)
   where
     go : (m r : ℕ) → r ≡ m → m < 0x10000 → r ≡ 0x10000 → ⊥
+    go m r e h q = omega arith
+
+numbered-over : (o : Option ℕ) (r : ℕ) → Numbered o r → 0x10000 ≤ r → r ≡ 0x10000
+numbered-over none r n h = n
+numbered-over (some m) r n h = absurd (go m r (n .0) (n .1) h)
+  where
+    go : (m r : ℕ) → r ≡ m → m < 0x10000 → 0x10000 ≤ r → ⊥
     go m r e h q = omega arith
 
 -- Four digits, one after the other.
@@ -245,6 +283,32 @@ single-tells s n e small long l h = (
   omega arith,
 )
 
+-- A number that is neither its own character nor a first half is a second half, or there is none: the rule stops.
+pub odd-tells : (s : List ℕ) (n : ℕ) → 0 < length s → getD s 0 0 ≡ 0x5C → Numbered (unicodeAt s) n → single n ≡ false → inside highs n ≡ false → Tells (atEscape (unicodeAt s) s) s Nothing
+odd-tells s n h e m odd high = go (ltb n 0x10000) refl (inside lows n) refl
+  where
+    go : (x : Bool) → ltb n 0x10000 ≡ x → (y : Bool) → inside lows n ≡ y → Tells (atEscape (unicodeAt s) s) s Nothing
+    go false z y w = none-tells s h e (numbered-none (unicodeAt s) n m (numbered-over (unicodeAt s) n m (ltb-false n 0x10000 z)))
+    go true z true w = low-tells s n (numbered-some (unicodeAt s) n m (λ q. let l = ltb-true n 0x10000 z in omega arith) .0) w
+    go true z false w = absurd (subst T (sym (λ i. z i && not (high i) && not (w i)) ∙ odd) tt)
+
+-- So it is at a number that is a character of its own, whatever stands before.
+pub single-moves : (p : ℕ) (s : List ℕ) (n : ℕ) → Numbered (unicodeAt s) n → (n < 0x10000 → 6 ≤ length s) → single n ≡ true → Tells (jsonStep p s) s (Taken 6 n)
+single-moves p s n m long one =
+    let a = ltb n 0x10000 in
+    let h = not (inside highs n) in
+    let l = not (inside lows n) in
+    let t = subst T (sym one) tt in
+    let u = and-left (a && h) l t in
+    let small = ltb→lt n 0x10000 (and-left a h u) in
+    let e = numbered-some (unicodeAt s) n m (λ q. omega (arith, small, q)) .0 in
+    subst (λ (x : Move). Tells x s (Taken 6 n)) (ap (λ (o : Option ℕ). atEscape o s) e ∙ sym (at-unicode p n s e))
+    (single-tells s n e small (long small) (no (inside lows n) (and-right (a && h) l t)) (no (inside highs n) (and-right a h u)))
+  where
+    no : (b : Bool) → T (not b) → b ≡ false
+    no true t = absurd t
+    no false t = refl
+
 -- A second half is in its range.
 pub low-bounds : (l : ℕ) → inside lows l ≡ true → (0xDC00 ≤ l) × (l ≤ 0xDFFF)
 low-bounds l e =
@@ -302,11 +366,6 @@ number-moves (x ∷ y ∷ s) h e q p =
     subst (λ (x : ℕ). undo (rowAt value shortEscapes (x ∷ y ∷ s)) (atEscape (unicodeAt (x ∷ y ∷ s)) (x ∷ y ∷ s)) ≡ atEscape (unicodeAt (x ∷ y ∷ s)) (x ∷ y ∷ s)) (sym e)
     (ap (λ (o : Option Row). undo o (atEscape (unicodeAt (0x5C ∷ y ∷ s)) (0x5C ∷ y ∷ s))) (short-none y s b z))
 
--- A backslash at the end of a text stops the rule.
-pub last-tells : (s : List ℕ) → 0 < length s → length s < 2 → getD s 0 0 ≡ 0x5C → (p : ℕ) → Tells (jsonStep p s) s Nothing
-last-tells s h l e p =
-    subst (λ (m : Move). Tells m s Nothing) (sym (number-moves s h e (λ k. absurd (omega arith)) p)) (none-tells s h e (unicode-short s (omega arith)))
-
 -- ---- half a pair alone
 
 -- A half has 16 bits.
@@ -317,7 +376,7 @@ high-small n e =
     let b = leb→le n 0xDBFF (and-right (leb 0xD800 n) (leb n 0xDBFF) t) in
     (a, b, omega (arith, b))
 
-high-no-low : (n : ℕ) → inside highs n ≡ true → inside lows n ≡ false
+pub high-no-low : (n : ℕ) → inside highs n ≡ true → inside lows n ≡ false
 high-no-low n e =
     let (a, b, c) = high-small n e in
     is-false (inside lows n) (λ t. over n b (leb→le 0xDC00 n (and-left (leb 0xDC00 n) (leb n 0xDFFF) t)))

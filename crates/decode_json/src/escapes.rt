@@ -1,34 +1,60 @@
 // Reads an escape at a backslash: two characters, `\u` and four hex digits of either letter case, or two such of a surrogate pair.
+ghost use mathlib.Core.Bool.{true, false, cond};
 ghost use mathlib.Core.List.{[], _∷_};
 ghost use mathlib.Core.Path.{_≡_};
-ghost use Prim.Native.Nat.{ℕ, _≤_, _<_};
-ghost use lib.Dec.{eqb};
+ghost use Prim.Native.Nat.{_≤_, _<_};
+ghost use lib.Dec.{eqb, ltb};
 ghost use lib.ListN.{length, drop, getD};
 ghost use Rattle.rules.specs.Bytes.{inside};
 ghost use Rattle.rules.specs.Moves.{why};
 ghost use Rattle.rules.specs.References.{hexDigitAt, number};
 ghost use Rattle.rules.specs.Json.{highs, lows, unicodeAt, atHigh, atEscape, jsonStep};
-ghost use Rattle.decode_json.specs.Escapes.{shortOf, Numbered, Tells};
+ghost use Rattle.decode_json.specs.Escapes.{shortOf, Numbered, single, Tells};
 use rules::Escape;
 
 // No four hex digits spell this number.
 const NONE: u32 = 0x10000;
 
-// Returns the character that a backslash and this byte stand for, 0 if they stand for none.
-fn short(b: u8) -> u32
+// Returns the bytes that make an escape with a backslash before them as the bits of a word: `"` and `/` if `b` is below 64, else `\`, `b`, `f`, `n`, `r`
+// and `t`, of each its number less 64.
+fn short_bits(b: u8) -> u64
+    ensures { λ r. ⌜ r ≡ cond (ltb b 64) 0x800400000000 0x14404410000000 ⌝ }
+{
+    if b < 64 {
+        0x8004_0000_0000
+    } else {
+        0x14_4044_1000_0000
+    }
+}
+
+// Whether a backslash and this byte are an escape. One test of a bit settles all eight, where a `match` compiles to branches that are often guessed
+// wrong.
+fn is_short(b: u8) -> bool
+    ensures { λ r. ⌜ r ≡ ltb 0 (shortOf b) ⌝ }
+{
+    (b < 128) & ((short_bits(b) >> ((b % 64) as u32)) % 2 == 1)
+}
+
+// Returns the character that a backslash and this byte stand for: a mark stands for itself, a letter for a control character, whose number is in four
+// bits of a word.
+fn meaning(b: u8) -> u8
+    requires { ⌜ ltb 0 (shortOf b) ≡ true ⌝ }
     ensures { λ r. ⌜ r ≡ shortOf b ⌝ }
 {
-    match b {
-        b'"' => 0x22,
-        b'\\' => 0x5C,
-        b'/' => 0x2F,
-        b'b' => 0x08,
-        b'f' => 0x0C,
-        b'n' => 0x0A,
-        b'r' => 0x0D,
-        b't' => 0x09,
-        _ => 0,
+    if b < b'b' {
+        return b;
     }
+    ((0x9D0_A000_C080_u64 >> ((b % 32 * 2) as u32)) % 16) as u8
+}
+
+// Returns the character that a backslash and this byte stand for, 0 if they stand for none.
+pub fn short(b: u8) -> u8
+    ensures { λ r. ⌜ r ≡ shortOf b ⌝ }
+{
+    if is_short(b) {
+        return meaning(b);
+    }
+    0
 }
 
 // Returns the number of four hex digits of either letter case, `NONE` if one of the bytes is none.
@@ -54,20 +80,31 @@ fn four(a: u8, b: u8, c: u8, d: u8) -> u32
     ((w * 16 + x) * 16 + y) * 16 + z
 }
 
-// Returns the number of `\u` and four hex digits at the start of `rest`, `NONE` if there are none.
-fn unicode(rest: &[u8]) -> u32
+// Returns the number of `u` and four hex digits after the backslash that starts `rest`, `NONE` if there are none.
+pub fn number(rest: &[u8]) -> u32
+    requires { ⌜ (0 < length (now rest)) × (getD (now rest) 0 0 ≡ 0x5C) ⌝ }
     ensures { λ r. ⌜ Numbered (unicodeAt (now (rest .entry))) r × (r < 0x10000 → 6 ≤ length (now (rest .entry))) ⌝ }
 {
     if rest.len() < 6 {
-        return NONE;
-    }
-    if rest[0] != b'\\' {
         return NONE;
     }
     if rest[1] != b'u' {
         return NONE;
     }
     four(rest[2], rest[3], rest[4], rest[5])
+}
+
+// Returns the number of `\u` and four hex digits at the start of `rest`, `NONE` if there are none.
+fn unicode(rest: &[u8]) -> u32
+    ensures { λ r. ⌜ Numbered (unicodeAt (now (rest .entry))) r × (r < 0x10000 → 6 ≤ length (now (rest .entry))) ⌝ }
+{
+    if rest.len() == 0 {
+        return NONE;
+    }
+    if rest[0] != b'\\' {
+        return NONE;
+    }
+    number(rest)
 }
 
 // Whether a number is the first half of a surrogate pair.
@@ -84,6 +121,13 @@ fn is_low(n: u32) -> bool
     (0xDC00 <= n) & (n <= 0xDFFF)
 }
 
+// Whether a number is a character of its own: there is one, and it is no half.
+pub fn is_single(n: u32) -> bool
+    ensures { λ r. ⌜ r ≡ single n ⌝ }
+{
+    (n < 0x10000) & !is_high(n) & !is_low(n)
+}
+
 // Reads a pair whose first half, of the number `high`, starts `rest`.
 fn read_pair(high: u32, rest: &[u8]) -> Escape
     requires { ⌜ (6 ≤ length (now rest)) × (0xD800 ≤ high) × (high ≤ 0xDBFF) ⌝ }
@@ -96,37 +140,15 @@ fn read_pair(high: u32, rest: &[u8]) -> Escape
     Escape::Nothing
 }
 
-// Reads the escape of a number, or of two, at the backslash that starts `rest`.
-fn read_unicode(rest: &[u8]) -> Escape
-    requires { ⌜ (0 < length (now rest)) × (getD (now rest) 0 0 ≡ 0x5C) ⌝ }
+// Reads a pair at the backslash that starts `rest`, of whose first escape `n` is the number; Nothing if there is no pair.
+pub fn read_surrogates(n: u32, rest: &[u8]) -> Escape
+    requires { ⌜ (0 < length (now rest)) × (getD (now rest) 0 0 ≡ 0x5C) × Numbered (unicodeAt (now rest)) n × (n < 0x10000 → 6 ≤ length (now rest)) × (single n ≡ false) ⌝ }
     ensures { λ r. ⌜ Tells (atEscape (unicodeAt (now (rest .entry))) (now (rest .entry))) (now (rest .entry)) r ⌝ }
 {
-    let n = unicode(rest);
-    if n == NONE {
-        return Escape::Nothing;
-    }
-    if is_low(n) {
-        return Escape::Nothing;
-    }
     if is_high(n) {
         return read_pair(n, rest);
     }
-    Escape::Taken(6, n)
-}
-
-// Reads the escape at the backslash that starts `rest`; Nothing where the RFC allows none.
-pub fn read_escape(rest: &[u8]) -> Escape
-    requires { ⌜ (0 < length (now rest)) × (getD (now rest) 0 0 ≡ 0x5C) ⌝ }
-    ensures { λ r. ⌜ ((p : ℕ) → Tells (jsonStep p (now (rest .entry))) (now (rest .entry)) r) ⌝ }
-{
-    if rest.len() < 2 {
-        return Escape::Nothing;
-    }
-    let c = short(rest[1]);
-    if c != 0 {
-        return Escape::Taken(2, c);
-    }
-    read_unicode(rest)
+    Escape::Nothing
 }
 
 // Whether half a surrogate pair stands alone at the start of `rest`.
