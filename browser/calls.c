@@ -14,7 +14,7 @@ static call *const calls[4] = {lintelrye_encode, lintelrye_decode, lintelrye_tak
 static uint8_t text[LINTELRYE_TEXT_LIMIT + 1];
 static uint8_t output[LINTELRYE_ENCODED_AT_MOST(LINTELRYE_TEXT_LIMIT)];
 
-/* The answer of a request; the result goes to the output. */
+/* Makes the call of a request and returns its answer; the result goes to the output. */
 static lintelrye_answer answer_to(uint8_t operation, uint8_t context, size_t length)
 {
     if (operation < 4)

@@ -41,7 +41,7 @@ def end(browser):
 
 
 def version(work):
-    """The browser's name and version; ends the program where it cannot show a page."""
+    """Returns the browser's name and version; ends the program where it cannot show a page."""
     if 'it runs' not in start(work, ['--dump-dom', 'data:text/html,it runs']):
         print('Chromium is installed but shows no page; what it says is in target/browser/chromium.log', file=sys.stderr)
         sys.exit(2)
@@ -50,7 +50,7 @@ def version(work):
 
 
 def dom(work, page):
-    """The document of a page after its scripts have run, as HTML; nothing where Chromium gives none."""
+    """Returns the document of a page after its scripts have run, as HTML; nothing where Chromium gives none."""
     return start(work, ['--dump-dom', pathlib.Path(page).as_uri()])
 
 

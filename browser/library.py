@@ -1,4 +1,5 @@
 """The library's calls, made through the program calls.c."""
+import os
 import struct
 import subprocess
 import sys
@@ -39,3 +40,21 @@ class Library:
             print('%s refuses a text' % self.command[-1], file=sys.stderr)
             sys.exit(2)
         return [struct.unpack('<I', result)[0] if result else None for result in results]
+
+
+def linked(work):
+    """Returns the calls of this machine's archive: builds calls.c in a folder. Ends the program with status 2 where that fails."""
+    root = os.path.dirname(os.path.dirname(os.path.abspath(__file__)))
+    os.makedirs(work, exist_ok=True)
+    program = os.path.join(work, 'calls')
+    made = subprocess.run([os.path.join(root, 'tools', 'archive')], stdout=subprocess.PIPE, text=True)
+    if made.returncode != 0:
+        sys.exit(2)
+    archive = os.path.join(made.stdout.strip(), 'liblintelrye_c.a')
+    try:
+        built = subprocess.run(['cc', '-O2', '-static', '-I', os.path.join(root, 'include'), '-o', program, os.path.join(root, 'browser', 'calls.c'), archive])
+    except OSError as error:
+        sys.exit('browser/calls.c cannot be compiled: %s' % error)
+    if built.returncode != 0:
+        sys.exit(2)
+    return Library([program])

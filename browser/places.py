@@ -29,7 +29,7 @@ NOTHING = Kind('the empty text, of which an unquoted attribute has nothing, take
 
 
 def same(text, _written):
-    """What most places should hold: the text."""
+    """Returns what most places should hold: the text."""
     return text
 
 
@@ -40,15 +40,15 @@ class Place:
         self.source, self.expected, self.undo = source, expected, undo
 
     def written(self, library, texts):
-        """What the library writes for each text."""
+        """Returns what the library writes for each text."""
         return library.call('encode', self.context, [self.source(text).encode() for text in texts])
 
     def write(self, i, written):
-        """The markup for text number i."""
+        """Returns the markup for text number i."""
         return self.markup.encode().replace(b'{i}', b'%d' % i).replace(b'{e}', written)
 
     def elements(self):
-        """How many elements the markup has."""
+        """Returns how many elements the markup has."""
         return len(re.findall('<[a-z]', self.markup))
 
 
@@ -64,32 +64,32 @@ class Event(Place):
         self.inner, self.quote = inner, quote.encode()
 
     def written(self, library, texts):
-        """What the library writes for each text by two calls, the inner one first."""
+        """Returns what the library writes for each text by two calls, the inner one first."""
         strings = library.call('encode', self.inner, [self.source(text).encode() for text in texts])
         return library.call('encode', self.context, [b'landing(' + self.quote + (string or b'') + self.quote + b')' for string in strings])
 
 
 def style_string(serialized):
-    """The value of a string as getComputedStyle writes it: in double quotes, with \\" and \\\\, and control characters as hex digits and a space."""
+    """Returns the value of a string as getComputedStyle writes it: in double quotes, with \\" and \\\\, and control characters as hex digits and a space."""
     if len(serialized) < 2 or serialized[0] != '"' or serialized[-1] != '"':
         return None
     return re.sub(r'\\(?:([0-9a-f]{1,6}) |(["\\]))', lambda m: chr(int(m.group(1), 16)) if m.group(1) else m.group(2), serialized[1:-1])
 
 
 def in_text(context):
-    """The text of an element."""
+    """Returns the text of an element."""
     return Place(context, 'element text', '<div id=a{i}>{e}</div>', "textAt('a', i)", [LINE_ENDS, NUL_DROPPED])
 
 
 def in_attribute(context, quote):
-    """An attribute in quotes."""
+    """Returns an attribute in quotes."""
     letter = 'd' if quote == '"' else 's'
     return Place(context, 'attribute in ' + quote, '<div id=%s{i} title=%s{e}%s></div>' % (letter, quote, quote), "titleAt('%s', i)" % letter,
                  [LINE_ENDS, NUL_REPLACED])
 
 
 def in_script(context, quote):
-    """A string in a script, which the script keeps when it is run."""
+    """Returns a string in a script, which the script keeps when it is run."""
     number = 0 if quote == '"' else 1
     return Place(context, 'script string in ' + quote, '<script>V[2 * {i} + %d] = %s{e}%s;</script>' % (number, quote, quote), 'V[2 * i + %d]' % number, [])
 
@@ -104,7 +104,7 @@ def in_style(context, quote):
 
 
 def in_events():
-    """Every kind of attribute with every kind of script string: the twelve pairs of contexts, those for either quote with each quote."""
+    """Returns every kind of attribute with every kind of script string: the twelve pairs of contexts, those for either quote with each quote."""
     return [Event(outer, around, inner, quote)
             for outer, around in (('double_quoted', '"'), ('single_quoted', "'"), ('quoted', '"'), ('quoted', "'"), ('unquoted', ''))
             for inner, quote in (('script_single', "'"), ('script_double', '"'), ('script_quoted', "'"), ('script_quoted', '"'))]

@@ -17,7 +17,7 @@ LONG = ['<', '>', '&', '"', "'", '/', '\\', '\n', '\t', ' ', 'é', '\u2028', '�
 
 
 def ascii_texts():
-    """Every ASCII character alone, twice, between letters and before digits; all of them in one text; each with each mark that some context replaces."""
+    """Yields every ASCII character alone, twice, between letters and before digits; all of them in one text; each with each mark that some context replaces."""
     every = [chr(n) for n in range(128)]
     for c in every:
         yield from (c, c + c, 'a' + c + 'b', c + '1F ', '&' + c, '<' + c, '\\' + c)
@@ -26,7 +26,7 @@ def ascii_texts():
 
 
 def reference_texts():
-    """The text of every named reference, and every name typed as a reference, with its `;` or without: what was typed is what must be shown."""
+    """Yields the text of every named reference, and every name typed as a reference, with its `;` or without: what was typed is what must be shown."""
     for name, value in sorted(html.entities.html5.items()):
         yield value
         yield '&' + name
@@ -35,7 +35,7 @@ def reference_texts():
 
 
 def random_texts(count):
-    """Random texts of pieces, from a fixed seed."""
+    """Yields random texts of pieces, from a fixed seed."""
     source = random.Random(14)
     plain = [chr(n) for n in range(32, 127)] + ['å', 'ß', 'ş', 'ж', 'ש', 'ع', '中', '한', '😀', '\u0301', '\u200d']
     controls = [chr(n) for n in range(32)] + ['\x7f', '\u2028', '\u2029', '\ufeff', '\ufffd']
@@ -46,7 +46,7 @@ def random_texts(count):
 
 
 def texts():
-    """All of them, each once."""
+    """Returns all of them, each once."""
     every = TYPED + MARKUP + list(ascii_texts()) + [chr(n) for n in range(128, 256)] + list(reference_texts())
     every += [piece * (10000 // len(piece.encode())) for piece in LONG] + ['a' * 65534]
     every += random_texts(1500)

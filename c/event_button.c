@@ -44,6 +44,7 @@ static size_t write_handler(const char *name, uint8_t *output, size_t room)
 int main(void)
 {
     uint8_t attribute[ATTRIBUTE];
+    puts("<script>function landing(name) { alert(name) }</script>");
     for (size_t k = 0; k < sizeof landings / sizeof landings[0]; k++) {
         size_t length = write_handler(landings[k], attribute, sizeof attribute);
         if (length == 0) {

@@ -25,7 +25,7 @@ static const struct journey journeys[] = {
 };
 
 /* The page, and how much of it is written and may be written. The last bytes are kept for its end, which must always fit. */
-enum { PAGE = 1200, END = 72 };
+enum { PAGE = 1400, END = 104 };
 
 struct page {
     uint8_t bytes[PAGE];
@@ -133,7 +133,9 @@ int main(void)
     }
     lintelrye_filled filled = lintelrye_fill_page(log.fields, log.count, log.text, log.text_length, log.results, RESULTS);
     page.room = PAGE - END;
-    bool begun = put(&page, "<!DOCTYPE html>\n<meta charset=\"utf-8\">\n<title>Journey log</title>\n<ul>\n");
+    bool begun = put(&page, "<!DOCTYPE html>\n<meta charset=\"utf-8\">\n<title>Journey log</title>\n"
+                            "<script>\nconst seen = [];\nfunction landing(name) { seen.push(name) }\nfunction call(name) { alert('called: ' + name) }\n</script>\n"
+                            "<ul>\n");
     while (shown < filled.passed / IN_LINE && put_line(&page, &log, &log.fields[shown * IN_LINE])) {
         shown += 1;
     }

@@ -1,4 +1,7 @@
-/* Lintelrye for C and C++: HTML escaping with proofs. Link liblintelrye_c.a (x86-64, System V calls); nothing else is needed.
+/* Lintelrye for C and C++: HTML escaping and unescaping with proofs, into a buffer that the caller lends.
+ *
+ *     cc -Iinclude page.c "$(tools/archive)/liblintelrye_c.a" -o page         or, once installed (tools/install):
+ *     cc page.c $(pkg-config --cflags --libs lintelrye) -o page
  *
  * Four operations, each as a copying and as a borrowing call. Every one of these takes a context by its number, a text, and an output that the caller
  * lends, and returns seven numbers. lintelrye_check needs no output: it tells whether lintelrye_take would take a text, and returns three numbers.
@@ -16,9 +19,14 @@
  *   - a borrowing call, where nothing is replaced: `same` is 1, and every byte of the output keeps its value; the result is the text itself.
  * lintelrye_view gives the result in every case.
  *
- * Escaping depends on the place: choose the context of the place where the result goes. No context makes a text safe in a URL, in CSS or script
- * outside a string, in a comment, or as the name of a tag or attribute. LINTELRYE_SAFE is no sanitizer: like LINTELRYE_QUOTED it is right between tags
- * and in attributes with quotes, and nowhere else.
+ * Escaping depends on the place: choose the context of the place where the result goes. No context makes a text safe
+ *   - as a URL (href, src, action): double_quoted keeps `javascript:alert(1)` as it is, so judge the URL itself first;
+ *   - in a template literal of a script (between backticks): no context escapes ` or ${;
+ *   - in script or CSS outside a string, in a comment, or as the name of a tag or attribute.
+ * LINTELRYE_SAFE is no sanitizer: like LINTELRYE_QUOTED it is right between tags and in attributes with quotes, and nowhere else. An empty text in
+ * LINTELRYE_UNQUOTED is nothing at all, and the attribute then takes what follows as its value: write quotes.
+ * For a script string in an attribute, such as onclick="f('HERE')": inner context first, then the outer one. Encode the name by SCRIPT_SINGLE, put f(' and
+ * ') around the result, and encode that whole handler by DOUBLE_QUOTED (c/event_button.c). The other order lets a quote in the name end the string.
  *
  * Which context goes where (tools/places_table.py --header):
  *
@@ -45,20 +53,47 @@
  * proof: yes every text, N all but NUL (it is held as U+FFFD), NC all but NUL (U+FFFD, or dropped) and CR (LF). In a cell "s" every text stays, but the one
  * that is shown is held as another one; in a cell "x" the text that is shown leaves the place. An attribute value without quotes cannot be empty.
  *
- * For a script string in an attribute, such as onclick="f('HERE')": inner context first, then the outer one. Encode the name by SCRIPT_SINGLE, put f(' and
- * ') around the result, and encode that whole handler by DOUBLE_QUOTED (c/event_button.c). The other order lets a quote in the name end the string.
- *
  * lintelrye_fill_page fills a whole page: it makes the copying call of encode for each record of a list, and writes the results one behind the other.
  *
  * Script text that others wrote is judged by lintelrye_closing_tag, at the end of this file. Its answer "none" does not make a text safe to put into a
  * page: judge the text together with the </script> that is to follow it.
- * docs/RULES.md has every rule.
+ *
+ * For firmware:
+ *   - no heap, no static data that is written, no recursion, no floating point; every call is reentrant, and any number of threads can call at once;
+ *   - the deepest stack of a call is below LINTELRYE_STACK_AT_MOST bytes. On x86-64 leaf functions use the red zone of 128 bytes below the stack pointer, as
+ *     the System V convention allows: an interrupt that runs on the same stack has to keep clear of it;
+ *   - the one function that the archive needs from outside is memcpy: with -nostdlib, bring your own;
+ *   - at most LINTELRYE_CODE_AT_MOST bytes of code and LINTELRYE_CONSTANTS_AT_MOST of constants, which can lie in read-only memory;
+ *   - any x86-64 processor (SSE2, no AVX), any aarch64 processor (ARMv8-A with NEON, little-endian). Position-independent code for ELF.
+ * tools/check_symbols finds these in the object code, and fails if a limit is passed.
+ * docs/RULES.md has every rule, docs/TRUST.md what is proved, tested and trusted.
  */
 #ifndef LINTELRYE_H
 #define LINTELRYE_H
 
+#if !defined(__ELF__) || !defined(__LP64__) || !(defined(__x86_64__) || (defined(__aarch64__) && !defined(__AARCH64EB__)))
+#error "Lintelrye has archives for x86-64 and for little-endian aarch64 on ELF systems such as Linux, with 64-bit pointers, and none for this target"
+#endif
+
 #include <stddef.h>
 #include <stdint.h>
+
+/* The version of this header. The archive and the Rust crate have the same, or they do not fit together: a program that was compiled with this header refers
+ * to a symbol of the archive that is named after the version, from an ELF note of 28 bytes in each object file, and does not link with an archive of another
+ * one. Define LINTELRYE_ANY_VERSION to leave the note out. */
+#define LINTELRYE_VERSION "1.0.0"
+#define LINTELRYE_VERSION_MAJOR 1
+#define LINTELRYE_VERSION_MINOR 0
+#define LINTELRYE_VERSION_PATCH 0
+#ifndef LINTELRYE_ANY_VERSION
+__asm__(".pushsection .note.lintelrye,\"a\",%note\n\t.balign 4\n\t.long 10, 4, 1\n\t.asciz \"Lintelrye\"\n\t.balign 4\n\t"
+        ".long lintelrye_version_1_0_0 - .\n\t.popsection");
+#endif
+
+/* Limits of the object code, in bytes, on every processor: see "For firmware" above. */
+#define LINTELRYE_STACK_AT_MOST 8192
+#define LINTELRYE_CODE_AT_MOST 131072
+#define LINTELRYE_CONSTANTS_AT_MOST 49152
 
 #ifdef __cplusplus
 extern "C" {
@@ -91,7 +126,15 @@ enum lintelrye_context {
     LINTELRYE_JSON = 14          /* in a JSON string, inside a script element or in a JSON document; not in an attribute */
 };
 
-/* The statuses. Where several refusals apply, the first of this order is given: BAD_CONTEXT, BAD_RANGE, TOO_LONG, NOT_UTF8 or CUT_SHORT (never both),
+/* The statuses. What to do about each refusal:
+ *   TOO_LONG        cut the text, at the end of a character; for raw script use the calls for parts
+ *   NOT_UTF8        the text is no UTF-8: convert it from its encoding, or leave it out; `place` says where it goes wrong
+ *   CUT_SHORT       read on: the text ends within a character; or cut it at `place`
+ *   NO_ROOM         call again with `length` bytes of output, or leave this text out
+ *   NOT_A_FORM      the stored text was not written by encode in this context: treat it as plain text and encode it, or report it
+ *   LONE_SURROGATE  the JSON was cut or damaged at `place`: refuse it
+ *   BAD_CONTEXT, BAD_RANGE, FINISHED: an error of the program that calls
+ * Where several refusals apply, the first of this order is given: BAD_CONTEXT, BAD_RANGE, TOO_LONG, NOT_UTF8 or CUT_SHORT (never both),
  * NOT_A_FORM or LONE_SURROGATE (never both), NO_ROOM. */
 enum lintelrye_status {
     LINTELRYE_PASSED = 0,
@@ -262,6 +305,12 @@ typedef struct lintelrye_script_raw {
 lintelrye_answer lintelrye_script_raw_part_in(uint8_t *held, uint64_t *numbers, const uint8_t *text, size_t text_length, uint8_t *output, size_t output_length);
 lintelrye_answer lintelrye_script_raw_finish_in(uint8_t *held, uint64_t *numbers, uint8_t *output, size_t output_length);
 
+#ifdef __cplusplus
+#define LINTELRYE_HELD(state) reinterpret_cast<uint8_t *>((state)->opaque)
+#else
+#define LINTELRYE_HELD(state) ((uint8_t *)(state)->opaque)
+#endif
+
 /* start: makes a state a started one. */
 static inline void lintelrye_script_raw_start(lintelrye_script_raw *state)
 {
@@ -275,13 +324,13 @@ static inline void lintelrye_script_raw_start(lintelrye_script_raw *state)
 static inline lintelrye_answer lintelrye_script_raw_part(lintelrye_script_raw *state, const uint8_t *text, size_t text_length, uint8_t *output,
                                                          size_t output_length)
 {
-    return lintelrye_script_raw_part_in((uint8_t *)state->opaque, state->opaque + 1, text, text_length, output, output_length);
+    return lintelrye_script_raw_part_in(LINTELRYE_HELD(state), state->opaque + 1, text, text_length, output, output_length);
 }
 
 /* finish: ends the text, and writes what is held. */
 static inline lintelrye_answer lintelrye_script_raw_finish(lintelrye_script_raw *state, uint8_t *output, size_t output_length)
 {
-    return lintelrye_script_raw_finish_in((uint8_t *)state->opaque, state->opaque + 1, output, output_length);
+    return lintelrye_script_raw_finish_in(LINTELRYE_HELD(state), state->opaque + 1, output, output_length);
 }
 
 /* view: the result of a call, from the text, the output and the answer. It returns where the result begins and puts its length into *length: the whole
@@ -294,7 +343,7 @@ static inline const uint8_t *lintelrye_view(const uint8_t *text, size_t text_len
         *length = text_length;
         return text;
     }
-    *length = answer.length <= output_length ? (size_t)answer.length : 0;
+    *length = answer.length <= output_length ? answer.length : 0;
     return output;
 }
 

@@ -1,71 +1,95 @@
-//! Finds the library's static archive for the linker: in the folder LINTELRYE_ARCHIVE_DIR where that is set, otherwise in ../target/staticlib, where
-//! ../tools/archive proves and writes it if it is missing or older than the library's source.
+//! Finds the library's static archive for the linker: in the folder LINTELRYE_ARCHIVE_DIR where that is set, otherwise where tools/archive of this repository
+//! writes it, target/archive/x86_64 or target/archive/aarch64.
+//!
+//! It proves and builds nothing. Where there is no archive that fits, it says why in a warning and names no folder: `cargo check`, `cargo doc` and editors need
+//! none, and a build then stops at the missing library `lintelrye_c`.
 use std::path::{Path, PathBuf};
-use std::process::{exit, Command, Stdio};
+use std::time::SystemTime;
+use std::{env, fs};
 
 const ARCHIVE: &str = "liblintelrye_c.a";
 
-/// Ends the build with what is missing.
-fn stop(why: &str) -> ! {
-    eprintln!("lintelrye: {}", why);
-    exit(1)
-}
-
-/// What cargo says in a variable; empty where it says nothing.
+/// What cargo or the caller says in a variable; empty where nothing is said.
 fn said(variable: &str) -> String {
-    std::env::var(variable).unwrap_or_default()
+    env::var(variable).unwrap_or_default()
 }
 
-/// Stops where the archive cannot be linked into what is built.
-fn check_target() {
-    let arch = said("CARGO_CFG_TARGET_ARCH");
-    let os = said("CARGO_CFG_TARGET_OS");
-    if arch != "x86_64" {
-        stop(&format!(
-            "the archive {} is x86-64 code, and this build is for {}. Build with --target x86_64-unknown-linux-gnu; rust/test shows how on a machine that is no x86-64.",
-            ARCHIVE, arch
-        ));
-    }
-    if os == "windows" || os == "macos" {
-        stop(&format!("the archive {} is x86-64 code for ELF systems such as Linux, and this build is for {}", ARCHIVE, os));
+/// The number that an object file has for the target's processor (ELF's e_machine), if there is an archive for the target.
+fn machine(arch: &str) -> Result<u8, String> {
+    let elf = !matches!(said("CARGO_CFG_TARGET_OS").as_str(), "windows" | "macos" | "ios" | "uefi" | "wasi");
+    let fits = elf && said("CARGO_CFG_TARGET_POINTER_WIDTH") == "64" && said("CARGO_CFG_TARGET_ENDIAN") == "little";
+    match arch {
+        "x86_64" if fits => Ok(62),
+        "aarch64" if fits => Ok(183),
+        _ => Err(format!("there are archives for x86-64 and little-endian aarch64 on ELF systems such as Linux, and none for {}", said("TARGET"))),
     }
 }
 
-/// The folder of the archive that this repository makes.
-fn made(root: &Path) -> PathBuf {
+/// Whether a file, or a file in a folder, is newer than a time.
+fn is_newer(path: &Path, time: SystemTime) -> bool {
+    match fs::read_dir(path) {
+        Ok(entries) => entries.flatten().any(|entry| is_newer(&entry.path(), time)),
+        Err(_) => fs::metadata(path).and_then(|file| file.modified()).map_or(false, |changed| changed > time),
+    }
+}
+
+/// The folder that has to have the archive, and what makes it; stops at one that is older than the library's sources.
+fn folder(arch: &str) -> Result<(PathBuf, String), String> {
+    let given = said("LINTELRYE_ARCHIVE_DIR");
+    if !given.is_empty() {
+        let folder = PathBuf::from(&given);
+        let hint = format!("LINTELRYE_ARCHIVE_DIR must name the folder of {}", ARCHIVE);
+        return if folder.is_absolute() { Ok((folder, hint)) } else { Err(format!("LINTELRYE_ARCHIVE_DIR is {}: give it as an absolute path", given)) };
+    }
+    let root = PathBuf::from(said("CARGO_MANIFEST_DIR")).join("..");
+    let root = root.canonicalize().unwrap_or(root);
     let script = root.join("tools").join("archive");
     if !script.is_file() {
-        stop(&format!(
-            "there is no archive: LINTELRYE_ARCHIVE_DIR is not set to the folder of {}, and {} is not there to make it",
-            ARCHIVE,
-            script.display()
-        ));
+        return Err(format!("LINTELRYE_ARCHIVE_DIR is not set to the folder of {}, and {} is not there to make one", ARCHIVE, script.display()));
     }
-    println!("cargo:rerun-if-changed={}", root.join("crates").display());
-    println!("cargo:rerun-if-changed={}", root.join("crates.txt").display());
-    match Command::new("sh").arg(&script).stderr(Stdio::inherit()).output() {
-        Ok(run) if run.status.success() => PathBuf::from(String::from_utf8_lossy(&run.stdout).trim_end()),
-        Ok(_) => stop("tools/archive made no archive; its message is above. Or set LINTELRYE_ARCHIVE_DIR to a folder that has one."),
-        Err(error) => {
-            stop(&format!("tools/archive could not be run by sh: {}. Or set LINTELRYE_ARCHIVE_DIR to a folder that has {}.", error, ARCHIVE))
+    let folder = root.join("target").join("archive").join(arch);
+    let hint = format!("run {} --target {} (about ten minutes where nothing is proved yet), or set LINTELRYE_ARCHIVE_DIR", script.display(), arch);
+    let sources = ["crates", "crates.txt"].map(|name| root.join(name));
+    for source in &sources {
+        println!("cargo:rerun-if-changed={}", source.display());
+    }
+    match fs::metadata(folder.join(ARCHIVE)).and_then(|file| file.modified()) {
+        Ok(made) if sources.iter().any(|source| is_newer(source, made)) => {
+            Err(format!("{} is older than the library's sources: {}", folder.join(ARCHIVE).display(), hint))
         }
+        _ => Ok((folder, hint)),
     }
+}
+
+/// Whether bytes hold a sequence of bytes.
+fn has(bytes: &[u8], part: &[u8]) -> bool {
+    bytes.windows(part.len()).any(|window| window == part)
+}
+
+/// The folder of an archive for the target and of this crate's version; or why there is none.
+fn find() -> Result<PathBuf, String> {
+    let arch = said("CARGO_CFG_TARGET_ARCH");
+    let machine = machine(&arch)?;
+    let (folder, hint) = folder(&arch)?;
+    let archive = folder.join(ARCHIVE);
+    println!("cargo:rerun-if-changed={}", archive.display());
+    let bytes = fs::read(&archive).map_err(|error| format!("{}: {}; {}", archive.display(), error, hint))?;
+    let object = bytes.windows(20).find(|window| window.starts_with(b"\x7FELF"));
+    if !bytes.starts_with(b"!<arch>\n") || object.map_or(true, |head| head[18] != machine) {
+        return Err(format!("{} is no archive for {}; {}", archive.display(), arch, hint));
+    }
+    let version = said("CARGO_PKG_VERSION");
+    if !has(&bytes, format!("lintelrye_version_{}\0", version.replace('.', "_")).as_bytes()) {
+        return Err(format!("{} is not of this crate's version, {}; {}", archive.display(), version, hint));
+    }
+    Ok(folder)
 }
 
 fn main() {
-    check_target();
     println!("cargo:rerun-if-changed=build.rs");
     println!("cargo:rerun-if-env-changed=LINTELRYE_ARCHIVE_DIR");
-    let given = said("LINTELRYE_ARCHIVE_DIR");
-    let here = PathBuf::from(said("CARGO_MANIFEST_DIR"));
-    let folder = match (given.is_empty(), here.parent()) {
-        (true, Some(root)) => made(root),
-        _ => PathBuf::from(given),
-    };
-    let archive = folder.join(ARCHIVE);
-    if !archive.is_file() {
-        stop(&format!("{} is not there: LINTELRYE_ARCHIVE_DIR must name the folder of {}", archive.display(), ARCHIVE));
+    match find() {
+        Ok(folder) => println!("cargo:rustc-link-search=native={}", folder.display()),
+        Err(why) => println!("cargo:warning=there is no library to link: {}", why),
     }
-    println!("cargo:rerun-if-changed={}", archive.display());
-    println!("cargo:rustc-link-search=native={}", folder.display());
 }

@@ -1,11 +1,9 @@
 #!/usr/bin/env python3
 """Writes the number tables of the crates names_upper and names_lower from the readable entries of crates/rules/specs/Names.antt, and that of names_bare from
-them and the names of Bare.antt.
+them and the names of Bare.antt: the tables of the three crates, and the proof of each function that has one.
 
-    tools/make_names.py           write the tables of the three crates and the proof of each function that has one
-    tools/make_names.py --check   write nothing; fail if a file is not what would be written
-
-Nothing rests on this script: the check of the crates compares every number with the entries."""
+Nothing rests on this script: the check of the crates compares every number with the entries. It takes a moment."""
+import argparse
 import re
 import sys
 from pathlib import Path
@@ -358,11 +356,11 @@ def files():
 
 
 def main():
-    check = sys.argv[1:] == ["--check"]
-    if sys.argv[1:] and not check:
-        sys.exit(__doc__)
-    stale = []
-    for path, text in files().items():
+    usage = argparse.ArgumentParser(prog="tools/make_names.py", description=__doc__, formatter_class=argparse.RawDescriptionHelpFormatter)
+    usage.add_argument("--check", action="store_true", help="write nothing; status 1 if a file is not what would be written")
+    check = usage.parse_args().check
+    stale, made = [], files()
+    for path, text in made.items():
         if check:
             if not path.exists() or path.read_text(encoding="utf-8") != text:
                 stale.append(str(path.relative_to(ROOT)))
@@ -370,7 +368,8 @@ def main():
             path.parent.mkdir(parents=True, exist_ok=True)
             path.write_text(text, encoding="utf-8")
     if stale:
-        sys.exit("not as made: " + ", ".join(stale))
+        sys.exit("tools/make_names.py: not as made: " + ", ".join(stale))
+    print(f"tools/make_names.py: {len(made)} files {'are as made' if check else 'written'}")
 
 
 main()

@@ -6,6 +6,7 @@ pub mod json;
 pub mod model;
 #[cfg(feature = "archive")]
 pub mod nested;
+pub mod options;
 #[cfg(feature = "archive")]
 pub mod parts;
 
@@ -33,25 +34,16 @@ pub struct Checked {
     pub place: u64,
 }
 
-/// A call as the archive exports it. On x86-64 it is the C call of include/lintelrye.h, which gets the address of the answer as a hidden first argument.
-#[cfg(all(feature = "archive", target_arch = "x86_64"))]
+/// A call as the archive exports it: the C call of include/lintelrye.h.
+#[cfg(feature = "archive")]
 type Exported = unsafe extern "C" fn(u32, *const u8, usize, *mut u8, usize) -> Answer;
-
-/// The same call in the archive of tools/native, for other machines: the address of the answer is the first argument there too.
-#[cfg(all(feature = "archive", not(target_arch = "x86_64")))]
-type Exported = unsafe extern "C" fn(*mut Answer, u32, *const u8, usize, *mut u8, usize) -> *mut Answer;
 
 #[cfg(feature = "archive")]
 macro_rules! exported {
     ($($name:ident)*) => {
         #[link(name = "lintelrye_c", kind = "static")]
         extern "C" {
-            $(
-                #[cfg(target_arch = "x86_64")]
-                fn $name(c: u32, t: *const u8, n: usize, o: *mut u8, m: usize) -> Answer;
-                #[cfg(not(target_arch = "x86_64"))]
-                fn $name(a: *mut Answer, c: u32, t: *const u8, n: usize, o: *mut u8, m: usize) -> *mut Answer;
-            )*
+            $(fn $name(c: u32, t: *const u8, n: usize, o: *mut u8, m: usize) -> Answer;)*
         }
     };
 }
@@ -65,10 +57,7 @@ exported! {
 #[cfg(feature = "archive")]
 #[link(name = "lintelrye_c", kind = "static")]
 extern "C" {
-    #[cfg(target_arch = "x86_64")]
     fn lintelrye_check(c: u32, t: *const u8, n: usize) -> Checked;
-    #[cfg(not(target_arch = "x86_64"))]
-    fn lintelrye_check(a: *mut Checked, c: u32, t: *const u8, n: usize) -> *mut Checked;
 }
 
 /// A record of a page, as include/lintelrye.h lays it out.
@@ -90,7 +79,6 @@ pub struct Filled {
     pub passed: u64,
 }
 
-// Two numbers come back in registers, on x86-64 and on others.
 #[cfg(feature = "archive")]
 #[link(name = "lintelrye_c", kind = "static")]
 extern "C" {
@@ -117,30 +105,15 @@ pub struct Closing {
 #[cfg(feature = "archive")]
 #[link(name = "lintelrye_c", kind = "static")]
 extern "C" {
-    #[cfg(target_arch = "x86_64")]
     fn lintelrye_closing_tag(t: *const u8, n: usize) -> Closing;
-    #[cfg(not(target_arch = "x86_64"))]
-    fn lintelrye_closing_tag(a: *mut Closing, t: *const u8, n: usize) -> *mut Closing;
 }
 
 /// Where the text of a script element ends.
-#[cfg(all(feature = "archive", target_arch = "x86_64"))]
+#[cfg(feature = "archive")]
 #[inline]
 pub fn closing_tag(text: &[u8]) -> Closing {
     // SAFETY: the text is valid for its length.
     unsafe { lintelrye_closing_tag(text.as_ptr(), text.len()) }
-}
-
-/// Where the text of a script element ends.
-#[cfg(all(feature = "archive", not(target_arch = "x86_64")))]
-#[inline]
-pub fn closing_tag(text: &[u8]) -> Closing {
-    let mut closing = std::mem::MaybeUninit::uninit();
-    // SAFETY: as on x86-64; and the call writes the whole answer.
-    unsafe {
-        lintelrye_closing_tag(closing.as_mut_ptr(), text.as_ptr(), text.len());
-        closing.assume_init()
-    }
 }
 
 /// The four operations. The calls of `Read` are named take.
@@ -193,42 +166,19 @@ impl Call {
         })
     }
 
-    #[cfg(target_arch = "x86_64")]
     #[inline]
     pub fn make(self, context: u32, text: &[u8], output: &mut [u8]) -> Answer {
         // SAFETY: both slices are valid for their lengths, and a borrowed text and a mutably borrowed output do not overlap.
         unsafe { (self.0)(context, text.as_ptr(), text.len(), output.as_mut_ptr(), output.len()) }
     }
-
-    #[cfg(not(target_arch = "x86_64"))]
-    #[inline]
-    pub fn make(self, context: u32, text: &[u8], output: &mut [u8]) -> Answer {
-        let mut answer = std::mem::MaybeUninit::uninit();
-        // SAFETY: as on x86-64; and the call writes the whole answer.
-        unsafe {
-            (self.0)(answer.as_mut_ptr(), context, text.as_ptr(), text.len(), output.as_mut_ptr(), output.len());
-            answer.assume_init()
-        }
-    }
 }
 
 /// The check of the library, which has no output.
-#[cfg(all(feature = "archive", target_arch = "x86_64"))]
+#[cfg(feature = "archive")]
 #[inline]
 pub fn check(context: u32, text: &[u8]) -> Checked {
     // SAFETY: the text is valid for its length.
     unsafe { lintelrye_check(context, text.as_ptr(), text.len()) }
-}
-
-#[cfg(all(feature = "archive", not(target_arch = "x86_64")))]
-#[inline]
-pub fn check(context: u32, text: &[u8]) -> Checked {
-    let mut checked = std::mem::MaybeUninit::uninit();
-    // SAFETY: as on x86-64; and the call writes the whole answer.
-    unsafe {
-        lintelrye_check(checked.as_mut_ptr(), context, text.as_ptr(), text.len());
-        checked.assume_init()
-    }
 }
 
 /// One call of the library, copying or borrowing.

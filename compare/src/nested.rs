@@ -10,7 +10,7 @@ pub const ATTRIBUTES: [u32; 4] = [2, 3, 4, 6];
 /// The three contexts of a script string, by number.
 pub const STRINGS: [u32; 3] = [7, 8, 9];
 
-/// What the library gives, into an output that is long enough; nothing where it refuses.
+/// Returns what the library gives, into an output that is long enough; nothing where it refuses.
 fn given(operation: Operation, context: u32, text: &[u8]) -> Option<Vec<u8>> {
     let mut output = vec![0; 6 * text.len()];
     let answer = call(operation, false, context, text, &mut output);

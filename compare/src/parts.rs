@@ -11,19 +11,12 @@ pub struct State {
 
 #[link(name = "lintelrye_c", kind = "static")]
 extern "C" {
-    #[cfg(target_arch = "x86_64")]
     fn lintelrye_script_raw_part_7(h: *mut u8, s: *mut u64, t: *const u8, n: usize, o: *mut u8, m: usize) -> Answer;
-    #[cfg(target_arch = "x86_64")]
     fn lintelrye_script_raw_finish_7(h: *mut u8, s: *mut u64, o: *mut u8, m: usize) -> Answer;
-    #[cfg(not(target_arch = "x86_64"))]
-    fn lintelrye_script_raw_part_7(a: *mut Answer, h: *mut u8, s: *mut u64, t: *const u8, n: usize, o: *mut u8, m: usize) -> *mut Answer;
-    #[cfg(not(target_arch = "x86_64"))]
-    fn lintelrye_script_raw_finish_7(a: *mut Answer, h: *mut u8, s: *mut u64, o: *mut u8, m: usize) -> *mut Answer;
 }
 
 impl State {
-    /// A part of the text, or finish where there is none.
-    #[cfg(target_arch = "x86_64")]
+    /// Makes the call for a part of the text, or finish where there is none.
     pub fn call(&mut self, part: Option<&[u8]>, output: &mut [u8]) -> Answer {
         let (held, numbers) = (self.held.as_mut_ptr(), self.numbers.as_mut_ptr());
         // SAFETY: the state, the text and the output are valid for their lengths, and no two of them overlap.
@@ -34,24 +27,9 @@ impl State {
             }
         }
     }
-
-    /// A part of the text, or finish where there is none.
-    #[cfg(not(target_arch = "x86_64"))]
-    pub fn call(&mut self, part: Option<&[u8]>, output: &mut [u8]) -> Answer {
-        let (held, numbers) = (self.held.as_mut_ptr(), self.numbers.as_mut_ptr());
-        let mut answer = std::mem::MaybeUninit::uninit();
-        // SAFETY: as on x86-64; and the call writes the whole answer.
-        unsafe {
-            match part {
-                Some(text) => lintelrye_script_raw_part_7(answer.as_mut_ptr(), held, numbers, text.as_ptr(), text.len(), output.as_mut_ptr(), output.len()),
-                None => lintelrye_script_raw_finish_7(answer.as_mut_ptr(), held, numbers, output.as_mut_ptr(), output.len()),
-            };
-            answer.assume_init()
-        }
-    }
 }
 
-/// An answer; `same` is always 0.
+/// Returns an answer; `same` is always 0.
 fn answer(status: u64, length: usize, replaced: usize, place: usize) -> Answer {
     Answer { status, length: length as u64, same: 0, replaced: replaced as u64, place: place as u64, left: 0, reason: 0 }
 }
@@ -71,24 +49,24 @@ pub fn encode(text: &[u8], size: usize, output: &mut [u8]) -> Answer {
     sum
 }
 
-/// Whether the bytes begin a character, as error_len of from_utf8 tells it, or from its `<` an escaped pattern.
+/// Returns whether the bytes begin a character, as error_len of from_utf8 tells it, or from its `<` an escaped pattern.
 fn begins(tail: &[u8]) -> bool {
     let character = matches!(std::str::from_utf8(tail), Err(error) if error.valid_up_to() == 0 && error.error_len().is_none());
     let closing = tail.len() <= 8 && b"</script".starts_with(&tail.to_ascii_lowercase());
     character || closing || (tail.len() < 4 && b"<!--".starts_with(tail))
 }
 
-/// How many bytes of a text are held: the longest tail that begins something.
+/// Returns how many bytes of a text are held: the longest tail that begins something.
 pub fn held(text: &[u8]) -> usize {
     (1..=text.len().min(9)).rev().find(|&n| begins(&text[text.len() - n..])).unwrap_or(0)
 }
 
-/// What the crate writes of a valid text.
+/// Returns what the crate writes of a valid text.
 fn encoded(text: &[u8]) -> Vec<u8> {
     CRATE_LENDING_ENCODERS[13](std::str::from_utf8(text).unwrap()).into_owned().into_bytes()
 }
 
-/// What is written of a text so far: all but what is held; what the crate writes of that stands at the end of what it writes of the whole.
+/// Returns what is written of a text so far: all but what is held; what the crate writes of that stands at the end of what it writes of the whole.
 fn settled(text: &[u8]) -> Vec<u8> {
     let valid = match std::str::from_utf8(text) {
         Ok(_) => text.len(),
@@ -107,7 +85,7 @@ fn settled(text: &[u8]) -> Vec<u8> {
     all
 }
 
-/// What a call is to answer and to write, where the parts before it are `before`.
+/// Returns what a call is to answer and to write, where the parts before it are `before`.
 fn expected(before: &[u8], part: Option<&[u8]>, finished: bool, room: usize) -> (Answer, Vec<u8>) {
     let refused = |status, length, place| (answer(status, length, 0, place), Vec::new());
     let text = [before, part.unwrap_or(&[])].concat();

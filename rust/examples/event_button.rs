@@ -31,7 +31,7 @@ impl Handler {
     }
 }
 
-/// The text of an event attribute in double quotes that calls `landing` with a name.
+/// Returns the text of an event attribute in double quotes that calls `landing` with a name.
 fn write_handler<'a>(name: &str, output: &'a mut [u8]) -> Result<Written<'a>, Refusal> {
     let mut handler = Handler { bytes: [0; HANDLER], used: 0 };
     handler.put("landing('")?;
@@ -42,6 +42,7 @@ fn write_handler<'a>(name: &str, output: &'a mut [u8]) -> Result<Written<'a>, Re
 
 fn main() {
     let mut attribute = [0; ATTRIBUTE];
+    println!("<script>function landing(name) {{ alert(name) }}</script>");
     for (k, landing) in LANDINGS.iter().enumerate() {
         match write_handler(landing, &mut attribute) {
             Ok(handler) => println!("<button onclick=\"{}\">{}</button>", handler, k),

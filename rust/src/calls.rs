@@ -1,7 +1,7 @@
 //! The four operations in a context, copying and borrowing, the check, their results and their refusals; a whole page in one call; and where a script
 //! element's text ends.
 use crate::raw::{self, Answer};
-use crate::Context;
+use crate::{Context, Text};
 use core::{fmt, ops, str};
 
 /// The longest text that a call takes, in bytes.
@@ -34,7 +34,17 @@ pub const fn decoded_at_most(n: usize) -> usize {
     n.saturating_add(n / 5)
 }
 
-/// A refusal. Where several apply, the first of this order is given. The buffer is as it was, except after [`Refusal::WrongArchive`].
+/// A refusal of a text. Where several apply, the first of this order is given. The buffer is as it was.
+///
+/// | refusal | what to do |
+/// |---|---|
+/// | `TooLong` | cut the text, at the end of a character; for raw script use a [`ScriptEncoder`](crate::ScriptEncoder) |
+/// | `NotUtf8` | convert the text from its encoding, or leave it out |
+/// | `CutShort` | read on: the text ends within a character; or cut it at `place` |
+/// | `NoRoom` | call again with `needed` bytes, or leave the text out |
+/// | `NotAForm` | the stored text was not written by [`encode`] in this context: treat it as plain text and encode it, or report it |
+/// | `LoneSurrogate` | the JSON was cut or damaged: refuse it |
+/// | `Finished`, `BadContext`, `BadRange` | an error of the program that calls |
 #[derive(Clone, Copy, Debug, PartialEq, Eq)]
 #[non_exhaustive]
 pub enum Refusal {
@@ -71,10 +81,6 @@ pub enum Refusal {
         /// The length needed.
         needed: usize,
     },
-    /// No refusal of the library: the field has no result yet, since no page was filled with it, or the page was stopped before it.
-    NotFilled,
-    /// No refusal of the library: the answer is one that this version never gives, so another archive is linked. Nothing is known of the buffer then.
-    WrongArchive,
 }
 
 impl fmt::Display for Refusal {
@@ -89,8 +95,6 @@ impl fmt::Display for Refusal {
             Refusal::NotAForm { place } => write!(f, "the text is not what encode writes from byte {} on", place),
             Refusal::LoneSurrogate { place } => write!(f, "half a surrogate pair stands alone at byte {}", place),
             Refusal::NoRoom { needed } => write!(f, "the result needs {} bytes of room", needed),
-            Refusal::NotFilled => write!(f, "the field is not filled"),
-            Refusal::WrongArchive => write!(f, "another archive than this version's is linked"),
         }
     }
 }
@@ -139,18 +143,24 @@ pub enum Reason {
     NotAllowed = 5,
 }
 
-/// Returns the first reference that stayed, if one did; the other `None` is for numbers that no archive of this record gives.
-fn left(answer: Answer) -> Option<Option<Left>> {
+/// Ends the program at an answer that no call of this version gives, by proof: other code than the archive that the build found is linked.
+#[cold]
+pub(crate) fn impossible() -> ! {
+    panic!("lintelrye: this is no answer of the archive that the crate was built with")
+}
+
+/// Returns the first reference that stayed, if one did.
+fn left(answer: Answer) -> Option<Left> {
     let reason = match answer.reason {
-        0 => return Some(None),
+        0 => return None,
         1 => Reason::NoEnd,
         2 => Reason::Empty,
         3 => Reason::UnknownName,
         4 => Reason::NoDigit,
         5 => Reason::NotAllowed,
-        _ => return None,
+        _ => impossible(),
     };
-    Some(Some(Left { place: answer.left as usize, reason }))
+    Some(Left { place: answer.left as usize, reason })
 }
 
 impl<'a> Written<'a> {
@@ -216,61 +226,52 @@ impl fmt::Display for Written<'_> {
     }
 }
 
-impl PartialEq<str> for Written<'_> {
-    fn eq(&self, other: &str) -> bool {
-        self.as_str() == other
-    }
-}
-
-impl PartialEq<&str> for Written<'_> {
-    fn eq(&self, other: &&str) -> bool {
-        self.as_str() == *other
-    }
-}
-
-/// Returns the refusal of an answer whose status is not 0.
-pub(crate) fn refusal(status: u64, length: u64, place: u64) -> Refusal {
-    match status {
+/// Returns the refusal that a status other than 0 is, if it is one.
+fn known(status: u64, length: u64, place: u64) -> Option<Refusal> {
+    let (needed, place) = (length as usize, place as usize);
+    Some(match status {
         raw::FINISHED => Refusal::Finished,
         raw::BAD_CONTEXT => Refusal::BadContext,
         raw::BAD_RANGE => Refusal::BadRange,
         raw::TOO_LONG => Refusal::TooLong,
-        raw::NOT_UTF8 => Refusal::NotUtf8 { place: place as usize },
-        raw::CUT_SHORT => Refusal::CutShort { place: place as usize },
-        raw::NOT_A_FORM => Refusal::NotAForm { place: place as usize },
-        raw::LONE_SURROGATE => Refusal::LoneSurrogate { place: place as usize },
-        raw::NO_ROOM => Refusal::NoRoom { needed: length as usize },
-        raw::NOT_FILLED => Refusal::NotFilled,
-        _ => Refusal::WrongArchive,
-    }
+        raw::NOT_UTF8 => Refusal::NotUtf8 { place },
+        raw::CUT_SHORT => Refusal::CutShort { place },
+        raw::NOT_A_FORM => Refusal::NotAForm { place },
+        raw::LONE_SURROGATE => Refusal::LoneSurrogate { place },
+        raw::NO_ROOM => Refusal::NoRoom { needed },
+        _ => return None,
+    })
 }
 
-/// Returns the result of a call from its bytes. A result is always valid UTF-8; it is checked here once more, which costs little, so that no conversion
-/// of this crate relies on the archive that is linked.
-fn written(result: Option<&[u8]>, answer: Answer) -> Result<Written<'_>, Refusal> {
+/// Returns the refusal of an answer whose status is not 0.
+pub(crate) fn refusal(status: u64, length: u64, place: u64) -> Refusal {
+    known(status, length, place).unwrap_or_else(|| impossible())
+}
+
+/// Returns the result that an answer tells of, from its bytes, or its refusal; `None` where they do not go together. A result is always valid UTF-8, by proof;
+/// it is checked here once more, which costs little, so that the only `unsafe` of this crate is the calls themselves.
+fn written(result: Option<&[u8]>, answer: Answer) -> Option<Result<Written<'_>, Refusal>> {
     if answer.status != raw::PASSED {
-        return Err(refusal(answer.status, answer.length, answer.place));
+        return known(answer.status, answer.length, answer.place).map(Err);
     }
     let replaced = answer.replaced as usize;
-    match (result.map(str::from_utf8), left(answer)) {
-        (Some(Ok(result)), Some(left)) if answer.same == (replaced == 0) as u64 => Ok(Written { result, replaced, left }),
-        _ => Err(Refusal::WrongArchive),
-    }
+    let result = str::from_utf8(result?).ok()?;
+    (answer.same == (replaced == 0) as u64).then(|| Ok(Written { result, replaced, left: left(answer) }))
 }
 
 macro_rules! operation {
     ($(#[$doc:meta])* $copying:ident $borrowing:ident) => {
         $(#[$doc])*
-        pub fn $copying<'a, T: ?Sized + AsRef<[u8]>>(context: Context, text: &T, output: &'a mut [u8]) -> Result<Written<'a>, Refusal> {
-            let answer = raw::$copying(context as u32, text.as_ref(), output);
-            written(raw::front(output, answer.length), answer)
+        pub fn $copying<'a, T: ?Sized + Text>(context: Context, text: &T, output: &'a mut [u8]) -> Result<Written<'a>, Refusal> {
+            let answer = raw::$copying(context as u32, text.text_bytes(), output);
+            written(raw::front(output, answer.length), answer).unwrap_or_else(|| impossible())
         }
 
         #[doc = concat!("[`", stringify!($copying), "`] as a borrowing call: where nothing is replaced it needs no room and leaves the buffer alone.")]
-        pub fn $borrowing<'a, T: ?Sized + AsRef<[u8]>>(context: Context, text: &'a T, output: &'a mut [u8]) -> Result<Written<'a>, Refusal> {
-            let text = text.as_ref();
+        pub fn $borrowing<'a, T: ?Sized + Text>(context: Context, text: &'a T, output: &'a mut [u8]) -> Result<Written<'a>, Refusal> {
+            let text = text.text_bytes();
             let answer = raw::$borrowing(context as u32, text, output);
-            written(Some(raw::view(text, output, answer)), answer)
+            written(Some(raw::view(text, output, answer)), answer).unwrap_or_else(|| impossible())
         }
     };
 }
@@ -324,11 +325,10 @@ operation! {
 /// assert_eq!(check(Context::TextMinimal, "a&lt;"), Ok(2));
 /// assert_eq!(check(Context::TextMinimal, "a&lt;&gt;"), Err(Refusal::NotAForm { place: 5 }));
 /// ```
-pub fn check<T: ?Sized + AsRef<[u8]>>(context: Context, text: &T) -> Result<usize, Refusal> {
-    let checked = raw::check(context as u32, text.as_ref());
+pub fn check<T: ?Sized + Text>(context: Context, text: &T) -> Result<usize, Refusal> {
+    let checked = raw::check(context as u32, text.text_bytes());
     match checked.status {
         raw::PASSED => Ok(checked.length as usize),
-        raw::NO_ROOM => Err(Refusal::WrongArchive),
         status => Err(refusal(status, checked.length, checked.place)),
     }
 }
@@ -360,8 +360,9 @@ impl Field {
         Field { context: context as u32, start: start as u64, length: length as u64, begins: 0, answer }
     }
 
-    /// The field's result, in the output that the page was filled into; or its refusal.
-    pub fn result<'a>(&self, output: &'a [u8]) -> Result<Written<'a>, Refusal> {
+    /// The field's result, in the output that the page was filled into, or its refusal. `None` if it has none there: no page was filled with it, or the page stopped
+    /// before it, or this is another output.
+    pub fn result<'a>(&self, output: &'a [u8]) -> Option<Result<Written<'a>, Refusal>> {
         let rest = if self.begins <= output.len() as u64 { output.get(self.begins as usize..) } else { None };
         written(rest.and_then(|rest| raw::front(rest, self.answer.length)), self.answer)
     }
@@ -397,16 +398,16 @@ impl std::error::Error for Stopped {}
 /// let mut fields = [Field::new(Context::DoubleQuoted, 0, 11), Field::new(Context::ScriptSingle, 6, 5)];
 /// let mut page = [0; 32];
 /// assert_eq!(fill_page(&mut fields, text, &mut page), Ok(()));
-/// assert_eq!(fields[0].result(&page)?, "Mum &amp; Dad's");
-/// assert_eq!(fields[1].result(&page)?, r"Dad\'s");
+/// assert_eq!(fields[0].result(&page).unwrap()?, "Mum &amp; Dad's");
+/// assert_eq!(fields[1].result(&page).unwrap()?, r"Dad\'s");
 /// assert_eq!(&page[..21], br"Mum &amp; Dad'sDad\'s" as &[u8]);
 ///
 /// let mut fields = [Field::new(Context::Text, 0, 3), Field::new(Context::Text, 6, 6)];
 /// assert_eq!(fill_page(&mut fields, text, &mut page), Err(Stopped { passed: 1, refusal: Refusal::BadRange }));
 /// # Ok::<(), Refusal>(())
 /// ```
-pub fn fill_page<T: ?Sized + AsRef<[u8]>>(fields: &mut [Field], text: &T, output: &mut [u8]) -> Result<(), Stopped> {
-    let filled = raw::fill_page(fields, text.as_ref(), output);
+pub fn fill_page<T: ?Sized + Text>(fields: &mut [Field], text: &T, output: &mut [u8]) -> Result<(), Stopped> {
+    let filled = raw::fill_page(fields, text.text_bytes(), output);
     let passed = filled.passed as usize;
     match filled.status {
         raw::PASSED if passed == fields.len() => Ok(()),
@@ -415,7 +416,7 @@ pub fn fill_page<T: ?Sized + AsRef<[u8]>>(fields: &mut [Field], text: &T, output
             Some(answer) if answer.status == status && status != raw::PASSED => {
                 Err(Stopped { passed, refusal: refusal(status, answer.length, answer.place) })
             }
-            _ => Err(Stopped { passed, refusal: Refusal::WrongArchive }),
+            _ => impossible(),
         },
     }
 }
@@ -436,12 +437,12 @@ pub fn fill_page<T: ?Sized + AsRef<[u8]>>(fields: &mut [Field], text: &T, output
 /// ```
 ///
 /// What [`encode`] writes in [`Context::ScriptRaw`] is always right, where the text with the tag has at most [`TEXT_LIMIT`] bytes.
-pub fn closing_tag<T: ?Sized + AsRef<[u8]>>(text: &T) -> Result<Option<usize>, Refusal> {
-    let closing = raw::closing_tag(text.as_ref());
+pub fn closing_tag<T: ?Sized + Text>(text: &T) -> Result<Option<usize>, Refusal> {
+    let closing = raw::closing_tag(text.text_bytes());
     match (closing.status, closing.found) {
         (raw::PASSED, 0) => Ok(None),
         (raw::PASSED, 1) => Ok(Some(closing.place as usize)),
-        (raw::PASSED, _) => Err(Refusal::WrongArchive),
+        (raw::PASSED, _) => impossible(),
         (status, _) => Err(refusal(status, 0, closing.place)),
     }
 }

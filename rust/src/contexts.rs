@@ -57,13 +57,15 @@ impl Context {
         Context::Json,
     ];
 
-    /// The context's name, as docs/RULES.md has it and as the program `entity` reads it.
+    /// Returns the context's name, as docs/RULES.md has it and as the program `entity` reads it.
     ///
     /// ```
     /// use lintelrye::Context;
     /// assert_eq!(Context::DoubleQuoted.name(), "double_quoted");
     /// assert_eq!("double_quoted".parse(), Ok(Context::DoubleQuoted));
+    /// assert_eq!(Context::DoubleQuoted.to_string(), "double_quoted");
     /// assert_eq!(Context::try_from(2), Ok(Context::DoubleQuoted));
+    /// assert_eq!(u32::from(Context::DoubleQuoted), 2);
     /// ```
     pub const fn name(self) -> &'static str {
         match self {
@@ -98,6 +100,20 @@ impl fmt::Display for UnknownContext {
 
 #[cfg(feature = "std")]
 impl std::error::Error for UnknownContext {}
+
+impl fmt::Display for Context {
+    /// Writes the context's [name](Context::name).
+    fn fmt(&self, f: &mut fmt::Formatter<'_>) -> fmt::Result {
+        f.pad(self.name())
+    }
+}
+
+impl From<Context> for u32 {
+    /// Returns the context's number.
+    fn from(context: Context) -> u32 {
+        context as u32
+    }
+}
 
 impl TryFrom<u32> for Context {
     type Error = UnknownContext;

@@ -1,7 +1,7 @@
 //! HTML escaping with proofs: the calls of Lintelrye for Rust.
 //!
 //! A result is written into a buffer that the caller lends. Nothing is allocated, nothing panics, and a text that does not fit is refused with the buffer
-//! as it was. The functions are named as in html-escape 0.3.0 where they do the same, so a caller changes little: a buffer goes in, a `Result` comes out.
+//! as it was. The code behind these calls is proved: what [`encode`] writes, [`take`] gives back. The functions are named as in html-escape 0.3.0 where they do the same, so a caller changes little: a buffer goes in, a `Result` comes out.
 //!
 //! ```
 //! let mut line = [0; lintelrye::encoded_at_most(40)];
@@ -36,7 +36,7 @@
 //! | `<script>HERE</script>`: the whole text of the element, in one call or by a [`ScriptEncoder`] | [`ScriptRaw`](Context::ScriptRaw) | [`encode_script`] |
 //! | `<script type="application/json">{"a":"HERE"}</script>`, a JSON document | [`Json`](Context::Json) | [`encode_json_string`] |
 //! | `onclick="f('HERE')"` | `ScriptSingle` for the name, then `DoubleQuoted` for the whole handler | both functions, see below |
-//! | a URL, CSS or script outside a string, a comment, a tag or attribute name | none: no context makes that safe | none |
+//! | a URL, a template literal (between backticks), CSS or script outside a string, a comment, a tag or attribute name | none: no context makes that safe | none |
 //!
 //! `safe` is not a sanitizer: it is `quoted` with one more character, right between tags and in attributes with quotes, and nowhere else.
 //! `encode_script` is no JSON encoder.
@@ -111,10 +111,24 @@
 //! assert_eq!(line, [0; 240]);
 //! ```
 //!
-//! The feature `std`, off by default, implements `std::error::Error` for the errors, so that `?` works in a function that returns `Box<dyn Error>`.
+//! # Features
+//!
+//! | feature | what it adds |
+//! |---|---|
+//! | `std`, on by default | `std::error::Error` for the errors, so that `?` works in a function that returns `Box<dyn Error>`; and `alloc` |
+//! | `alloc` | texts in `String`, `Vec`, `Cow`, `Box`, `Rc` and `Arc`; results turned into `String` and `Cow` |
+//!
+//! Firmware without an allocator takes the crate with `default-features = false`. The calls themselves never allocate, nor do they need anything but `memcpy`.
+//!
+//! # Building
+//!
+//! The crate links the library's static archive, for x86-64 or aarch64: run `tools/archive` of the repository first, or set `LINTELRYE_ARCHIVE_DIR` to a folder
+//! that has `liblintelrye_c.a` of the same version. `cargo check` and `cargo doc` need none.
 #![no_std]
 #![deny(missing_docs)]
 
+#[cfg(feature = "alloc")]
+extern crate alloc;
 #[cfg(feature = "std")]
 extern crate std;
 
@@ -123,8 +137,10 @@ mod contexts;
 mod named;
 pub mod raw;
 mod script;
+mod text;
 
 pub use calls::*;
 pub use contexts::*;
 pub use named::*;
 pub use script::*;
+pub use text::*;

@@ -1,5 +1,5 @@
 //! The operations in one context each, under the names of html-escape 0.3.0.
-use crate::{Context, Refusal, Written};
+use crate::{Context, Refusal, Text, Written};
 
 macro_rules! named {
     ($operation:ident $operation_borrowing:ident: $($does:literal $borrowing:ident $copying:ident $context:ident, $text:literal gives $result:literal;)*) => {$(
@@ -12,12 +12,12 @@ macro_rules! named {
         #[doc = concat!("assert_eq!(lintelrye::", stringify!($borrowing), "(", stringify!($text), ", &mut line)?, ", stringify!($result), ");")]
         /// # Ok::<(), lintelrye::Refusal>(())
         /// ```
-        pub fn $borrowing<'a, T: ?Sized + AsRef<[u8]>>(text: &'a T, output: &'a mut [u8]) -> Result<Written<'a>, Refusal> {
+        pub fn $borrowing<'a, T: ?Sized + Text>(text: &'a T, output: &'a mut [u8]) -> Result<Written<'a>, Refusal> {
             crate::$operation_borrowing(Context::$context, text, output)
         }
 
         #[doc = concat!("[`", stringify!($borrowing), "`] as a copying call: the result is always written to the front of the buffer.")]
-        pub fn $copying<'a, T: ?Sized + AsRef<[u8]>>(text: &T, output: &'a mut [u8]) -> Result<Written<'a>, Refusal> {
+        pub fn $copying<'a, T: ?Sized + Text>(text: &T, output: &'a mut [u8]) -> Result<Written<'a>, Refusal> {
             crate::$operation(Context::$context, text, output)
         }
     )*};

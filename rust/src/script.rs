@@ -1,9 +1,10 @@
 //! Raw script by parts: the encoder of script elements with a state.
-use crate::calls::{refusal, Refusal};
+use crate::calls::{impossible, refusal, Refusal};
 use crate::raw::{self, Answer, ScriptRaw};
+use crate::Text;
 use core::str;
 
-/// The length of an output that is enough for every part of `n` bytes; with `n` 0 for [`ScriptEncoder::finish`].
+/// Returns the length of an output that is enough for every part of `n` bytes; with `n` 0 for [`ScriptEncoder::finish`].
 pub const fn script_part_at_most(n: usize) -> usize {
     n.saturating_add(n / 4).saturating_add(10)
 }
@@ -29,14 +30,14 @@ pub struct ScriptEncoder {
     state: ScriptRaw,
 }
 
-/// Returns what a call wrote. It is always valid UTF-8; it is checked here once more, so that nothing relies on the archive that is linked.
+/// Returns what a call wrote. It is always valid UTF-8, by proof; it is checked here once more.
 fn released(output: &[u8], answer: Answer) -> Result<&str, Refusal> {
     if answer.status != raw::PASSED {
         return Err(refusal(answer.status, answer.length, answer.place));
     }
     match raw::front(output, answer.length).map(str::from_utf8) {
         Some(Ok(released)) if answer.same == 0 => Ok(released),
-        _ => Err(Refusal::WrongArchive),
+        _ => impossible(),
     }
 }
 
@@ -49,8 +50,8 @@ impl ScriptEncoder {
     }
 
     /// Encodes the next part of the text, and returns what is written of it and of what was held.
-    pub fn part<'a, T: ?Sized + AsRef<[u8]>>(&mut self, text: &T, output: &'a mut [u8]) -> Result<&'a str, Refusal> {
-        let answer = self.state.part(text.as_ref(), output);
+    pub fn part<'a, T: ?Sized + Text>(&mut self, text: &T, output: &'a mut [u8]) -> Result<&'a str, Refusal> {
+        let answer = self.state.part(text.text_bytes(), output);
         released(output, answer)
     }
 

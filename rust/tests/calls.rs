@@ -234,7 +234,7 @@ mod exported {
     }
 }
 
-/// A null pointer of length 0, as the header allows it.
+/// Tries a null pointer of length 0, as the header allows it.
 #[test]
 fn null_pointers_of_length_0() {
     use exported::*;
@@ -306,7 +306,7 @@ fn a_page_is_its_single_calls_one_behind_the_other() {
     let mut end = 0;
     for (field, (context, start, length)) in fields.iter().zip(parts) {
         let single = lintelrye::encode(context, &text[start..start + length], &mut singly[end..]).unwrap();
-        assert_eq!(field.result(&page), Ok(single));
+        assert_eq!(field.result(&page), Some(Ok(single)));
         assert_eq!(field.begins, end as u64);
         end += single.len();
     }
@@ -321,10 +321,10 @@ fn a_refusal_stops_a_page() {
         let last = fields[2];
         let mut page = [0xEE; 16];
         assert_eq!(lintelrye::fill_page(&mut fields, text, &mut page[..room]), Err(Stopped { passed: 1, refusal }));
-        assert_eq!(fields[0].result(&page).unwrap(), "a&lt;");
-        assert_eq!(fields[1].result(&page), Err(refusal));
+        assert_eq!(fields[0].result(&page).unwrap().unwrap(), "a&lt;");
+        assert_eq!(fields[1].result(&page), Some(Err(refusal)));
         assert_eq!(fields[1].begins, 0);
-        assert_eq!((fields[2], fields[2].result(&page)), (last, Err(Refusal::NotFilled)));
+        assert_eq!((fields[2], fields[2].result(&page)), (last, None));
         assert_eq!(&page, b"a&lt;\xEE\xEE\xEE\xEE\xEE\xEE\xEE\xEE\xEE\xEE\xEE");
     };
     stops(Field::new(Context::Text, 0, 2), 8, Refusal::NoRoom { needed: 5 });

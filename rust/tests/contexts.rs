@@ -21,6 +21,7 @@ fn contexts_by_name() {
     for (name, context) in names.split(' ').zip(Context::ALL) {
         assert_eq!(context.name(), name);
         assert_eq!(name.parse(), Ok(context));
+        assert_eq!((context.to_string(), u32::from(context)), (name.to_string(), context as u32));
     }
     for name in ["", "Text", "text ", "texts", "script", "Json"] {
         assert_eq!(name.parse::<Context>(), Err(UnknownContext));
@@ -50,6 +51,33 @@ fn a_result_as_text_and_as_bytes() {
 }
 
 #[test]
+fn a_result_compared_and_turned_into_other_strings() {
+    let mut output = [0; 8];
+    let written = lintelrye::encode_text("<", &mut output).unwrap();
+    assert!(written == "&lt;" && "&lt;" == written && *"&lt;" == written && written == *"&lt;" && "<" != written);
+    assert_eq!((<&str>::from(written), <&[u8]>::from(written)), ("&lt;", &b"&lt;"[..]));
+    assert_eq!(format!("{:>6}", written), "  &lt;");
+}
+
+#[cfg(feature = "alloc")]
+#[test]
+fn texts_as_html_escape_takes_them() {
+    use std::{borrow::Cow, rc::Rc, sync::Arc};
+    fn encoded<T: ?Sized + lintelrye::Text>(text: &T) -> String {
+        let mut output = [0; 16];
+        lintelrye::encode_text(text, &mut output).unwrap().into()
+    }
+    let (owned, borrowed) = (Cow::<str>::Owned("a<".to_string()), Cow::Borrowed("a<"));
+    let held = [encoded("a<"), encoded(&"a<"), encoded(&String::from("a<")), encoded(&owned), encoded(&borrowed), encoded(&Box::<str>::from("a<"))];
+    assert!(held.iter().all(|text| text == "a&lt;"));
+    let held = [encoded(&Rc::<str>::from("a<")), encoded(&Arc::<str>::from("a<")), encoded(b"a<"), encoded(&b"a<"[..]), encoded(&b"a<".to_vec())];
+    assert!(held.iter().all(|text| text == "a&lt;"));
+    let mut output = [0; 16];
+    let written = lintelrye::encode_text("a<", &mut output).unwrap();
+    assert!(written == String::from("a&lt;") && String::from("a&lt;") == written && Cow::from(written) == written);
+}
+
+#[test]
 fn buffers_that_are_always_enough() {
     const ROOM: usize = encoded_at_most(3);
     assert_eq!(lintelrye::encode_quoted_attribute_to_slice("'''", &mut [0; ROOM]).map(|written| written.len()), Ok(ROOM));
@@ -57,7 +85,7 @@ fn buffers_that_are_always_enough() {
     assert_eq!([0, 4, 5, 9, 10].map(decoded_at_most), [0, 4, 6, 10, 12]);
     let grown = "&nGt;".repeat(20);
     let mut room = vec![0; decoded_at_most(grown.len())];
-    assert_eq!(lintelrye::decode_html_entities_to_slice(&grown, &mut room).map(|written| written.len()), Ok(room.len()));
+    assert_eq!(lintelrye::decode_html_entities_to_slice(grown.as_str(), &mut room).map(|written| written.len()), Ok(room.len()));
     assert_eq!((encoded_at_most(usize::MAX), decoded_at_most(usize::MAX)), (usize::MAX, usize::MAX));
 }
 

@@ -23,7 +23,7 @@ fn passes(calls: [Call; 2], context: u32, text: &[u8], replaced: u64, result: &[
     leaves(calls, context, text, replaced, result, 0);
 }
 
-/// The same, and the reference at the start of the text stays for this reason.
+/// Checks the same, and that the reference at the start of the text stays for this reason.
 fn leaves(calls: [Call; 2], context: u32, text: &[u8], replaced: u64, result: &[u8], reason: u64) {
     let same = text == result;
     let answer = Answer { status: 0, length: result.len() as u64, same: same as u64, replaced, place: 0, left: 0, reason };
@@ -47,7 +47,7 @@ fn refuses(calls: [Call; 2], context: u32, text: &[u8], room: usize, answer: Ans
     }
 }
 
-/// Texts that stay as they are.
+/// Checks texts that stay as they are.
 fn stay(calls: [Call; 2], context: u32, texts: &[&[u8]]) {
     for text in texts {
         passes(calls, context, text, 0, text);

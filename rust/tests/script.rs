@@ -63,7 +63,7 @@ fn a_refused_call_changes_nothing() {
 fn the_limit_counts_all_parts() {
     let mut script = ScriptEncoder::new();
     let mut page = vec![0; script_part_at_most(65_536)];
-    assert_eq!(script.part(&vec![b'a'; 65_535], &mut page).map(str::len), Ok(65_535));
+    assert_eq!(script.part(&[b'a'; 65_535], &mut page).map(str::len), Ok(65_535));
     assert_eq!(script.part("<", &mut page), Ok(""));
     assert_eq!(script.part("a", &mut page), Err(Refusal::TooLong));
     assert_eq!(script.part("", &mut page), Ok(""));

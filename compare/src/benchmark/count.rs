@@ -16,7 +16,7 @@ extern "C" {
 pub struct Counter(File);
 
 impl Counter {
-    /// The counter, or why there is none.
+    /// Returns the counter, or why there is none.
     pub fn open() -> Result<Counter, String> {
         let path = std::env::var("LINTELRYE_COUNT").map_err(|_| "--instructions works only through compare/run".to_string())?;
         let counter = File::open(&path).map(Counter).map_err(|error| format!("{} cannot be read: {}", path, error))?;
@@ -27,7 +27,7 @@ impl Counter {
         }
     }
 
-    /// How many instructions were executed so far; 0 where that cannot be read.
+    /// Returns how many instructions were executed so far; 0 where that cannot be read.
     fn now(&self) -> u64 {
         let mut count = [0; 8];
         // SAFETY: the call has no argument, and the system refuses it.

@@ -2,7 +2,8 @@
 
 use std::process::Command;
 
-/// The facts of a document's table: a name and what it was. `counted` is where an emulator counted instructions and no processor was measured.
+/// Returns the facts of a document's table: a name and what it was. `counted` is where an emulator counted instructions and no processor was
+/// measured.
 pub fn facts(root: &str, counted: bool) -> Vec<(&'static str, String)> {
     let emulator = || format!("none: {} executes the x86-64 code, on {}", first_line(said("qemu-x86_64", &["--version"])), machine());
     let size = size(&format!("{}/target/staticlib/liblintelrye_c.a", root));
@@ -15,21 +16,21 @@ pub fn facts(root: &str, counted: bool) -> Vec<(&'static str, String)> {
     ]
 }
 
-/// The kind of the machine that runs this, or runs the emulator.
+/// Returns the kind of the machine that runs this, or runs the emulator.
 pub fn machine() -> String {
     std::env::var("LINTELRYE_MACHINE").unwrap_or_else(|_| std::env::consts::ARCH.into())
 }
 
-/// What of the library was run: the archive itself, or what tools/native compiles for this machine.
-fn library(itself: bool) -> String {
-    if itself {
-        return "the static archive itself".to_string();
+/// Returns what of the library was run: the x86-64 archive, or that for this machine's processor.
+fn library(x86_64: bool) -> String {
+    if x86_64 {
+        return "the archive for x86-64".to_string();
     }
-    let how = "the archive's LLVM module, by the archive's own compiler with the same options (-O3); the archive itself was not run";
-    format!("compiled for {} by `tools/native`: {}", machine(), how)
+    let how = "the LLVM module of the x86-64 archive, by the same compiler with the same options (-O3), and the calls of tools/aarch64_calls.c around it";
+    format!("the archive for {} (`tools/archive`): {}", machine(), how)
 }
 
-/// The model name of the first processor, from /proc/cpuinfo or from `lscpu`.
+/// Returns the model name of the first processor, from /proc/cpuinfo or from `lscpu`.
 fn processor() -> String {
     let value = |about: &str, name: &str| -> Option<String> {
         let line = about.lines().find(|line| line.trim_start().to_lowercase().starts_with(name))?;
@@ -40,12 +41,12 @@ fn processor() -> String {
     name.unwrap_or_else(|| "a processor that neither /proc/cpuinfo nor lscpu gives a model name of".into())
 }
 
-/// The compiler that compare/run uses.
+/// Returns the compiler that compare/run uses.
 fn rustc() -> String {
     said(&std::env::var("LINTELRYE_RUSTC").unwrap_or_else(|_| "rustc".into()), &["--version"])
 }
 
-/// What a program prints, in English.
+/// Returns what a program prints, in English.
 fn said(program: &str, words: &[&str]) -> String {
     match Command::new(program).args(words).env("LC_ALL", "C").output() {
         Ok(output) if output.status.success() => String::from_utf8_lossy(&output.stdout).trim().to_string(),
@@ -58,7 +59,7 @@ fn first_line(text: String) -> String {
     text.lines().next().unwrap_or_default().to_string()
 }
 
-/// The code and the constants of the archive, by `size -A`, which prints the name and the size of each section.
+/// Returns the code and the constants of the archive, by `size -A`, which prints the name and the size of each section.
 fn size(archive: &str) -> String {
     let sections = said("size", &["-A", archive]);
     let sum = |kind: &str| -> usize {
@@ -71,9 +72,9 @@ fn size(archive: &str) -> String {
     }
 }
 
-/// The deepest stack of the archive's calls, by `tools/check_symbols`, which prints the bytes and the calls on the way.
+/// Returns the deepest stack of the archive's calls, by `tools/check_symbols`, which prints the bytes and the calls on the way.
 fn stack(root: &str) -> String {
-    let report = said(&format!("{}/tools/check_symbols", root), &[]);
+    let report = said(&format!("{}/tools/check_symbols", root), &["--target", "x86_64"]);
     let line = report.lines().find_map(|line| line.strip_prefix("deepest stack:"));
     line.and_then(|line| line.split(':').next()).map_or("its deepest stack was not found out".into(), |bytes| format!("deepest stack {}", bytes.trim()))
 }

@@ -20,7 +20,7 @@ const MARK: &str = "#000000";
 const INK: &str = "#1f2328";
 const FAINT: &str = "#57606a";
 
-/// The whole picture. `about` says where the numbers are from.
+/// Returns the whole picture. `about` says where the numbers are from.
 pub fn picture(rows: &[Row], about: &str) -> String {
     let mut text = words(20.0, 28.0, 18, "start", INK, "Lintelrye beside html-escape 0.3.0 after from_utf8: time over time, below 1.0 is faster");
     let about = format!("{}. A bar is the worst of the family's contexts; where the ratio is above {:.1} the bar is cut.", about, END);
@@ -40,12 +40,12 @@ pub fn picture(rows: &[Row], about: &str) -> String {
     format!("<svg xmlns=\"http://www.w3.org/2000/svg\" {} font-family=\"sans-serif\">\n{}{}</svg>\n", size, ground, text)
 }
 
-/// The worst row of a family for each of its classes.
+/// Returns the worst row of a family for each of its classes.
 fn of<'a>(rows: &'a [Row], family: &str) -> Vec<&'a Row> {
     classes(rows).into_iter().filter_map(|class| worst(rows, family, class)).collect()
 }
 
-/// What the colours mean.
+/// Returns what the colours mean.
 fn legend(x: f64, y: f64) -> String {
     let bars = [(WITHIN, "within the limit"), (ABOVE, "above the limit"), (FREE, "no limit")];
     let lines = [(MARK, "the limit"), (ONE, "1.0: as long as the crate takes")];
@@ -59,7 +59,7 @@ fn legend(x: f64, y: f64) -> String {
     text
 }
 
-/// A family: its name, the scale, its bars, the line at 1.0, and the marks at the limits.
+/// Returns a family: its name, the scale, its bars, the line at 1.0, and the marks at the limits.
 fn panel(rows: &[&Row], family: &str, x: f64, y: f64) -> String {
     let (left, top, height) = (x + LABELS, y + 32.0, rows.len() as f64 * STEP);
     let mut text = words(x, y + 20.0, 14, "start", INK, family);
@@ -79,12 +79,12 @@ fn panel(rows: &[&Row], family: &str, x: f64, y: f64) -> String {
     text
 }
 
-/// How far to the right a ratio is.
+/// Returns how far to the right a ratio is.
 fn width(ratio: f64) -> f64 {
     BARS * ratio.min(END) / END
 }
 
-/// One bar: its class to the left, its ratio to the right; two gaps where it is cut.
+/// Returns one bar: its class to the left, its ratio to the right; two gaps where it is cut.
 fn bar(row: &Row, left: f64, top: f64) -> String {
     let colour = match row.limit {
         None => FREE,

@@ -22,6 +22,7 @@ mod report;
 mod texts;
 
 use clock::{Effort, Rooms, Row};
+use compare::options::Options as Words;
 use count::Counter;
 use std::process::exit;
 use std::time::Duration;
@@ -47,24 +48,21 @@ fn main() {
 
 /// The words on the command line.
 fn options() -> Options {
-    let effort = Effort { rounds: 21, round: Duration::from_millis(2) };
-    let mut options = Options { effort, only: String::new(), write: None, counter: None };
-    let mut words = std::env::args().skip(1);
-    while let Some(word) = words.next() {
-        match word.as_str() {
-            "--quick" => options.effort = Effort { rounds: 7, round: Duration::from_millis(1) },
-            "--only" => options.only = words.next().unwrap_or_else(|| stop("--only needs a word")),
-            "--instructions" => options.counter = Some(Counter::open().unwrap_or_else(|why| stop(&why))),
-            "--texts" => {
-                let path = words.next().unwrap_or_else(|| stop("--texts needs a path"));
-                let cases = texts::cases().into_iter().filter(|case| case.name().contains(&options.only));
-                let text: String = cases.flat_map(|case| case.texts).collect();
-                std::fs::write(&path, text).unwrap_or_else(|error| stop(&format!("{} cannot be written: {}", path, error)));
-                exit(0)
-            }
-            "--write" => options.write = Some(std::env::var("LINTELRYE_ROOT").unwrap_or_else(|_| stop("--write works only through compare/run"))),
-            _ => stop(&format!("unknown word {}; known are --quick, --only WORD, --instructions, --texts PATH, --write", word)),
-        }
+    let words = Words::read("benchmark", &["--quick", "--instructions", "--write"], &["--only", "--texts"]);
+    let quick = words.value("--quick").is_some();
+    let effort = if quick { Effort { rounds: 7, round: Duration::from_millis(1) } } else { Effort { rounds: 21, round: Duration::from_millis(2) } };
+    let root = || std::env::var("LINTELRYE_ROOT").unwrap_or_else(|_| stop("--write works only through compare/run"));
+    let options = Options {
+        effort,
+        only: words.value("--only").unwrap_or_default().to_string(),
+        write: words.value("--write").map(|_| root()),
+        counter: words.value("--instructions").map(|_| Counter::open().unwrap_or_else(|why| stop(&why))),
+    };
+    if let Some(path) = words.value("--texts") {
+        let cases = texts::cases().into_iter().filter(|case| case.name().contains(&options.only));
+        let text: String = cases.flat_map(|case| case.texts).collect();
+        std::fs::write(path, text).unwrap_or_else(|error| stop(&format!("{} cannot be written: {}", path, error)));
+        exit(0)
     }
     if options.write.is_some() && !options.only.is_empty() {
         stop("--write needs every line, so it cannot be combined with --only");

@@ -10,6 +10,7 @@
 
 use compare::model::{has_context, Model, Outcome, CUT_SHORT, LONGEST, NOT_UTF8, PASSED};
 use compare::nested::{self, ATTRIBUTES, STRINGS};
+use compare::options::Options;
 use compare::{call, check, fill_page, lending_encoder, parts, Answer, Checked, Field, Filled, Numbers, Operation, CONTEXTS, CRATE_LENDING_DECODERS, OPERATIONS};
 use std::time::{Duration, Instant};
 
@@ -446,18 +447,6 @@ fn context_name(context: u32) -> &'static str {
     CONTEXTS.get(context as usize).unwrap_or(&"in no context")
 }
 
-/// The number behind a word of the command line.
-fn option(word: &str, otherwise: u64) -> u64 {
-    let words: Vec<String> = std::env::args().collect();
-    match words.iter().position(|given| given == word) {
-        None => otherwise,
-        Some(at) => words.get(at + 1).and_then(|number| number.parse().ok()).unwrap_or_else(|| {
-            eprintln!("differential: {} needs a number", word);
-            std::process::exit(2)
-        }),
-    }
-}
-
 /// Texts of script_raw in parts, cut at random: how many calls were made, and how many texts differ.
 fn scripts_by_parts(texts: &mut Texts, scripts: u64) -> (u64, u64) {
     let (mut calls, mut differ) = (0, 0);
@@ -476,8 +465,9 @@ fn scripts_by_parts(texts: &mut Texts, scripts: u64) -> (u64, u64) {
 }
 
 fn main() {
-    let cases = option("--cases", 10_000_000);
-    let seed = option("--seed", 1);
+    let options = Options::read("differential", &[], &["--cases", "--seed", "--pages"]);
+    let cases = options.number("--cases", 10_000_000);
+    let seed = options.number("--seed", 1);
     let texts = Texts { numbers: Numbers(seed) };
     let mut run = Run { model: Model::new(), texts, cases: [[0; 16]; 4], differ: [[0; 16]; 4], passed: 0, broken: 0, cut_short: 0, read_back: 0, as_decoded: 0, nested: 0, shown: Vec::new() };
     let mut told = Instant::now();
@@ -493,7 +483,7 @@ fn main() {
     eprintln!();
     println!("seed {}", seed);
     run.report();
-    let paged = pages(&run.model, &mut run.texts, option("--pages", 100_000));
+    let paged = pages(&run.model, &mut run.texts, options.number("--pages", 100_000));
     let scripts = cases / 20;
     let (calls, differ) = scripts_by_parts(&mut run.texts, scripts);
     println!("{} texts of script_raw in parts, cut at random, {} calls, {} differ: each call's answer and bytes beside the crate's encode_script, a refused call's state beside that before it", scripts, calls, differ);

@@ -6,6 +6,7 @@
 
 use compare::browser::WITHOUT_END;
 use compare::model::{Model, Outcome, LONGEST, PASSED};
+use compare::options::Options;
 use compare::{lending_encoder, Numbers, Operation, CONTEXTS, OPERATIONS};
 use std::path::PathBuf;
 use Operation::{Browse, Decode, Encode, Read};
@@ -388,6 +389,7 @@ fn damaged(list: &mut List) {
 }
 
 fn main() {
+    Options::read("generate", &[], &[]);
     let mut list = List { model: Model::new(), lines: String::new(), result: Vec::new(), counts: [[0; 16]; 4], turn: 0 };
     let sections = [characters, short_texts, names, bare_names, numbers, tags, sequences_of_bytes, lengths, json_strings, refusals, damaged];
     for section in sections {

@@ -19,6 +19,7 @@ mod pages;
 #[path = "../soak/plot.rs"]
 mod plot;
 
+use compare::options::Options;
 use measure::{run, tight, Resident, Run, Tight};
 use pages::{fill_kept, fresh_line, Page};
 use std::fs::File;
@@ -49,13 +50,12 @@ fn stop(why: &str) -> ! {
     std::process::exit(1)
 }
 
-/// The number of pages that is asked for.
+/// Returns the number of pages that is asked for.
 fn pages_asked() -> usize {
-    let words: Vec<String> = std::env::args().skip(1).collect();
-    match words.iter().map(String::as_str).collect::<Vec<_>>()[..] {
-        [] => PAGES,
-        ["--pages", number] => number.parse().ok().filter(|n| *n > 0).unwrap_or_else(|| stop("--pages needs a number above 0")),
-        _ => stop("the words are [--crate PATH] [--pages N]"),
+    let options = Options::read("soak", &[], &["--pages"]);
+    match options.number("--pages", PAGES as u64) {
+        0 => options.stop("--pages needs a number above 0"),
+        pages => pages as usize,
     }
 }
 
@@ -84,7 +84,7 @@ fn three_ways(pages: usize, resident: &Resident) -> [Run; 3] {
     runs
 }
 
-/// Where and with what it was measured.
+/// Returns where and with what it was measured.
 fn place(root: &str) -> String {
     let facts: Vec<String> = machine::facts(root, false).iter().map(|(name, fact)| format!("| {} | {} |\n", name, fact)).collect();
     format!("It was measured on:\n\n| what | which |\n|---|---|\n{}", facts.concat().trim_end())

@@ -7,7 +7,7 @@ use crate::plot::{grouped, svg, Line, Panel};
 /// Pages in a day, at one in five minutes.
 const DAILY: usize = 288;
 
-/// The panels of what was measured while the pages were filled.
+/// Returns the panels of what was measured while the pages were filled.
 fn panels_of_runs(runs: &[Run]) -> [Panel; 2] {
     let lines = |last: fn(&Run) -> String, pick: fn(&Sample) -> f64| {
         let line = |(run, colour): (&Run, &&'static str)| Line {
@@ -29,7 +29,7 @@ fn panels_of_runs(runs: &[Run]) -> [Panel; 2] {
 /// The colour of the way whose line hides others, and is dashed.
 const KEPT_COLOUR: &str = "#3d6fb4";
 
-/// The panel of the controller's heap.
+/// Returns the panel of the controller's heap.
 fn panel_of_heap(tight: &Tight, page: usize) -> Panel {
     let line = |name: &str, colour, pick: fn(&Request) -> usize| Line {
         name: name.to_string(),
@@ -49,14 +49,14 @@ fn panel_of_heap(tight: &Tight, page: usize) -> Panel {
     }
 }
 
-/// The row of one way.
+/// Returns the row of one way.
 fn row(run: &Run) -> String {
     let [before, early, last] = run.resident().map(grouped);
     let asked = format!("{} | {} | {}", grouped(run.calls), grouped(run.bytes), grouped(run.most as u64));
     format!("| {} | {} | {} | {} | {} |\n", run.name, asked, before, early, last)
 }
 
-/// What the rows and the plot show, in words.
+/// Returns what the rows and the plot show, in words.
 fn seen(pages: usize, runs: &[Run; 3]) -> String {
     let [ours, fresh, kept] = runs;
     let grown = |run: &Run| run.resident()[2] as i64 - run.resident()[1] as i64;
@@ -74,7 +74,7 @@ for the next: whether a line is flat says something, how high it lies does not."
     )
 }
 
-/// The row of one heap.
+/// Returns the row of one heap.
 fn heap_row(tight: &Tight, pages: usize) -> String {
     let n = |n: usize| grouped(n as u64);
     let found = match tight.short {
@@ -86,14 +86,14 @@ fn heap_row(tight: &Tight, pages: usize) -> String {
     format!("| {} | {} | {} |\n", n(tight.kib * 1024), n(tight.most), found)
 }
 
-/// The plot: the runs, and the longest heap that came to a page that did not fill.
+/// Returns the plot: the runs, and the longest heap that came to a page that did not fill.
 pub fn plot(runs: &[Run], tights: &[Tight]) -> String {
     let mut panels = Vec::from(panels_of_runs(runs));
     panels.extend(tights.iter().rev().find_map(|tight| tight.short.map(|(page, _)| panel_of_heap(tight, page))));
     svg(&panels)
 }
 
-/// The document. `place` says where it was measured.
+/// Returns the document. `place` says where it was measured.
 pub fn document(pages: usize, runs: &[Run; 3], tights: &[Tight], place: &str) -> String {
     format!(
         "# The soak
@@ -122,7 +122,7 @@ A call of the heap is a request, a request for another length, or a release, cou
     )
 }
 
-/// The part about a heap of fixed size.
+/// Returns the part about a heap of fixed size.
 fn controller(pages: usize, tights: &[Tight]) -> String {
     format!(
         "

@@ -41,7 +41,7 @@ unsafe impl Sync for Memory {}
 
 static MEMORY: Memory = Memory(UnsafeCell::new([0; WORDS]));
 
-/// Where a word of the memory is.
+/// Returns where a word of the memory is.
 fn word(at: usize) -> *mut usize {
     assert!(at < WORDS);
     // SAFETY: the place is within the memory.
@@ -66,7 +66,7 @@ struct Arena {
 }
 
 impl Arena {
-    /// One free block of so many bytes.
+    /// Makes the heap one free block of so many bytes.
     fn begin(&mut self, bytes: usize) {
         set(0, (bytes / 8).min(WORDS));
         set(1, NONE);
@@ -123,7 +123,7 @@ impl Arena {
         }
     }
 
-    /// The longest free block, all that is free, and the number of free blocks; in bytes that a block can hold.
+    /// Returns the longest free block, all that is free, and the number of free blocks; in bytes that a block can hold.
     fn free(&self) -> (usize, usize, usize) {
         let (mut longest, mut free, mut blocks, mut at) = (0, 0, 0, self.first);
         while at != NONE {
@@ -186,7 +186,7 @@ impl State {
         self.request = Request { asked, longest, free, blocks, short };
     }
 
-    /// A place of the controller's heap while that is lent; none where it is short.
+    /// Returns a place of the controller's heap while that is lent; none where it is short.
     fn take(&mut self, layout: Layout) -> Option<usize> {
         if !self.lent || layout.align() > 8 {
             return None;
@@ -202,7 +202,7 @@ impl State {
     }
 }
 
-/// Which place of the controller's heap a pointer is.
+/// Returns which place of the controller's heap a pointer is.
 fn place_of(pointer: *mut u8) -> Option<usize> {
     let at = (pointer as usize).wrapping_sub(MEMORY.0.get() as usize) / 8;
     if at < WORDS {
@@ -250,7 +250,7 @@ unsafe impl GlobalAlloc for Counting {
     }
 }
 
-/// What was asked so far.
+/// Returns what was asked so far.
 pub fn counts() -> Counts {
     with(|state| state.counts)
 }
@@ -277,7 +277,7 @@ pub fn end_lending() -> usize {
     })
 }
 
-/// The longest request since the last look; after a shortage, the one that found none.
+/// Returns the longest request since the last look; after a shortage, the one that found none.
 pub fn longest_request() -> Request {
     with(|state| std::mem::take(&mut state.request))
 }

@@ -49,7 +49,7 @@ pub struct Run {
 }
 
 impl Run {
-    /// The resident set in KiB: before the first page, after a hundredth of the pages, after the last.
+    /// Returns the resident set in KiB: before the first page, after a hundredth of the pages, after the last.
     pub fn resident(&self) -> [u64; 3] {
         let at = |i: usize| self.samples.get(i).map_or(0, |sample| sample.resident);
         [at(0), at(1), at(self.samples.len() - 1)]

@@ -39,7 +39,7 @@ impl Journey {
         Journey { minute: numbers.below(1440), landing: numbers.below(LANDINGS.len()), event: numbers.below(EVENTS.len()) }
     }
 
-    /// The time as it is shown.
+    /// Returns the time as it is shown.
     fn time(&self) -> [u8; 5] {
         let digit = |n: usize| b'0' + n as u8;
         let (hour, minute) = (self.minute / 60, self.minute % 60);
@@ -55,7 +55,7 @@ pub struct Log {
 }
 
 impl Log {
-    /// The log before its first page.
+    /// Returns the log before its first page.
     pub fn begin() -> Log {
         let mut numbers = Numbers(SEED);
         let mut journeys = [Journey { minute: 0, landing: 0, event: 0 }; LINES];
@@ -65,7 +65,7 @@ impl Log {
         Log { journeys, next: 0, numbers }
     }
 
-    /// The next page's log.
+    /// Goes on to the next page's log.
     pub fn step(&mut self) {
         self.journeys[self.next] = Journey::any(&mut self.numbers);
         self.next = (self.next + 1) % LINES;
@@ -140,7 +140,7 @@ impl Page {
     }
 }
 
-/// A line by html-escape, as a fresh String.
+/// Returns a line by html-escape, as a fresh String.
 pub fn fresh_line(journey: &Journey) -> String {
     format!(
         "<li title=\"{}\">{} {}: {}</li>\n",
@@ -151,7 +151,7 @@ pub fn fresh_line(journey: &Journey) -> String {
     )
 }
 
-/// A page by html-escape in a String that is kept: nothing is asked for once that is long enough.
+/// Fills a page by html-escape in a String that is kept: nothing is asked for once that is long enough.
 pub fn fill_kept(page: &mut String, log: &Log) {
     page.clear();
     for journey in &log.journeys {

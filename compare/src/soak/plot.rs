@@ -22,7 +22,7 @@ const RIGHT: f64 = 44.0;
 const TOP: f64 = 92.0;
 const BOTTOM: f64 = 52.0;
 
-/// A number with commas between its thousands.
+/// Returns a number with commas between its thousands.
 pub fn grouped(n: u64) -> String {
     let digits = n.to_string();
     let mut text = String::new();
@@ -35,7 +35,7 @@ pub fn grouped(n: u64) -> String {
     text
 }
 
-/// A step of 1, 2 or 5 times a power of ten that divides a range into about five.
+/// Returns a step of 1, 2 or 5 times a power of ten that divides a range into about five.
 fn step(range: f64) -> f64 {
     let raw = (range / 5.0).max(1.0);
     let power = 10f64.powf(raw.log10().floor());
@@ -50,12 +50,12 @@ fn stroke(x1: f64, y1: f64, x2: f64, y2: f64, style: &str) -> String {
     format!("<line x1=\"{:.1}\" y1=\"{:.1}\" x2=\"{:.1}\" y2=\"{:.1}\" {}/>\n", x1, y1, x2, y2, style)
 }
 
-/// The ticks of an axis: 0, and every step up to the end.
+/// Returns the ticks of an axis: 0, and every step up to the end.
 fn ticks(step: f64, end: f64) -> impl Iterator<Item = f64> {
     (0..=(end / step + 0.001) as u32).map(move |i| f64::from(i) * step)
 }
 
-/// One panel, in its own coordinates. Of the lines that are not dashed the first lies on top.
+/// Returns one panel, in its own coordinates. Of the lines that are not dashed the first lies on top.
 fn panel(panel: &Panel) -> String {
     let most = |pick: fn(&(f64, f64)) -> f64| panel.lines.iter().flat_map(|l| l.points.iter().map(pick)).fold(1.0, f64::max);
     let (across, up) = (most(|p| p.0), most(|p| p.1));
@@ -85,7 +85,7 @@ fn panel(panel: &Panel) -> String {
     svg
 }
 
-/// The names of the lines, one below the other.
+/// Returns the names of the lines, one below the other.
 fn legend(lines: &[Line]) -> String {
     let entry = |(i, line): (usize, &Line)| {
         let y = 38.0 + 17.0 * i as f64;
@@ -94,13 +94,13 @@ fn legend(lines: &[Line]) -> String {
     lines.iter().enumerate().map(entry).collect()
 }
 
-/// How a line is drawn.
+/// Returns how a line is drawn.
 fn style(line: &Line) -> String {
     let dashes = if line.dashed { " stroke-dasharray=\"6 6\"" } else { "" };
     format!("stroke=\"{}\" stroke-width=\"2.5\"{}", line.colour, dashes)
 }
 
-/// The panels as one picture.
+/// Returns the panels as one picture.
 pub fn svg(panels: &[Panel]) -> String {
     let height = HEIGHT * panels.len() as f64;
     let mut svg = format!(

@@ -1,0 +1,2 @@
+-- What follows for the plate from the laws of the library.
+pub mod Kept
