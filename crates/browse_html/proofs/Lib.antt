@@ -1,4 +1,5 @@
--- What the reader finds, from the laws of the identifiers.
+-- What the readers find, from the laws of the identifiers, and the turns of the loops.
 pub mod Names
 pub mod Readings
 pub mod Runs
+pub mod Turns

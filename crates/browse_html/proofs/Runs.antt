@@ -3,7 +3,7 @@
 -- Assumes nothing.
 use mathlib.Core.Bool.{Bool, true, false, _||_, cond, and-true}
 use mathlib.Core.Option.{Option, none, some, Option·some-injective, Option·none-ne-some}
-use mathlib.Core.Path.{_≡_, refl, sym, ap, _∙_}
+use mathlib.Core.Path.{_≡_, refl, sym, ap, _∙_, subst}
 use mathlib.Core.List.{List, [], _∷_, _++_}
 use Prim.Native.Nat.{ℕ, _+_, _-_, _*_, _≤_, _<_}
 use native.Mathlib.Omega.{arith}
@@ -140,18 +140,23 @@ module _ (kind : Kind) (t : List ℕ) (i : ℕ) (within : i + 2 < length t) (has
   hexed = eqb (getD t (i + 2) 0) 120 || eqb (getD t (i + 2) 0) 88
 
   -- Hex digits follow the mark `x` or `X`.
-  pub counts-hex : hexed ≡ true → Counts kind 16 t i (i + 2 + 1)
+  counts-hex : hexed ≡ true → Counts kind 16 t i (i + 2 + 1)
   counts-hex e =
       let n : i + 2 + 1 - (i + 1) ≡ 2 = omega arith in
       let b = getD t (i + 2) 0 in
       rw (two, n) (rw (eqb-comm 120 b, eqb-comm 88 b, and-true (eqb b 120), and-true (eqb b 88), e))
 
   -- Else they are decimal.
-  pub counts-decimal : hexed ≡ false → Counts kind 10 t i (i + 2)
+  counts-decimal : hexed ≡ false → Counts kind 10 t i (i + 2)
   counts-decimal e =
       let n : i + 2 - (i + 1) ≡ 1 = omega arith in
       let b = getD t (i + 2) 0 in
       rw (two, drop-next t (i + 2) within, n) (rw (eqb-comm 120 b, eqb-comm 88 b, and-true (eqb b 120), and-true (eqb b 88), e))
+
+  -- The digits begin behind the mark, if there is one.
+  pub counts-mark : (hex : Bool) → hexed ≡ hex → Counts kind (cond hex 16 10) t i (i + 2 + cond hex 1 0)
+  counts-mark true e = counts-hex e
+  counts-mark false e = let z : i + 2 ≡ i + 2 + 0 = omega arith in subst (λ (a : ℕ). Counts kind 10 t i a) z (counts-decimal e)
 
 -- A `#` at the end of the text.
 pub hash-ends : (kind : Kind) (t : List ℕ) (i : ℕ) → i + 2 ≡ length t → getD t (i + 1) 0 ≡ 35 → referenceAt kind (drop (i + 1) t) ≡ none

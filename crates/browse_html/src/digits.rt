@@ -1,4 +1,5 @@
 // Numbers in browse: the digits up to the first other byte, the `;` that may follow them, and the character that they stand for.
+ghost use mathlib.Core.Bool.{cond};
 ghost use mathlib.Core.Logic.{_⊎_};
 ghost use mathlib.Core.Option.{some};
 ghost use mathlib.Core.Path.{_≡_};
@@ -8,11 +9,9 @@ ghost use Rattle.rules.specs.Utf8.{utf8};
 ghost use Rattle.rules.specs.References.{renumbering, standsFor, browseChar};
 ghost use Rattle.rules.specs.Browsing.{endAt, browseStep};
 ghost use Rattle.decode_html.specs.Taking.{Reads};
-ghost use Rattle.browse_html.specs.Finding.{Runs, Counts};
-use rules::DecodedEntity;
-use rules::DecodedEntityValue;
-use rules::Kind;
-use rules::Reference;
+ghost use Rattle.rules.specs.declared.Kind.{Kind};
+ghost use Rattle.browse_html.specs.Finding.{Runs, Counts, singleAt};
+use crate::Single;
 
 // Returns the number that a number stands for in browse. The two tests come first, since nearly every number ends there.
 fn stands_for(number: u32) -> u32
@@ -108,34 +107,42 @@ fn past_end(text: &[u8], at: usize) -> usize
 }
 
 // Reads the number whose digits begin at `from`, behind the `&` at `start` and the mark of its base.
-fn find_digits(kind: Kind, base: u32, text: &[u8], start: usize, from: usize) -> Reference
-    requires { ⌜ (getD (now text) start 0 ≡ 38) × ((base ≡ 10) ⊎ (base ≡ 16)) × (start < from) × (from ≤ length (now text)) × Counts kind base (now text) start from ⌝ }
-    ensures { λ r. ⌜ Reads (browseStep kind) (now (text .entry)) start r ⌝ }
+fn find_digits(base: u32, text: &[u8], start: usize, from: usize) -> Single
+    requires { ⌜ (getD (now text) start 0 ≡ 38) × ((base ≡ 10) ⊎ (base ≡ 16)) × (start < from) × (from ≤ length (now text)) × ((kind : Kind) → Counts kind base (now text) start from) ⌝ }
+    ensures { λ r. ⌜ ((kind : Kind) → Reads (browseStep kind) (now (text .entry)) start (singleAt start r)) ⌝ }
 {
     let run = read_run(base, text, from);
     let end = run.end;
     if end == from {
-        return Reference::Nothing;
+        return Single::Nothing;
     }
     let character = browsed(run.number);
-    Reference::Found(DecodedEntity {
-        start: start,
-        end: past_end(text, end),
-        value: DecodedEntityValue::Character(character),
-    })
+    Single::Found(past_end(text, end), character)
 }
 
-// Reads the number behind the `&#` at `start`: hex digits after `x` or `X`, else decimal digits.
-pub fn find_number(kind: Kind, text: &[u8], start: usize) -> Reference
-    requires { ⌜ (start + 1 < length (now text)) × (getD (now text) start 0 ≡ 38) × (getD (now text) (start + 1) 0 ≡ 35) ⌝ }
-    ensures { λ r. ⌜ Reads (browseStep kind) (now (text .entry)) start r ⌝ }
+// Returns the base of a number, by whether it has the mark of hex digits.
+fn base_of(hex: bool) -> u32
+    ensures { λ r. ⌜ r ≡ cond hex 16 10 ⌝ }
 {
-    let from = start + 2;
-    if from == text.len() {
-        return Reference::Nothing;
+    if hex { 16 } else { 10 }
+}
+
+// Returns the length of that mark, 0 if there is none.
+fn mark_length(hex: bool) -> usize
+    ensures { λ r. ⌜ (r ≡ cond hex 1 0) × (r ≤ 1) ⌝ }
+{
+    if hex { 1 } else { 0 }
+}
+
+// Reads the number behind the `&#` at `start`: hex digits after `x` or `X`, else decimal digits. One call reads both, so that it is compiled in line.
+pub fn find_number(text: &[u8], start: usize) -> Single
+    requires { ⌜ (start + 1 < length (now text)) × (getD (now text) start 0 ≡ 38) × (getD (now text) (start + 1) 0 ≡ 35) ⌝ }
+    ensures { λ r. ⌜ ((kind : Kind) → Reads (browseStep kind) (now (text .entry)) start (singleAt start r)) ⌝ }
+{
+    let at = start + 2;
+    if at == text.len() {
+        return Single::Nothing;
     }
-    if decode_html::digits::is_hex_mark(text[from]) {
-        return find_digits(kind, 16, text, start, from + 1);
-    }
-    find_digits(kind, 10, text, start, from)
+    let hex = decode_html::digits::is_hex_mark(text[at]);
+    find_digits(base_of(hex), text, start, at + mark_length(hex))
 }

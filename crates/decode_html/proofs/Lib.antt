@@ -3,3 +3,4 @@ pub mod Bodies
 pub mod Readings
 pub mod Known
 pub mod Passing
+pub mod Turns

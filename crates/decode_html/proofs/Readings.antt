@@ -12,7 +12,7 @@ use lib.Dec.{T, leb, eqb→eq, leb→le}
 use lib.ListN.{length, take, drop, getD, length-drop}
 use lib.Seq.{take-suc, getD-drop}
 use Rattle.rules.specs.Bytes.{ascii, all}
-use Rattle.rules.specs.Moves.{keep, leave}
+use Rattle.rules.specs.Moves.{Move, keep, swap, leave, stop}
 use Rattle.rules.specs.Names.{names}
 use Rattle.rules.specs.References.{onto, bodyOf, decodeChar, numberOf, lookup, meaning, why, refer, atAmp, referenceStep}
 use Rattle.rules.specs.Utf8.{utf8}
@@ -23,7 +23,7 @@ use Rattle.rules.specs.declared.DecodedEntityValue.the-variants.{Named, Charact
 use Rattle.rules.specs.declared.Meaning.{Meaning}
 use Rattle.rules.specs.declared.Meaning.the-variants.{Value, Nothing as NoMeaning}
 use Rattle.rules.specs.declared.Reference.{Reference}
-use Rattle.rules.specs.declared.Reference.the-variants.{Found, Left}
+use Rattle.rules.specs.declared.Reference.the-variants.{Found, Left, Nothing}
 use Rattle.rules.specs.declared.Reason.{Reason}
 use Rattle.rules.specs.declared.Reason.the-variants.{NoEnd, Empty, UnknownName}
 use Rattle.rules.proofs.Loops.{drop-next}
@@ -193,3 +193,26 @@ module _ (t : List ℕ) (i r : ℕ) (amp : getD t i 0 ≡ 38) (begun : Begun t i
           → Reads referenceStep t i (named i r m)
       go (Value v) e real w = reads-value t i within amp r whole l v e real
       go NoMeaning e real w = reads-left t i within amp r whole l UnknownName e (sym w)
+
+-- ---- a reference that stays has a reason
+abbrev IsKept : Move → Type 0
+IsKept (keep a) = Unit {0}
+IsKept (swap a b) = ⊥
+IsKept (leave r a) = ⊥
+IsKept (stop w) = ⊥
+
+never-keeps : (s : List ℕ) → referenceStep 0 (38 ∷ s) ≡ keep (ascii "&") → ⊥
+unfolding referenceStep
+never-keeps s e = go (bodyOf s) e
+  where
+    meant : (body : List ℕ) (o : Option (List ℕ)) → refer body o ≡ keep (ascii "&") → ⊥
+    meant body none e = subst IsKept (sym e) tt
+    meant body (some v) e = subst IsKept (sym e) tt
+
+    go : (o : Option (List ℕ)) → atAmp decodeChar o ≡ keep (ascii "&") → ⊥
+    go none e = subst IsKept (sym e) tt
+    go (some body) e = meant body (meaning decodeChar body) e
+
+-- decode never keeps an `&` without a reason.
+pub never-kept : (t : List ℕ) (i : ℕ) → i < length t → getD t i 0 ≡ 38 → Reads referenceStep t i Nothing → ⊥
+never-kept t i inside amp reads = never-keeps (drop (i + 1) t) (ap (referenceStep 0) (sym (starts t i inside amp)) ∙ sym (reads .move 0))

@@ -20,7 +20,10 @@ pub fn has_nothing(job: Job, text: &[u8]) -> bool
     if let Job::EncodeRaw = job {
         return plain::look::is_without(b'<', text);
     }
-    if let Job::DecodeReferences(_) = job {
+    if let Job::DecodeReferences = job {
+        return plain::look::is_without(b'&', text);
+    }
+    if let Job::BrowseReferences(_) = job {
         return plain::look::is_without(b'&', text);
     }
     false

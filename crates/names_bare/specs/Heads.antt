@@ -6,17 +6,17 @@ use Prim.Native.Nat.{ℕ, zero, suc, _*_, _+_, _/_, _%_, _≤_, _<_}
 use lib.Dec.{T}
 use lib.ListN.{length, take}
 use Rattle.rules.specs.Bytes.{In, stands}
+use Rattle.rules.specs.Utf8.{utf8}
 use Rattle.rules.specs.Names.{names}
 use Rattle.rules.specs.References.{lookup}
-use Rattle.rules.specs.Answers.{valueBytes}
 use Rattle.rules.specs.Bare.{bare}
 use Rattle.rules.specs.Browsing.{given}
 use Rattle.names_bare.specs.declared.BareName.{BareName}
 use Rattle.names_bare.specs.declared.BareName.the-variants.{Found, Nothing}
 
--- The first n bytes are a name without `;`, and v is what it stands for; or no such name stands there.
+-- The first n bytes are a name without `;`, and c is the number of the character that it stands for; or no such name stands there.
 abbrev pub Heads : List ℕ → BareName → Type 0
-Heads t (Found n v) = (n ≤ length t) × In (take n t) bare × (valueBytes v ≡ given (lookup names (take n t)))
+Heads t (Found n c) = (n ≤ length t) × In (take n t) bare × (utf8 c ≡ given (lookup names (take n t)))
 Heads t Nothing = (name : List ℕ) → In name bare → T (stands name t) → ⊥
 
 -- Bytes as one number, the first highest, behind the number w.

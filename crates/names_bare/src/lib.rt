@@ -5,11 +5,9 @@ ghost use Rattle.names_bare.specs.Heads.{Heads, Spelled};
 
 mod table;
 
-use rules::DecodedEntityValue;
-
-// The name at the head of a text: its length and what it stands for.
+// The name at the head of a text: its length, and the number of the character that it stands for.
 pub enum BareName {
-    Found(usize, DecodedEntityValue),
+    Found(usize, u32),
     Nothing,
 }
 
@@ -30,7 +28,7 @@ fn find_from(text: &[u8], head: u64) -> BareName
     while n <= 6 {
         let character = table::character(word * 8 + n as u64);
         if character != 0 {
-            return BareName::Found(n, DecodedEntityValue::Character(character));
+            return BareName::Found(n, character);
         }
         if text.len() <= n {
             return BareName::Nothing;

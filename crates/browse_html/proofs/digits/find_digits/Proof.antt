@@ -17,8 +17,8 @@ returns c =
     let o = c .before .before .before in
     let a = o .args in
     let run = c .before .read-run in
-    reads-none (a .kind) (a .text .now) (a .start) (omega (arith, o .pre .2, o .pre .3)) (o .pre .0)
-    (counts-none (a .kind) (a .base) (a .text .now) (a .start) (a .from) _ _ (o .pre .2) (o .pre .3) (o .pre .4) (run .ensures) (c .if1 .taken))
+    λ kind. reads-none kind (a .text .now) (a .start) (omega (arith, o .pre .2, o .pre .3)) (o .pre .0)
+    (counts-none kind (a .base) (a .text .now) (a .start) (a .from) _ _ (o .pre .2) (o .pre .3) (o .pre .4 kind) (run .ensures) (c .if1 .taken))
 
 browsed-requires : tie.Need-browsed-requires
 browsed-requires c κs = search needs
@@ -32,10 +32,10 @@ returns-2 c =
     let a = o .args in
     let run = c .before .before .before .read-run in
     let b = c .before .browsed in
-    reads-row (a .kind) (a .text .now) (a .start) (omega (arith, o .pre .2, o .pre .3)) (o .pre .0) _
-    (counts-row (a .kind) (a .base) (a .text .now) (a .start) (a .from) _ _ (o .pre .2) (o .pre .3) (o .pre .4) (run .ensures) (c .before .before .if1 .left) (b .result) (b .ensures .0))
+    λ kind. reads-row kind (a .text .now) (a .start) (omega (arith, o .pre .2, o .pre .3)) (o .pre .0) _
+    (counts-row kind (a .base) (a .text .now) (a .start) (a .from) _ _ (o .pre .2) (o .pre .3) (o .pre .4 kind) (run .ensures) (c .before .before .if1 .left) (b .result) (b .ensures .0))
     (Character (b .result)) refl (b .ensures .1) (c .past-end .result)
-    (counts-end (a .kind) (a .base) (a .text .now) (a .start) (a .from) _ _ (o .pre .2) (o .pre .3) (o .pre .4) (run .ensures) (c .past-end .result) (c .past-end .ensures))
+    (counts-end kind (a .base) (a .text .now) (a .start) (a .from) _ _ (o .pre .2) (o .pre .3) (o .pre .4 kind) (run .ensures) (c .past-end .result) (c .past-end .ensures))
 
 pub find-digits-spec : {M : Type 1} → statement M
 find-digits-spec =

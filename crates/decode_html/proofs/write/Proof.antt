@@ -14,33 +14,33 @@ use Rattle.base.proofs.Places.{nearest-past}
 use Rattle.base.proofs.Part.{part-length}
 use Rattle.base.proofs.Filled.{Filled, filled-start, filled-next, filled-room, filled-put}
 use Rattle.base.proofs.Counted.{Counted, Noted, counted-start, counted-quiet, counted-measures, noted-start, noted-quiet, noted-end, filled-all}
+use Rattle.rules.specs.References.{referenceStep}
 use Rattle.decode_html.specs.Taking.{Reads}
-use Rattle.references.specs.Readers.{stepBy}
-use Rattle.references.proofs.Turns.{Unfound, quiet, quiet-next, counted-stays, noted-stays, stays-next, counted-found, noted-found, found-next}
-use Rattle.references.proofs.write.Statement.{statement}
-use Rattle.references.proofs.write.Tie as tie
+use Rattle.decode_html.proofs.Turns.{decoding, Unfound, quiet, quiet-next, counted-stays, noted-stays, stays-next, counted-found, noted-found, found-next}
+use Rattle.decode_html.proofs.write.Statement.{statement}
+use Rattle.decode_html.proofs.write.Tie as tie
 
 abbrev Inv-loop : tie.InvT-loop
-Inv-loop reader text output₀ at₀ references₀ left₀ reason₀ i₀ t13 output at references left reason i =
-    Counted (stepBy reader) text i at references
-    × Filled (result (through (stepBy reader) text)) (result (from (stepBy reader) text i)) output₀ output at
-    × Noted (stepBy reader) text i left reason
+Inv-loop text output₀ at₀ references₀ left₀ reason₀ i₀ t13 output at references left reason i =
+    Counted referenceStep text i at references
+    × Filled (result (through referenceStep text)) (result (from referenceStep text i)) output₀ output at
+    × Noted referenceStep text i left reason
 
 abbrev μ-loop : tie.MeasureT-loop
-μ-loop reader text output₀ at₀ references₀ left₀ reason₀ i₀ t13 output at references left reason i = length text - i
+μ-loop text output₀ at₀ references₀ left₀ reason₀ i₀ t13 output at references left reason i = length text - i
 
 -- The reference that was found.
-found-here : (c : tie.After-known-told Inv-loop μ-loop) → Reads (stepBy (c .before .before .before .before .before .before .before .before .before .before .args .reader)) (c .before .before .before .before .before .before .before .before .before .before .args .text .now) (c .before .before .before .before .before .before .before .loop .i) (Found (c .before .reference .given .0 .0))
-found-here c = rw (c .before .reference .given .1) at (c .before .before .before .find .ensures)
+found-here : (c : tie.After-known-told Inv-loop μ-loop) → Reads referenceStep (c .before .before .before .before .before .before .before .before .before .before .args .text .now) (c .before .before .before .before .before .before .before .loop .i) (Found (c .before .reference .given .0 .0))
+found-here c = rw (c .before .reference .given .1) at (c .before .before .before .find-decoded-entity .ensures)
 
 -- Where it is none.
-unfound : (c : tie.At-match-keys2 Inv-loop μ-loop) → Unfound (c .before .find .result)
+unfound : (c : tie.At-match-keys2 Inv-loop μ-loop) → Unfound (c .before .find-decoded-entity .result)
 unfound c e q = miss (1 ∷ 2 ∷ []) 0 tt (rw q at (c .match .keys2))
 
 loop-holds : tie.Need-loop-holds Inv-loop μ-loop
 loop-holds c =
     let a = c .before .before .args in
-    (counted-start (stepBy (a .reader)) (a .text .now), filled-start _ _ (c .before .before .pre), noted-start (stepBy (a .reader)) (a .text .now))
+    (counted-start referenceStep (a .text .now), filled-start _ _ (c .before .before .pre), noted-start referenceStep (a .text .now))
 
 shared-slice-read-if1 : tie.Need-shared-slice-read-if1 Inv-loop μ-loop
 shared-slice-read-if1 c = search needs
@@ -58,7 +58,7 @@ put-until-requires : tie.Need-put-until-requires Inv-loop μ-loop
 put-until-requires c κs =
     let t = c .before .before .before .before .before .before .before .args .text .now in
     let i = c .before .before .before .before .loop .i in
-    (search needs, λ r near. omega (arith, near .after, part-length t i r (near .after) (near .within), filled-room (c .before .before .before .before .loop .inv .1) (quiet-next (c .before .before .before .before .before .before .before .args .reader) t i r near)))
+    (search needs, λ r near. omega (arith, near .after, part-length t i r (near .after) (near .within), filled-room (c .before .before .before .before .loop .inv .1) (quiet-next decoding t i r near)))
 
 sub-at : tie.Need-sub-at Inv-loop μ-loop
 sub-at c = omega (arith, c .before .before .put-until .ensures .0 .after)
@@ -69,7 +69,7 @@ add-at c =
     let near = c .before .before .put-until .ensures .0 in
     let a = c .before .before .before .before .before .before .before .before .before .before .args in
     let l = c .before .before .before .before .before .before .before .loop in
-    omega (arith, part-length (a .text .now) (l .i) p (near .after) (near .within), filled-next (l .inv .1) (quiet-next (a .reader) (a .text .now) (l .i) p near))
+    omega (arith, part-length (a .text .now) (l .i) p (near .after) (near .within), filled-next (l .inv .1) (quiet-next decoding (a .text .now) (l .i) p near))
 
 loop-less : tie.Need-loop-less Inv-loop μ-loop
 loop-less c =
@@ -80,32 +80,28 @@ loop-again : tie.Need-loop-again Inv-loop μ-loop
 loop-again c =
     let w = c .before .before .put-until in
     let near = w .ensures .0 in
-    let reader = c .before .before .before .before .before .before .before .before .before .before .args .reader in
     let t = c .before .before .before .before .before .before .before .before .before .before .args .text .now in
     let l = c .before .before .before .before .before .before .before .loop in
     let size = part-length t (l .i) (w .result) (near .after) (near .within) in (
-      counted-quiet (l .inv .0) (w .result) (near .after) (near .within) (quiet reader t (l .i) (w .result) near),
-      filled-put (l .inv .1) (quiet-next reader t (l .i) (w .result) near) (w .last .1 .1 .1 .0) (w .result - l .i) (sym size) (w .ensures .1),
-      noted-quiet (l .inv .2) (w .result) (near .after) (near .within) (quiet reader t (l .i) (w .result) near),
+      counted-quiet (l .inv .0) (w .result) (near .after) (near .within) (quiet decoding t (l .i) (w .result) near),
+      filled-put (l .inv .1) (quiet-next decoding t (l .i) (w .result) near) (w .last .1 .1 .1 .0) (w .result - l .i) (sym size) (w .ensures .1),
+      noted-quiet (l .inv .2) (w .result) (near .after) (near .within) (quiet decoding t (l .i) (w .result) near),
     )
 
-find-requires : tie.Need-find-requires Inv-loop μ-loop
-find-requires c κs = (search needs, c .if1 .left)
+find-decoded-entity-requires : tie.Need-find-decoded-entity-requires Inv-loop μ-loop
+find-decoded-entity-requires c κs = (search needs, c .if1 .left)
 
 enum-known-reference : tie.Need-enum-known-reference Inv-loop μ-loop
 enum-known-reference c = search needs
 
-number-of-requires : tie.Need-number-of-requires Inv-loop μ-loop
-number-of-requires c κs = search needs
-
 kept-requires : tie.Need-kept-requires Inv-loop μ-loop
 kept-requires c κs = search needs
 
+number-of-requires : tie.Need-number-of-requires Inv-loop μ-loop
+number-of-requires c κs = search needs
+
 kept-requires-2 : tie.Need-kept-requires-2 Inv-loop μ-loop
 kept-requires-2 c κs = search needs
-
-kept-requires-3 : tie.Need-kept-requires-3 Inv-loop μ-loop
-kept-requires-3 c κs = search needs
 
 slice-aggregate-put : tie.Need-slice-aggregate-put Inv-loop μ-loop
 slice-aggregate-put c = search needs
@@ -121,17 +117,17 @@ part-put-end c = search needs
 
 put-requires : tie.Need-put-requires Inv-loop μ-loop
 put-requires c κs =
-    let a = c .before .before .before .before .before .before .before .before .before .before .before .before .before .before .args in
-    let l = c .before .before .before .before .before .before .before .before .before .before .before .loop in
-    let f = c .before .before .before .before .before .before .before .find in
-    filled-room (l .inv .1) (stays-next (a .reader) (a .text .now) (l .i) (search needs) (c .before .before .before .before .before .before .before .before .if1 .left) (f .result) (unfound (c .before .before .before .before .before .before)) (f .ensures))
+    let a = c .before .before .before .before .before .before .before .before .before .before .before .before .before .args in
+    let l = c .before .before .before .before .before .before .before .before .before .before .loop in
+    let f = c .before .before .before .before .before .before .find-decoded-entity in
+    filled-room (l .inv .1) (stays-next (a .text .now) (l .i) (search needs) (c .before .before .before .before .before .before .before .if1 .left) (f .result) (unfound (c .before .before .before .before .before)) (f .ensures))
 
 add-at-2 : tie.Need-add-at-2 Inv-loop μ-loop
 add-at-2 c =
-    let a = c .before .before .before .before .before .before .before .before .before .before .before .before .before .before .before .before .before .args in
-    let l = c .before .before .before .before .before .before .before .before .before .before .before .before .before .before .loop in
-    let f = c .before .before .before .before .before .before .before .before .before .before .find in
-    let next = stays-next (a .reader) (a .text .now) (l .i) (search needs) (c .before .before .before .before .before .before .before .before .before .before .before .if1 .left) (f .result) (unfound (c .before .before .before .before .before .before .before .before .before)) (f .ensures) in
+    let a = c .before .before .before .before .before .before .before .before .before .before .before .before .before .before .before .before .args in
+    let l = c .before .before .before .before .before .before .before .before .before .before .before .before .before .loop in
+    let f = c .before .before .before .before .before .before .before .before .before .find-decoded-entity in
+    let next = stays-next (a .text .now) (l .i) (search needs) (c .before .before .before .before .before .before .before .before .before .before .if1 .left) (f .result) (unfound (c .before .before .before .before .before .before .before .before)) (f .ensures) in
     omega (arith, c .before .before .put .ensures .0, filled-next (l .inv .1) next)
 
 add-i : tie.Need-add-i Inv-loop μ-loop
@@ -142,16 +138,16 @@ loop-less-2 c = search needs
 
 loop-again-2 : tie.Need-loop-again-2 Inv-loop μ-loop
 loop-again-2 c =
-    let a = c .before .before .before .before .before .before .before .before .before .before .before .before .before .before .before .before .before .args in
-    let l = c .before .before .before .before .before .before .before .before .before .before .before .before .before .before .loop in
-    let f = c .before .before .before .before .before .before .before .before .before .before .find in
-    let amp = c .before .before .before .before .before .before .before .before .before .before .before .if1 .left in
-    let none = unfound (c .before .before .before .before .before .before .before .before .before) in
+    let a = c .before .before .before .before .before .before .before .before .before .before .before .before .before .before .before .before .args in
+    let l = c .before .before .before .before .before .before .before .before .before .before .before .before .before .loop in
+    let f = c .before .before .before .before .before .before .before .before .before .find-decoded-entity in
+    let amp = c .before .before .before .before .before .before .before .before .before .before .if1 .left in
+    let none = unfound (c .before .before .before .before .before .before .before .before) in
     let p = c .before .before .put in (
-      rw (p .ensures .0) (counted-stays (a .reader) (a .text .now) (l .i) (search needs) amp (f .result) none (f .ensures) (l .inv .0)),
-      filled-put (l .inv .1) (stays-next (a .reader) (a .text .now) (l .i) (search needs) amp (f .result) none (f .ensures)) (p .last .1 .0) (p .result) (p .ensures .0) (p .ensures .1),
-      rw (c .before .before .before .before .before .kept3 .ensures, c .before .before .before .before .before .before .kept2 .ensures, c .before .before .before .before .before .before .before .kept .ensures, c .before .before .before .before .before .before .before .before .number-of .ensures)
-          (noted-stays (a .reader) (a .text .now) (l .i) (search needs) amp (f .result) none (f .ensures) (l .inv .2)),
+      rw (p .ensures .0) (counted-stays (a .text .now) (l .i) (search needs) amp (f .result) none (f .ensures) (l .inv .0)),
+      filled-put (l .inv .1) (stays-next (a .text .now) (l .i) (search needs) amp (f .result) none (f .ensures)) (p .last .1 .0) (p .result) (p .ensures .0) (p .ensures .1),
+      rw (c .before .before .before .before .before .kept2 .ensures, c .before .before .before .before .before .before .number-of .ensures, c .before .before .before .before .before .before .before .kept .ensures)
+          (noted-stays (a .text .now) (l .i) (search needs) amp (f .result) none (f .ensures) (l .inv .2)),
     )
 
 sub-put-value : tie.Need-sub-put-value Inv-loop μ-loop
@@ -168,13 +164,13 @@ put-value-requires c κs =
     let a = c .before .before .before .before .before .before .before .before .before .before .before .args in
     let l = c .before .before .before .before .before .before .before .before .loop in
     let reads = found-here (c .before) in
-    (reads .lies .3, filled-room (l .inv .1) (found-next (a .reader) (a .text .now) (l .i) (c .before .before .reference .given .0 .0) reads))
+    (reads .lies .3, filled-room (l .inv .1) (found-next decoding (a .text .now) (l .i) (c .before .before .reference .given .0 .0) reads))
 
 add-at-3 : tie.Need-add-at-3 Inv-loop μ-loop
 add-at-3 c =
     let a = c .before .before .before .before .before .before .before .before .before .before .before .before .before .before .args in
     let l = c .before .before .before .before .before .before .before .before .before .before .before .loop in
-    let next = found-next (a .reader) (a .text .now) (l .i) (c .before .before .before .before .before .reference .given .0 .0) (found-here (c .before .before .before .before)) in
+    let next = found-next decoding (a .text .now) (l .i) (c .before .before .before .before .before .reference .given .0 .0) (found-here (c .before .before .before .before)) in
     omega (arith, c .before .before .put-value .ensures .0, filled-next (l .inv .1) next)
 
 add-references : tie.Need-add-references Inv-loop μ-loop
@@ -185,15 +181,14 @@ loop-less-3 c = let reads = found-here (c .before .before .before .before) in om
 
 loop-again-3 : tie.Need-loop-again-3 Inv-loop μ-loop
 loop-again-3 c =
-    let reader = c .before .before .before .before .before .before .before .before .before .before .before .before .before .before .args .reader in
     let t = c .before .before .before .before .before .before .before .before .before .before .before .before .before .before .args .text .now in
     let l = c .before .before .before .before .before .before .before .before .before .before .before .loop in
     let p = c .before .before .put-value in
     let e = c .before .before .before .before .before .reference .given .0 .0 in
     let reads = found-here (c .before .before .before .before) in (
-      rw (p .ensures .0) (counted-found reader t (l .i) e reads (l .inv .0)),
-      filled-put (l .inv .1) (found-next reader t (l .i) e reads) (p .last .1 .0) (p .result) (p .ensures .0) (p .ensures .1),
-      noted-found reader t (l .i) e reads (l .inv .2),
+      rw (p .ensures .0) (counted-found decoding t (l .i) e reads (l .inv .0)),
+      filled-put (l .inv .1) (found-next decoding t (l .i) e reads) (p .last .1 .0) (p .result) (p .ensures .0) (p .ensures .1),
+      noted-found decoding t (l .i) e reads (l .inv .2),
     )
 
 same-length : tie.Need-same-length Inv-loop μ-loop
@@ -203,7 +198,7 @@ returns : tie.Need-returns Inv-loop μ-loop
 returns c =
     let a = c .before .before .before .before .args in
     let l = c .before .loop in
-    let none = from-end (stepBy (a .reader)) (a .text .now) (l .i) (search needs) in
+    let none = from-end referenceStep (a .text .now) (l .i) (search needs) in
     (counted-measures (l .inv .0) _ _ none (noted-end (l .inv .2) none), filled-all (l .inv .1) (ap result none) .1)
 
 pub write-spec : {M : Type 1} → statement M
@@ -222,12 +217,11 @@ write-spec =
     add-at
     loop-less
     loop-again
-    find-requires
+    find-decoded-entity-requires
     enum-known-reference
-    number-of-requires
     kept-requires
+    number-of-requires
     kept-requires-2
-    kept-requires-3
     slice-aggregate-put
     sub-put
     part-put-start

@@ -1,8 +1,8 @@
 -- `kept` meets its contract.
 -- Assumes nothing.
 use borrow.Author.Tests.{ne-eqb}
-use Rattle.references.proofs.kept.Statement.{statement}
-use Rattle.references.proofs.kept.Tie as tie
+use Rattle.decode_html.proofs.kept.Statement.{statement}
+use Rattle.decode_html.proofs.kept.Tie as tie
 
 returns : tie.Need-returns
 returns c = rw (c .if1 .taken)

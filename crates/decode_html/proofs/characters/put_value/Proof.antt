@@ -1,8 +1,8 @@
--- `references::characters::put_value` meets its contract, by the two cases of a value.
+-- `decode_html::characters::put_value` meets its contract, by the two cases of a value.
 -- Assumes nothing.
 use borrow.Author.Needs.{needs}
-use Rattle.references.proofs.characters.put_value.Statement.{statement}
-use Rattle.references.proofs.characters.put_value.Tie as tie
+use Rattle.decode_html.proofs.characters.put_value.Statement.{statement}
+use Rattle.decode_html.proofs.characters.put_value.Tie as tie
 
 enum-known-value : tie.Need-enum-known-value
 enum-known-value c = search needs

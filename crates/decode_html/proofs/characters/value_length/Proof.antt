@@ -1,8 +1,8 @@
--- `references::characters::value_length` meets its contract, by the two cases of a value.
+-- `decode_html::characters::value_length` meets its contract, by the two cases of a value.
 -- Assumes nothing.
 use borrow.Author.Needs.{needs}
-use Rattle.references.proofs.characters.value_length.Statement.{statement}
-use Rattle.references.proofs.characters.value_length.Tie as tie
+use Rattle.decode_html.proofs.characters.value_length.Statement.{statement}
+use Rattle.decode_html.proofs.characters.value_length.Tie as tie
 
 enum-known-value : tie.Need-enum-known-value
 enum-known-value c = search needs

@@ -1,2 +1,0 @@
--- A turn of the loops.
-pub mod Turns

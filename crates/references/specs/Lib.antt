@@ -1,2 +1,0 @@
--- What its contracts say over the definitions of `rules`.
-pub mod Readers
