@@ -10,9 +10,9 @@ typedef lintelrye_answer call(uint32_t context, const uint8_t *text, size_t text
 
 static call *const calls[4] = {lintelrye_encode, lintelrye_decode, lintelrye_take, lintelrye_browse};
 
-/* No text is longer than the limit and one byte, no result longer than six times the limit. */
+/* No text is longer than the limit and one byte, no result longer than that of ascii_quoted. */
 static uint8_t text[LINTELRYE_TEXT_LIMIT + 1];
-static uint8_t output[LINTELRYE_ENCODED_AT_MOST(LINTELRYE_TEXT_LIMIT)];
+static uint8_t output[LINTELRYE_ASCII_ENCODED_AT_MOST(LINTELRYE_TEXT_LIMIT)];
 
 /* Makes the call of a request and returns its answer; the result goes to the output. */
 static lintelrye_answer answer_to(uint8_t operation, uint8_t context, size_t length)

@@ -5,7 +5,7 @@ import subprocess
 import sys
 
 CONTEXTS = ['text_minimal', 'text', 'double_quoted', 'single_quoted', 'quoted', 'safe', 'unquoted', 'script_single', 'script_double', 'script_quoted',
-            'style_single', 'style_double', 'style_quoted', 'script_raw', 'json']
+            'style_single', 'style_double', 'style_quoted', 'script_raw', 'json', 'ascii_quoted']
 OPERATIONS = ['encode', 'decode', 'take', 'browse', 'closing_tag']
 
 

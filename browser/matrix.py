@@ -7,7 +7,7 @@ import json
 import os
 import sys
 
-from places import LINE_ENDS, NUL_DROPPED, NUL_NUMBER, NUL_REPLACED, NUL_STYLE, Place
+from places import LINE_ENDS, MOVED, NUL_DROPPED, NUL_NUMBER, NUL_REPLACED, NUL_STYLE, Place
 from texts import MARKUP, TYPED, ascii_texts
 
 HERE = os.path.dirname(os.path.abspath(__file__))
@@ -45,7 +45,8 @@ def kinds(name, context, mark):
     """The exceptions of a cell that holds."""
     if mark == 'N':
         return [NUL_NUMBER if context == 'unquoted' else NUL_STYLE]
-    return [LINE_ENDS, NUL_DROPPED if name == 'ElementText' else NUL_REPLACED] if mark == 'NC' else []
+    copied = [LINE_ENDS, NUL_DROPPED if name == 'ElementText' else NUL_REPLACED]
+    return {'': [], 'NC': copied, 'NC27': copied + [MOVED]}[mark]
 
 
 def words(held, text):

@@ -19,6 +19,8 @@ NUL_DROPPED = Kind('a NUL, copied into element text, is dropped', lambda text: t
 NUL_REPLACED = Kind('a NUL, copied into an attribute, a script, a title or a textarea, is read as U+FFFD', lambda text: text.replace('\0', '\ufffd'))
 NUL_NUMBER = Kind('a NUL, written &#x00; in an unquoted attribute, is read as U+FFFD', lambda text: text.replace('\0', '\ufffd'))
 NUL_STYLE = Kind('a NUL, for which a style string has U+FFFD, is U+FFFD', lambda text: text.replace('\0', '\ufffd'))
+MOVED = Kind('one of the 27 characters U+0080 to U+009F that windows-1252 has others for, written as a number, is read as that other one',
+             lambda text: re.sub('[\x80-\x9f]', lambda m: m.group().encode('latin-1').decode('cp1252', 'ignore') or m.group(), text))
 FIRST_LINE_FEED = Kind('a line feed at the start of a pre or a textarea is dropped', lambda text: text[1:] if text[:1] == '\n' else text)
 FIELD = Kind('line breaks are dropped by a text field that takes its value from the attribute', lambda text: text.replace('\n', '').replace('\r', ''))
 FEEDS = Kind('U+000B or U+000C with nothing but blanks beside it is not shown', lambda text: text if text.strip('\t\n\v\f ') else re.sub('[\v\f]', '', text))
@@ -76,16 +78,16 @@ def style_string(serialized):
     return re.sub(r'\\(?:([0-9a-f]{1,6}) |(["\\]))', lambda m: chr(int(m.group(1), 16)) if m.group(1) else m.group(2), serialized[1:-1])
 
 
-def in_text(context):
+def in_text(context, *kinds):
     """Returns the text of an element."""
-    return Place(context, 'element text', '<div id=a{i}>{e}</div>', "textAt('a', i)", [LINE_ENDS, NUL_DROPPED])
+    return Place(context, 'element text', '<div id=a{i}>{e}</div>', "textAt('a', i)", [LINE_ENDS, NUL_DROPPED, *kinds])
 
 
-def in_attribute(context, quote):
+def in_attribute(context, quote, *kinds):
     """Returns an attribute in quotes."""
     letter = 'd' if quote == '"' else 's'
     return Place(context, 'attribute in ' + quote, '<div id=%s{i} title=%s{e}%s></div>' % (letter, quote, quote), "titleAt('%s', i)" % letter,
-                 [LINE_ENDS, NUL_REPLACED])
+                 [LINE_ENDS, NUL_REPLACED, *kinds])
 
 
 def in_script(context, quote):
@@ -143,5 +145,8 @@ PLACES = [
     Place('script_raw', 'run, in a string', '<script>V[2 * {i}] = {e};</script>', 'V[2 * i]', [], source=lambda text: json.dumps(text, ensure_ascii=False)),
     Place('json', 'data for JSON.parse', '<script type=application/json id=j{i}>"{e}"</script>', "JSON.parse(textAt('j', i))", []),
     in_script('json', '"'),
+    in_text('ascii_quoted', MOVED),
+    in_attribute('ascii_quoted', '"', MOVED),
+    in_attribute('ascii_quoted', "'", MOVED),
     *in_events(),
 ]

@@ -10,10 +10,10 @@ typedef lintelrye_answer (*call)(uint32_t, const uint8_t *, size_t, uint8_t *, s
 static const call calls[8] = {lintelrye_encode, lintelrye_encode_borrowing, lintelrye_decode, lintelrye_decode_borrowing,
                               lintelrye_take,   lintelrye_take_borrowing,   lintelrye_browse, lintelrye_browse_borrowing};
 
-/* Whether a call has a context: encode has 0 to 14, decode and take all of these but script_raw, browse 0 to 6. */
+/* Whether a call has a context: encode has 0 to 15, decode and take all of these but script_raw, browse 0 to 6 and 15. */
 static int has(uint32_t which, uint32_t context)
 {
-    return context < (which < 6 ? 15u : 7u) && (which < 2 || context != LINTELRYE_SCRIPT_RAW);
+    return context == LINTELRYE_ASCII_QUOTED || (context < (which < 6 ? 15u : 7u) && (which < 2 || context != LINTELRYE_SCRIPT_RAW));
 }
 
 enum { OUTPUT = 32, UNTOUCHED = 0xEE };
@@ -62,7 +62,7 @@ static void check_null(uint32_t which)
 {
     uint32_t context;
     memset(output, UNTOUCHED, OUTPUT);
-    for (context = 0; context < 16; context++) {
+    for (context = 0; context < 17; context++) {
         if (!has(which, context)) {
             check(is(calls[which](context, NULL, 0, NULL, 0), LINTELRYE_BAD_CONTEXT, 0, 0, 0, 0), "bad context, null text", which);
             continue;
@@ -81,7 +81,7 @@ static void check_null(uint32_t which)
 /* The refusals that every call has. */
 static void check_refusals(uint32_t which)
 {
-    check(is(of(which, LINTELRYE_JSON + 1, "a", OUTPUT), LINTELRYE_BAD_CONTEXT, 0, 0, 0, 0) && holds(""), "bad context", which);
+    check(is(of(which, LINTELRYE_ASCII_QUOTED + 1, "a", OUTPUT), LINTELRYE_BAD_CONTEXT, 0, 0, 0, 0) && holds(""), "bad context", which);
     check(is(of(which, UINT32_MAX, "a", OUTPUT), LINTELRYE_BAD_CONTEXT, 0, 0, 0, 0) && holds(""), "worst context", which);
     check(is(of(which, 1, "a\xC3(", OUTPUT), LINTELRYE_NOT_UTF8, 0, 0, 0, 1) && holds(""), "not UTF-8", which);
     check(is(of(which, 1, "a\xE0\x9F", OUTPUT), LINTELRYE_NOT_UTF8, 0, 0, 0, 1) && holds(""), "not UTF-8, however it goes on", which);
@@ -163,6 +163,8 @@ static void check_without_output(void)
     check_checked(LINTELRYE_SCRIPT_RAW, "a", 1, LINTELRYE_BAD_CONTEXT, 0, 0);
     check_checked(LINTELRYE_JSON, "a\\u003C", 7, LINTELRYE_PASSED, 2, 0);
     check_checked(LINTELRYE_JSON, "a\\u003c", 7, LINTELRYE_NOT_A_FORM, 0, 1);
+    check_checked(LINTELRYE_ASCII_QUOTED, "&eacute;&#x1F600;", 17, LINTELRYE_PASSED, 6, 0);
+    check_checked(LINTELRYE_ASCII_QUOTED, "a&#xE9;", 7, LINTELRYE_NOT_A_FORM, 0, 1);
     check_checked(LINTELRYE_TEXT, (const char *)letters, sizeof letters, LINTELRYE_TOO_LONG, 0, 0);
     check(lintelrye_check(LINTELRYE_TEXT, letters, LINTELRYE_TEXT_LIMIT).length == LINTELRYE_TEXT_LIMIT, "the longest text", 0);
 }
@@ -367,6 +369,8 @@ int main(void)
         check_written(which, LINTELRYE_TEXT, "a<", 1, "a&lt;");
         check_written(which, LINTELRYE_SCRIPT_RAW, "</script>", 1, "<\\/script>");
         check_written(which, LINTELRYE_JSON, "\"<\n", 3, "\\\"\\u003C\\u000A");
+        check_written(which, LINTELRYE_ASCII_QUOTED, "\xC3\xA9\xF0\x9F\x98\x80&", 3, "&eacute;&#x1F600;&amp;");
+        check_written(6 + which, LINTELRYE_ASCII_QUOTED, "&eacute;", 1, "\xC3\xA9");
         check_written(2 + which, LINTELRYE_TEXT, "&nGt;", 1, "\xE2\x89\xAB\xE2\x83\x92");
         check_written(2 + which, LINTELRYE_SCRIPT_SINGLE, "it\\'s", 1, "it's");
         check_written(2 + which, LINTELRYE_JSON, "\\u003c\\uD83D\\uDE00\\/", 3, "<\xF0\x9F\x98\x80/");

@@ -30,28 +30,28 @@
  *
  * Which context goes where (tools/places_table.py --header):
  *
- *   place                    minimal  text     double   single   quoted   safe     unquoted  js '     js "     js both  css '     css "     css both  raw            json
- *   element text             NC       NC       NC       NC       NC       NC       N         s '      s "      s "      s '       s "       s "       x </           s "
- *   title                    NC       NC       NC       NC       NC       NC       N         s '      s "      s "      s '       s "       s "       x </title>     s "
- *   textarea                 NC       NC       NC       NC       NC       NC       N         s '      s "      s "      s '       s "       s "       x </textarea>  s "
- *   attribute "              x "      x "      NC       x "      NC       NC       N         x "      x "      x "      x "       x "       x "       x "            x "
- *   attribute '              x '      x '      x '      NC       NC       NC       N         x '      x '      x '      x '       x '       x '       x '            x '
- *   attribute, no quotes     x space  x space  x space  x space  x space  x space  N         x space  x space  x space  x space   x space   x space   x space        x space
- *   script element           s &      s &      s "      s &      s "      s "      s space   s '      s "      s "      s '       s "       s "       s <!--         s "
- *   style element            s &      s &      s "      s &      s "      s "      s space   s '      s "      s "      s '       s "       s "       x </style>     s "
- *   JS string '              x '      x '      x '      x \      x \      x \      s space   yes      x '      yes      s <       x '       s <       x '            x '
- *   JS string "              x "      x "      x \      x "      x \      x \      s space   x "      yes      yes      x "       s <       s <       x "            yes
- *   JS string ' before 2019  x '      x '      x '      x \      x \      x \      x U+2028  yes      x '      yes      x U+2028  x '       x U+2028  x '            x '
- *   JS string " before 2019  x "      x "      x \      x "      x \      x \      x U+2028  x "      yes      yes      x "       x U+2028  x U+2028  x "            yes
- *   JS template              x \      x \      x \      x \      x \      x \      s space   x `      x `      x `      x `       x `       x `       x \            x `
- *   CSS string '             x '      x '      x '      x \      x \      x \      s space   s <      x '      s <      N         x '       N         x '            x '
- *   CSS string "             x "      x "      x \      x "      x \      x \      s space   x "      s <      s <      x "       N         N         x "            s <
- *   JSON string              x "      x "      x \      x "      x \      x \      s space   x "      x <      x '      x "       x <       x '       x "            yes
+ *   place                    minimal  text     double   single   quoted   safe     unquoted  js '     js "     js both  css '     css "     css both  raw            json     ascii
+ *   element text             NC       NC       NC       NC       NC       NC       N         s '      s "      s "      s '       s "       s "       x </           s "      NC27
+ *   title                    NC       NC       NC       NC       NC       NC       N         s '      s "      s "      s '       s "       s "       x </title>     s "      NC27
+ *   textarea                 NC       NC       NC       NC       NC       NC       N         s '      s "      s "      s '       s "       s "       x </textarea>  s "      NC27
+ *   attribute "              x "      x "      NC       x "      NC       NC       N         x "      x "      x "      x "       x "       x "       x "            x "      NC27
+ *   attribute '              x '      x '      x '      NC       NC       NC       N         x '      x '      x '      x '       x '       x '       x '            x '      NC27
+ *   attribute, no quotes     x space  x space  x space  x space  x space  x space  N         x space  x space  x space  x space   x space   x space   x space        x space  x space
+ *   script element           s &      s &      s "      s &      s "      s "      s space   s '      s "      s "      s '       s "       s "       s <!--         s "      s "
+ *   style element            s &      s &      s "      s &      s "      s "      s space   s '      s "      s "      s '       s "       s "       x </style>     s "      s "
+ *   JS string '              x '      x '      x '      x \      x \      x \      s space   yes      x '      yes      s <       x '       s <       x '            x '      x \
+ *   JS string "              x "      x "      x \      x "      x \      x \      s space   x "      yes      yes      x "       s <       s <       x "            yes      x \
+ *   JS string ' before 2019  x '      x '      x '      x \      x \      x \      x U+2028  yes      x '      yes      x U+2028  x '       x U+2028  x '            x '      x \
+ *   JS string " before 2019  x "      x "      x \      x "      x \      x \      x U+2028  x "      yes      yes      x "       x U+2028  x U+2028  x "            yes      x \
+ *   JS template              x \      x \      x \      x \      x \      x \      s space   x `      x `      x `      x `       x `       x `       x \            x `      x \
+ *   CSS string '             x '      x '      x '      x \      x \      x \      s space   s <      x '      s <      N         x '       N         x '            x '      x \
+ *   CSS string "             x "      x "      x \      x "      x \      x \      s space   x "      s <      s <      x "       N         N         x "            s <      x \
+ *   JSON string              x "      x "      x \      x "      x \      x \      s space   x "      x <      x '      x "       x <       x '       x "            yes      x \
  *
  * End of the table.
- * In every cell "yes", "N" and "NC" what encode writes stays in the place where it is put, whatever is typed and whatever follows, and the place holds the text, by
- * proof: yes every text, N all but NUL (it is held as U+FFFD), NC all but NUL (U+FFFD, or dropped) and CR (LF). In a cell "s" every text stays, but the one
- * that is shown is held as another one; in a cell "x" the text that is shown leaves the place. An attribute value without quotes cannot be empty.
+ * In every cell "yes", "N", "NC" and "NC27" what encode writes stays in the place where it is put, whatever is typed and whatever follows, and the place holds the text, by
+ * proof: yes every text, N all but NUL (it is held as U+FFFD), NC all but NUL (U+FFFD, or dropped) and CR (LF), NC27 all but these and 27 of the control
+ * characters U+0080 to U+009F, whose numbers a browser takes for other characters. In a cell "s" every text stays, but the one that is shown is held as another one; in a cell "x" the text that is shown leaves the place. An attribute value without quotes cannot be empty.
  *
  * lintelrye_fill_page fills a whole page: it makes the copying call of encode for each record of a list, and writes the results one behind the other.
  *
@@ -102,9 +102,10 @@ extern "C" {
 /* The longest text that a call takes, in bytes. */
 #define LINTELRYE_TEXT_LIMIT 65536
 
-/* An output of so many bytes is enough for every text of n bytes: to encode it; to decode or browse it. To take it, n bytes are enough,
- * and lintelrye_check tells how many it needs. */
+/* An output of so many bytes is enough for every text of n bytes: to encode it in contexts 0 to 14; to encode it in LINTELRYE_ASCII_QUOTED, whose longest
+ * reference has 22 bytes for a character of 3; to decode or browse it. To take it, n bytes are enough, and lintelrye_check tells how many it needs. */
 #define LINTELRYE_ENCODED_AT_MOST(n) (6 * (n))
+#define LINTELRYE_ASCII_ENCODED_AT_MOST(n) (7 * (n) + (n) / 3)
 #define LINTELRYE_DECODED_AT_MOST(n) ((n) + (n) / 5)
 
 /* The contexts: where on the page the result goes. */
@@ -123,7 +124,9 @@ enum lintelrye_context {
     LINTELRYE_STYLE_DOUBLE = 11, /* in a string of a style element, between double quotes; a NUL becomes U+FFFD */
     LINTELRYE_STYLE_QUOTED = 12, /* in a string of a style element, between quotes of either kind; a NUL becomes U+FFFD */
     LINTELRYE_SCRIPT_RAW = 13,   /* the whole text of a script element, in one call, or by lintelrye_script_raw_part; encode only; no JSON encoder (<!-- becomes <\!--) */
-    LINTELRYE_JSON = 14          /* in a JSON string, inside a script element or in a JSON document; not in an attribute */
+    LINTELRYE_JSON = 14,         /* in a JSON string, inside a script element or in a JSON document; not in an attribute */
+    LINTELRYE_ASCII_QUOTED = 15  /* as QUOTED, and every character above 7F as a reference: the result is ASCII. By name where HTML has one for that
+                                  * character alone, the shortest and of several as short the first by bytes (&COPY;, &mldr;, &half;); else &#xE9; */
 };
 
 /* The statuses. What to do about each refusal:
@@ -143,7 +146,7 @@ enum lintelrye_status {
     LINTELRYE_NO_ROOM = 3,     /* the output is shorter than the result; `length` is the length needed; never from check */
     LINTELRYE_NOT_A_FORM = 4,  /* check and take: encode writes no such text; `place` is the length of its longest prefix that encode writes.
                                 * decode of JSON: RFC 8259 allows no such string; `place` is the length of its longest prefix that it allows */
-    LINTELRYE_BAD_CONTEXT = 5, /* the call has no such context: encode has 0 to 14, decode, check and take all of these but 13, browse 0 to 6 */
+    LINTELRYE_BAD_CONTEXT = 5, /* the call has no such context: encode has 0 to 15, decode, check and take all of these but 13, browse 0 to 6 and 15 */
     LINTELRYE_CUT_SHORT = 7,   /* the text ends within a character that more bytes could complete; `place` is where that character begins */
     LINTELRYE_BAD_RANGE = 8,   /* a record of a page only: the part that it names leaves the text */
     LINTELRYE_FINISHED = 9,    /* the calls for parts only: a finish has passed */
@@ -157,7 +160,7 @@ typedef struct lintelrye_answer {
     uint64_t same;     /* 1 exactly if nothing was replaced, so that the result is the text; after a refusal 0 */
     uint64_t replaced; /* how many places were replaced: characters by encode and take, references or escapes by decode and browse; after a refusal 0 */
     uint64_t place;    /* after NOT_UTF8, CUT_SHORT, NOT_A_FORM and LONE_SURROGATE the length of the longest correct prefix; otherwise 0 */
-    uint64_t left;     /* decode in contexts 0 to 6: the place of the `&` of the first reference that stayed; 0 if none did, and after a refusal */
+    uint64_t left;     /* decode in contexts 0 to 6 and 15: the place of the `&` of the first reference that stayed; 0 if none did, and after a refusal */
     uint64_t reason;   /* why it stayed, see lintelrye_reason; 0 if none did, in every other call, and after a refusal */
 } lintelrye_answer;
 
@@ -197,7 +200,7 @@ lintelrye_answer lintelrye_encode(uint32_t context, const uint8_t *text, size_t 
 /* encode as a borrowing call: where nothing is replaced it needs no room and leaves the output alone. */
 lintelrye_answer lintelrye_encode_borrowing(uint32_t context, const uint8_t *text, size_t text_length, uint8_t *output, size_t output_length);
 
-/* decode: undoes replacements: character references such as &amp; in contexts 0 to 6, escapes such as \x3C in the strings. All else is copied, and
+/* decode: undoes replacements: character references such as &amp; in contexts 0 to 6 and 15, escapes such as \x3C in the strings. All else is copied, and
  * what was decoded is not decoded again. The result can be longer than the text, by a fifth at most (&nGt; gives six bytes). */
 lintelrye_answer lintelrye_decode(uint32_t context, const uint8_t *text, size_t text_length, uint8_t *output, size_t output_length);
 
@@ -214,8 +217,8 @@ lintelrye_answer lintelrye_take(uint32_t context, const uint8_t *text, size_t te
 /* take as a borrowing call. */
 lintelrye_answer lintelrye_take_borrowing(uint32_t context, const uint8_t *text, size_t text_length, uint8_t *output, size_t output_length);
 
-/* browse, contexts 0 to 6: undoes character references as a browser does, by the HTML Standard. The longest name counts, 106 names need no `;`, and
- * any other byte ends a number. In 2, 3, 4 and 6 (attributes) a name without `;` stays before `=` or an ASCII letter or digit; 0, 1 and 5 are text. Of
+/* browse, contexts 0 to 6 and 15: undoes character references as a browser does, by the HTML Standard. The longest name counts, 106 names need no `;`, and
+ * any other byte ends a number. In 2, 3, 4, 6 and 15 (attributes) a name without `;` stays before `=` or an ASCII letter or digit; 0, 1 and 5 are text. Of
  * the numbers 0, surrogates and those above 10FFFF hex give U+FFFD, and 27 from 80 to 9F hex the character that windows-1252 has there. */
 lintelrye_answer lintelrye_browse(uint32_t context, const uint8_t *text, size_t text_length, uint8_t *output, size_t output_length);
 

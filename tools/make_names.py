@@ -1,6 +1,7 @@
 #!/usr/bin/env python3
-"""Writes the number tables of the crates names_upper and names_lower from the readable entries of crates/rules/specs/Names.antt, and that of names_bare from
-them and the names of Bare.antt: the tables of the three crates, and the proof of each function that has one.
+"""Writes the number tables of the crates names_upper and names_lower from the readable entries of crates/rules/specs/Names.antt, that of names_bare from
+them and the names of Bare.antt, and those of names_written, by characters, the shortest name of each, and of several as short the first by bytes: the
+tables of the four crates, and the proof of each function that has one.
 
 Nothing rests on this script: the check of the crates compares every number with the entries. It takes a moment."""
 import argparse
@@ -18,6 +19,23 @@ CRATES = {
     "names_upper": ["AC", "DF", "GM", "NN", "OR", "SZ"],
     "names_lower": ["aa", "bb", "cd", "eg", "hk", "ll", "mm", "nn", "oq", "rr", "ss", "tw", "xz"],
 }
+
+# The ranges of characters of names_written, each from its first to its last character that has a name.
+RANGES = [
+    (0xA0, 0x17F),
+    (0x180, 0x2FF),
+    (0x300, 0x45F),
+    (0x2000, 0x20FF),
+    (0x2100, 0x21FF),
+    (0x2200, 0x22FF),
+    (0x2300, 0x24FF),
+    (0x2500, 0x25FF),
+    (0x2600, 0x27FF),
+    (0x2900, 0x29FF),
+    (0x2A00, 0x2AFF),
+    (0xFB00, 0xFB04),
+    (0x1D49C, 0x1D56B),
+]
 
 HEAD = """\
 // Made by tools/make_names.py from the entries of crates/rules/specs/Names.antt; not to be edited.
@@ -154,6 +172,70 @@ pub fn {function}(name: &[u8]) -> Meaning
 }}
 """
 
+WRITTEN_HEAD = """\
+// Made by tools/make_names.py from the entries of crates/rules/specs/Names.antt; not to be edited.
+// The names that are written for characters, in ranges. Each range is two number tables: the names' bytes one after the other, and where the name of each
+// character begins and the last one ends; a character without a name has no bytes.
+ghost use mathlib.Core.Path.{_≡_};
+ghost use Prim.Native.Nat.{_≤_};
+ghost use lib.ListN.{length};
+ghost use Rattle.rules.specs.Utf8.{utf8};
+ghost use Rattle.rules.specs.Ascii.{nameOf};
+ghost use Rattle.rules.specs.Browsing.{given};
+ghost use Rattle.names_written.specs.Ties.{Puts};
+use crate::place;
+"""
+
+WRITTEN_GROUP = """
+const {const}_NAMES: [u8; {size}] = *b"\\
+{names}";
+
+const {const}_OFFSETS: [u16; {places}] = [{offsets}];
+
+// Copies the name of a character from U+{low:04X} to U+{high:04X} to the start of `room` and returns its length, 0 if it has none.
+pub fn {function}(code: u32, room: &mut [u8]) -> usize
+    requires {{ ⌜ (0x{low:X} ≤ code) × (code ≤ 0x{high:X}) × (20 ≤ length (now room)) ⌝ }}
+    ensures {{ λ r. ⌜ Puts (given (nameOf (utf8 code))) r (now (room .entry)) (now (room .exit)) × (r ≤ 20) ⌝ }}
+{{
+    place::put_named(code, 0x{low:X}, &{const}_NAMES, &{const}_OFFSETS, room)
+}}
+"""
+
+WRITTEN_PROOF = """\
+-- `names_written::table::{function}` meets its contract: computed, its numbers are the names of the rule.
+-- Made by tools/make_names.py. Assumes nothing.
+use borrow.Author.Needs.{{needs}}
+use mathlib.Core.Path.{{refl}}
+use native.Mathlib.Omega.{{arith}}
+use Rattle.rules.specs.Names.{{names}}
+use Rattle.names_written.specs.Ties.{{isTied}}
+use Rattle.names_written.proofs.Named.{{in-table, in-unicode}}
+use Rattle.names_written.proofs.table.{function}.Statement.{{statement}}
+use Rattle.names_written.proofs.table.{function}.Tie as tie
+use Rattle.names_written.proofs.place.put_named.Reads as put-named-reads
+
+slice-aggregate-put-named : tie.Need-slice-aggregate-put-named
+slice-aggregate-put-named c = refl
+
+slice-aggregate-put-named-2 : tie.Need-slice-aggregate-put-named-2
+slice-aggregate-put-named-2 c = refl
+
+put-named-requires : tie.Need-put-named-requires
+unfolding isTied names
+put-named-requires c κs =
+    let h = c .before .before .before .before .pre in
+    (h .0, in-table (c .before .before .before .before .args .code) 0x{low:X} 0x{high:X} {places} (h .0) (h .1) (omega arith), in-unicode (c .before .before .before .before .args .code) 0x{high:X} (h .1) (omega arith), h .2, tt)
+
+same-length : tie.Need-same-length
+same-length c = search needs
+
+returns : tie.Need-returns
+returns c = c .before .before .put-named .ensures
+
+pub {spec}-spec : {{M : Type 1}} → statement M
+{spec}-spec = tie.close (tie.spec slice-aggregate-put-named slice-aggregate-put-named-2 put-named-requires same-length returns)
+"""
+
 PROOF = """\
 -- `{crate}::{function}` meets its contract: computed, its numbers are the rows of the table that begin so, and they rise.
 -- Made by tools/make_names.py. Assumes nothing.
@@ -233,6 +315,46 @@ def bare_of(rows):
     return code, specs, proofs
 
 
+def written(table):
+    """The name that is written for each character above 7F that has one."""
+    best = {}
+    for name, value in table:
+        text = value.decode("utf-8")
+        if len(text) == 1 and ord(text) > 0x7F:
+            code = ord(text)
+            best[code] = min(best.get(code, name), name, key=lambda n: (len(n), n))
+    return best
+
+
+def written_of(table):
+    """The code of names_written's tables, and the proofs."""
+    best = written(table)
+    code, proofs, covered = WRITTEN_HEAD, {}, set()
+    for first, last in RANGES:
+        codes = sorted(c for c in best if first <= c <= last)
+        low, high = codes[0], codes[-1]
+        names = [best.get(c, "") for c in range(low, high + 1)]
+        places = [0]
+        for name in names:
+            places.append(places[-1] + len(name))
+        function = f"from_{low:x}"
+        code += WRITTEN_GROUP.format(
+            const=function.upper(),
+            function=function,
+            low=low,
+            high=high,
+            size=places[-1],
+            places=len(places),
+            names=lines_of([name for name in names if name], 110),
+            offsets=", ".join(map(str, places)) if len(places) < 10 else "\n" + "".join(f"    {place},\n" for place in places),
+        )
+        proofs[function] = WRITTEN_PROOF.format(function=function, spec=function.replace("_", "-"), low=low, high=high, places=len(places))
+        covered.update(codes)
+    if covered != set(best):
+        sys.exit("a character that has a name is in no range")
+    return code, proofs
+
+
 def group_of(crate, first, last, rows):
     """The code of one group, the name of its function, and its proof."""
     one = first == last
@@ -274,6 +396,11 @@ def files():
     code, specs, proofs = bare_of([(name, values[name]) for name in re.findall(r'ascii "(\w+)"', BARE.read_text(encoding="utf-8"))])
     made[folder / "src/table.rt"] = code
     made[folder / "specs/Words.antt"] = specs
+    for function, proof in proofs.items():
+        made[folder / "proofs/table" / function / "Proof.antt"] = proof
+    folder = ROOT / "crates/names_written"
+    code, proofs = written_of(table)
+    made[folder / "src/table.rt"] = code
     for function, proof in proofs.items():
         made[folder / "proofs/table" / function / "Proof.antt"] = proof
     return made

@@ -1,6 +1,7 @@
 //! What the programs beside the crate share: the library's calls as its archive exports them, the crate's functions by context, what each
 //! call is to answer, and a generator of numbers with a fixed seed.
 
+pub mod ascii;
 pub mod browser;
 pub mod json;
 pub mod model;
@@ -128,7 +129,7 @@ pub enum Operation {
 pub const OPERATIONS: [Operation; 4] = [Operation::Encode, Operation::Decode, Operation::Read, Operation::Browse];
 
 /// The contexts by their numbers.
-pub const CONTEXTS: [&str; 15] = [
+pub const CONTEXTS: [&str; 16] = [
     "text_minimal",
     "text",
     "double_quoted",
@@ -144,6 +145,7 @@ pub const CONTEXTS: [&str; 15] = [
     "style_quoted",
     "script_raw",
     "json",
+    "ascii_quoted",
 ];
 
 /// A call of the library, found once and made often.
@@ -196,7 +198,7 @@ macro_rules! to_vec {
     };
 }
 
-/// The crate's encoders, in the order of the contexts; json has none.
+/// The crate's encoders, in the order of the contexts; json and ascii_quoted have none.
 pub const CRATE_ENCODERS: [ToVec; 14] = [
     to_vec!(encode_text_minimal_to_vec),
     to_vec!(encode_text_to_vec),
@@ -214,7 +216,7 @@ pub const CRATE_ENCODERS: [ToVec; 14] = [
     to_vec!(encode_script_to_vec),
 ];
 
-/// The crate's decoders, in the order of the contexts; script_raw and json have none.
+/// The crate's decoders, in the order of the contexts; script_raw, json and ascii_quoted have none.
 pub const CRATE_DECODERS: [ToVec; 13] = [
     to_vec!(decode_html_entities_to_vec),
     to_vec!(decode_html_entities_to_vec),
@@ -240,7 +242,7 @@ macro_rules! to_cow {
     };
 }
 
-/// The crate's lending encoders, in the order of the contexts; json has none.
+/// The crate's lending encoders, in the order of the contexts; json and ascii_quoted have none.
 pub const CRATE_LENDING_ENCODERS: [ToCow; 14] = [
     to_cow!(encode_text_minimal),
     to_cow!(encode_text),
@@ -258,12 +260,12 @@ pub const CRATE_LENDING_ENCODERS: [ToCow; 14] = [
     to_cow!(encode_script),
 ];
 
-/// The lending encoder of a context that ours is compared with: the crate's, and that of json.rs in the context that the crate has not.
+/// The lending encoder of a context that ours is compared with: the crate's, and those of json.rs and ascii.rs in the two that the crate has not.
 pub fn lending_encoder(context: u32) -> ToCow {
-    CRATE_LENDING_ENCODERS.get(context as usize).copied().unwrap_or(json::encode)
+    CRATE_LENDING_ENCODERS.get(context as usize).copied().unwrap_or(if context == 14 { json::encode } else { ascii::encode })
 }
 
-/// The crate's lending decoders, in the order of the contexts; script_raw and json have none.
+/// The crate's lending decoders, in the order of the contexts; script_raw, json and ascii_quoted have none.
 pub const CRATE_LENDING_DECODERS: [ToCow; 13] = [
     to_cow!(decode_html_entities),
     to_cow!(decode_html_entities),

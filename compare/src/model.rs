@@ -2,14 +2,15 @@
 //! docs/RULES.md. The crate gives no count of replaced places: that is counted here, by the rules' own division of the text. Nothing here calls the library.
 
 use crate::browser::Browser;
-use crate::{json, lending_encoder, Answer, Checked, Field, Filled, Operation, CRATE_DECODERS, CRATE_ENCODERS, CRATE_LENDING_DECODERS};
+use crate::{ascii, json, lending_encoder, Answer, Checked, Field, Filled, Operation, CRATE_DECODERS, CRATE_ENCODERS, CRATE_LENDING_DECODERS};
 use std::borrow::Cow;
 
-/// The number of the context json, which the crate has not.
+/// The numbers of the contexts json and ascii_quoted, which the crate has not.
 const JSON: u32 = 14;
+const ASCII_QUOTED: u32 = 15;
 
-/// The contexts in which browse reads a text as the value of an attribute: double_quoted, single_quoted, quoted, unquoted.
-const ATTRIBUTES: [usize; 4] = [2, 3, 4, 6];
+/// The contexts in which browse reads a text as the value of an attribute: double_quoted, single_quoted, quoted, unquoted, ascii_quoted.
+const ATTRIBUTES: [usize; 5] = [2, 3, 4, 6, 15];
 
 /// The longest text that a call takes.
 pub const LONGEST: usize = 65_536;
@@ -72,13 +73,14 @@ impl Outcome {
 /// Whether an operation has a context of this number.
 pub fn has_context(operation: Operation, context: u32) -> bool {
     match operation {
-        Operation::Encode => context < 15,
-        Operation::Decode | Operation::Read => context < 13 || context == JSON,
-        Operation::Browse => context < 7,
+        Operation::Encode => context < 16,
+        Operation::Decode | Operation::Read => context < 13 || context == JSON || context == ASCII_QUOTED,
+        Operation::Browse => context < 7 || context == ASCII_QUOTED,
     }
 }
 
-/// The model: the crate's functions and those of json.rs, and the units of every context's forms, taken from the encoders; script_raw has none.
+/// The model: the crate's functions and those of json.rs and ascii.rs, and the units of every other context's forms, taken from the encoders; script_raw
+/// has none.
 pub struct Model {
     units: Vec<Option<Units>>,
     browser: Browser,
@@ -134,7 +136,15 @@ impl Model {
             }
         };
         let context = context as usize;
+        let in_ascii = context == ASCII_QUOTED as usize;
         match operation {
+            Operation::Encode if in_ascii => Outcome::passed(ascii::encode(text).into_owned().into_bytes(), ascii::count(text), (0, 0)),
+            Operation::Read if in_ascii => match ascii::read(text) {
+                Ok((result, replaced)) => Outcome::passed(result.into_bytes(), replaced, (0, 0)),
+                Err(place) => Outcome::refused(NOT_A_FORM, place),
+            },
+            // The HTML contexts share one decoder.
+            Operation::Decode if in_ascii => self.decode(0, text),
             Operation::Encode => self.encode(context, text),
             Operation::Decode if context == JSON as usize => match json::decode(text) {
                 Ok((result, replaced)) => Outcome::passed(result.into_bytes(), replaced, (0, 0)),

@@ -10,7 +10,7 @@ pub const TEXT_LIMIT: usize = 65_536;
 /// The most fields that a page takes.
 pub const FIELD_LIMIT: usize = 256;
 
-/// The length of an output that is enough to encode every text of `n` bytes, in every context.
+/// The length of an output that is enough to encode every text of `n` bytes, in every context but [`Context::AsciiQuoted`].
 ///
 /// ```
 /// let mut line = [0; lintelrye::encoded_at_most(11)];
@@ -20,6 +20,18 @@ pub const FIELD_LIMIT: usize = 256;
 /// ```
 pub const fn encoded_at_most(n: usize) -> usize {
     n.saturating_mul(6)
+}
+
+/// The length of an output that is enough to encode every text of `n` bytes in [`Context::AsciiQuoted`]: 22 bytes for 3.
+///
+/// ```
+/// let mut line = [0; lintelrye::ascii_encoded_at_most(3)];
+/// assert_eq!(line.len(), 22);
+/// assert_eq!(lintelrye::encode_ascii_quoted_attribute("\u{25AB}", &mut line)?, "&EmptyVerySmallSquare;");
+/// # Ok::<(), lintelrye::Refusal>(())
+/// ```
+pub const fn ascii_encoded_at_most(n: usize) -> usize {
+    n.saturating_mul(7).saturating_add(n / 3)
 }
 
 /// The length of an output that is enough to decode or browse every text of `n` bytes. To [`take`] one, `n` bytes are enough, and [`check`]

@@ -1,4 +1,4 @@
-//! The fifteen contexts, by variant, number and name.
+//! The sixteen contexts, by variant, number and name.
 use core::{fmt, str};
 
 /// Where on the page the result goes. Escaping depends on it; the crate's front page has a table.
@@ -35,11 +35,15 @@ pub enum Context {
     ScriptRaw = 13,
     /// In a JSON string, inside a script element or in a JSON document; not in an attribute.
     Json = 14,
+    /// As `Quoted`, and every character above U+007F as a reference, so that the result is ASCII: by name where HTML has one for that character alone (the
+    /// shortest; of several as short the first by bytes: `&COPY;`, `&mldr;`, `&half;`), else by number. [`ascii_encoded_at_most`](crate::ascii_encoded_at_most)
+    /// tells how long it gets.
+    AsciiQuoted = 15,
 }
 
 impl Context {
     /// All contexts, in the order of their numbers.
-    pub const ALL: [Context; 15] = [
+    pub const ALL: [Context; 16] = [
         Context::TextMinimal,
         Context::Text,
         Context::DoubleQuoted,
@@ -55,6 +59,7 @@ impl Context {
         Context::StyleQuoted,
         Context::ScriptRaw,
         Context::Json,
+        Context::AsciiQuoted,
     ];
 
     /// Returns the context's name, as docs/RULES.md has it and as the program `entity` reads it.
@@ -84,6 +89,7 @@ impl Context {
             Context::StyleQuoted => "style_quoted",
             Context::ScriptRaw => "script_raw",
             Context::Json => "json",
+            Context::AsciiQuoted => "ascii_quoted",
         }
     }
 }
@@ -118,7 +124,7 @@ impl From<Context> for u32 {
 impl TryFrom<u32> for Context {
     type Error = UnknownContext;
 
-    /// Returns the context of a number, 0 to 14.
+    /// Returns the context of a number, 0 to 15.
     fn try_from(number: u32) -> Result<Context, UnknownContext> {
         Context::ALL.iter().copied().find(|context| *context as u32 == number).ok_or(UnknownContext)
     }

@@ -35,6 +35,7 @@
 //! | in a style string with either kind of quotes | [`StyleQuoted`](Context::StyleQuoted) | [`encode_style_quoted_text`] |
 //! | `<script>HERE</script>`: the whole text of the element, in one call or by a [`ScriptEncoder`] | [`ScriptRaw`](Context::ScriptRaw) | [`encode_script`] |
 //! | `<script type="application/json">{"a":"HERE"}</script>`, a JSON document | [`Json`](Context::Json) | [`encode_json_string`] |
+//! | in an attribute with either kind of quotes, where only ASCII may leave | [`AsciiQuoted`](Context::AsciiQuoted) | [`encode_ascii_quoted_attribute`] |
 //! | `onclick="f('HERE')"` | `ScriptSingle` for the name, then `DoubleQuoted` for the whole handler | both functions, see below |
 //! | a URL, a template literal (between backticks), CSS or script outside a string, a comment, a tag or attribute name | none: no context makes that safe | none |
 //!
@@ -45,29 +46,29 @@
 //! # Every context in every place
 //!
 //! Whatever is typed and whatever follows, what [`encode`] writes stays in the place where it is put, and the place holds the text, by proof, in every
-//! cell **yes** (every text), **N** (all but NUL, which is held as U+FFFD) and **NC** (all but NUL, held as U+FFFD or dropped, and CR, held as LF). In a cell
-//! s every text stays, but the one that is shown is held as another one; in a cell x the text that is shown leaves the place.
+//! cell **yes** (every text), **N** (all but NUL, which is held as U+FFFD), **NC** (all but NUL, held as U+FFFD or dropped, and CR, held as LF) and **NC27**
+//! (all but these and 27 of the control characters U+0080 to U+009F, whose numbers a browser takes for other characters). In a cell s every text stays, but the one that is shown is held as another one; in a cell x the text that is shown leaves the place.
 //!
 //! <!-- tools/places_table.py --rust -->
 //!
-//! | place | `text_minimal` | `text` | `double_quoted` | `single_quoted` | `quoted` | `safe` | `unquoted` | `script_single` | `script_double` | `script_quoted` | `style_single` | `style_double` | `style_quoted` | `script_raw` | `json` |
-//! |---|---|---|---|---|---|---|---|---|---|---|---|---|---|---|---|
-//! | element text | **NC** | **NC** | **NC** | **NC** | **NC** | **NC** | **N** | s `'` | s `"` | s `"` | s `'` | s `"` | s `"` | x `</` | s `"` |
-//! | title | **NC** | **NC** | **NC** | **NC** | **NC** | **NC** | **N** | s `'` | s `"` | s `"` | s `'` | s `"` | s `"` | x `</title>` | s `"` |
-//! | textarea | **NC** | **NC** | **NC** | **NC** | **NC** | **NC** | **N** | s `'` | s `"` | s `"` | s `'` | s `"` | s `"` | x `</textarea>` | s `"` |
-//! | attribute `"` | x `"` | x `"` | **NC** | x `"` | **NC** | **NC** | **N** | x `"` | x `"` | x `"` | x `"` | x `"` | x `"` | x `"` | x `"` |
-//! | attribute `'` | x `'` | x `'` | x `'` | **NC** | **NC** | **NC** | **N** | x `'` | x `'` | x `'` | x `'` | x `'` | x `'` | x `'` | x `'` |
-//! | attribute, no quotes | x space | x space | x space | x space | x space | x space | **N** | x space | x space | x space | x space | x space | x space | x space | x space |
-//! | script element | s `&` | s `&` | s `"` | s `&` | s `"` | s `"` | s space | s `'` | s `"` | s `"` | s `'` | s `"` | s `"` | s `<!--` | s `"` |
-//! | style element | s `&` | s `&` | s `"` | s `&` | s `"` | s `"` | s space | s `'` | s `"` | s `"` | s `'` | s `"` | s `"` | x `</style>` | s `"` |
-//! | JS string `'` | x `'` | x `'` | x `'` | x `\` | x `\` | x `\` | s space | **yes** | x `'` | **yes** | s `<` | x `'` | s `<` | x `'` | x `'` |
-//! | JS string `"` | x `"` | x `"` | x `\` | x `"` | x `\` | x `\` | s space | x `"` | **yes** | **yes** | x `"` | s `<` | s `<` | x `"` | **yes** |
-//! | JS string `'` before 2019 | x `'` | x `'` | x `'` | x `\` | x `\` | x `\` | x U+2028 | **yes** | x `'` | **yes** | x U+2028 | x `'` | x U+2028 | x `'` | x `'` |
-//! | JS string `"` before 2019 | x `"` | x `"` | x `\` | x `"` | x `\` | x `\` | x U+2028 | x `"` | **yes** | **yes** | x `"` | x U+2028 | x U+2028 | x `"` | **yes** |
-//! | JS template | x `\` | x `\` | x `\` | x `\` | x `\` | x `\` | s space | x `` ` `` | x `` ` `` | x `` ` `` | x `` ` `` | x `` ` `` | x `` ` `` | x `\` | x `` ` `` |
-//! | CSS string `'` | x `'` | x `'` | x `'` | x `\` | x `\` | x `\` | s space | s `<` | x `'` | s `<` | **N** | x `'` | **N** | x `'` | x `'` |
-//! | CSS string `"` | x `"` | x `"` | x `\` | x `"` | x `\` | x `\` | s space | x `"` | s `<` | s `<` | x `"` | **N** | **N** | x `"` | s `<` |
-//! | JSON string | x `"` | x `"` | x `\` | x `"` | x `\` | x `\` | s space | x `"` | x `<` | x `'` | x `"` | x `<` | x `'` | x `"` | **yes** |
+//! | place | `text_minimal` | `text` | `double_quoted` | `single_quoted` | `quoted` | `safe` | `unquoted` | `script_single` | `script_double` | `script_quoted` | `style_single` | `style_double` | `style_quoted` | `script_raw` | `json` | `ascii_quoted` |
+//! |---|---|---|---|---|---|---|---|---|---|---|---|---|---|---|---|---|
+//! | element text | **NC** | **NC** | **NC** | **NC** | **NC** | **NC** | **N** | s `'` | s `"` | s `"` | s `'` | s `"` | s `"` | x `</` | s `"` | **NC27** |
+//! | title | **NC** | **NC** | **NC** | **NC** | **NC** | **NC** | **N** | s `'` | s `"` | s `"` | s `'` | s `"` | s `"` | x `</title>` | s `"` | **NC27** |
+//! | textarea | **NC** | **NC** | **NC** | **NC** | **NC** | **NC** | **N** | s `'` | s `"` | s `"` | s `'` | s `"` | s `"` | x `</textarea>` | s `"` | **NC27** |
+//! | attribute `"` | x `"` | x `"` | **NC** | x `"` | **NC** | **NC** | **N** | x `"` | x `"` | x `"` | x `"` | x `"` | x `"` | x `"` | x `"` | **NC27** |
+//! | attribute `'` | x `'` | x `'` | x `'` | **NC** | **NC** | **NC** | **N** | x `'` | x `'` | x `'` | x `'` | x `'` | x `'` | x `'` | x `'` | **NC27** |
+//! | attribute, no quotes | x space | x space | x space | x space | x space | x space | **N** | x space | x space | x space | x space | x space | x space | x space | x space | x space |
+//! | script element | s `&` | s `&` | s `"` | s `&` | s `"` | s `"` | s space | s `'` | s `"` | s `"` | s `'` | s `"` | s `"` | s `<!--` | s `"` | s `"` |
+//! | style element | s `&` | s `&` | s `"` | s `&` | s `"` | s `"` | s space | s `'` | s `"` | s `"` | s `'` | s `"` | s `"` | x `</style>` | s `"` | s `"` |
+//! | JS string `'` | x `'` | x `'` | x `'` | x `\` | x `\` | x `\` | s space | **yes** | x `'` | **yes** | s `<` | x `'` | s `<` | x `'` | x `'` | x `\` |
+//! | JS string `"` | x `"` | x `"` | x `\` | x `"` | x `\` | x `\` | s space | x `"` | **yes** | **yes** | x `"` | s `<` | s `<` | x `"` | **yes** | x `\` |
+//! | JS string `'` before 2019 | x `'` | x `'` | x `'` | x `\` | x `\` | x `\` | x U+2028 | **yes** | x `'` | **yes** | x U+2028 | x `'` | x U+2028 | x `'` | x `'` | x `\` |
+//! | JS string `"` before 2019 | x `"` | x `"` | x `\` | x `"` | x `\` | x `\` | x U+2028 | x `"` | **yes** | **yes** | x `"` | x U+2028 | x U+2028 | x `"` | **yes** | x `\` |
+//! | JS template | x `\` | x `\` | x `\` | x `\` | x `\` | x `\` | s space | x `` ` `` | x `` ` `` | x `` ` `` | x `` ` `` | x `` ` `` | x `` ` `` | x `\` | x `` ` `` | x `\` |
+//! | CSS string `'` | x `'` | x `'` | x `'` | x `\` | x `\` | x `\` | s space | s `<` | x `'` | s `<` | **N** | x `'` | **N** | x `'` | x `'` | x `\` |
+//! | CSS string `"` | x `"` | x `"` | x `\` | x `"` | x `\` | x `\` | s space | x `"` | s `<` | s `<` | x `"` | **N** | **N** | x `"` | s `<` | x `\` |
+//! | JSON string | x `"` | x `"` | x `\` | x `"` | x `\` | x `\` | s space | x `"` | x `<` | x `'` | x `"` | x `<` | x `'` | x `"` | **yes** | x `\` |
 //!
 //! <!-- end of the table -->
 //!
@@ -98,8 +99,8 @@
 //!
 //! # Texts and buffers
 //!
-//! A buffer of [`encoded_at_most`] bytes is enough to encode any text of that length, one of [`decoded_at_most`] bytes to decode or browse it, and one as long
-//! as the text to take it. [`Refusal::NoRoom`] says what one text needs.
+//! A buffer of [`encoded_at_most`] bytes is enough to encode any text of that length (for [`AsciiQuoted`](Context::AsciiQuoted) one of
+//! [`ascii_encoded_at_most`] bytes), one of [`decoded_at_most`] bytes to decode or browse it, and one as long as the text to take it. [`Refusal::NoRoom`] says what one text needs.
 //!
 //! A text is a `&str`, or bytes: the library checks UTF-8 itself, and tells a text that was cut within its last character from a broken one.
 //!

@@ -55,6 +55,8 @@ named! {
         encode_script encode_script_to_slice ScriptRaw, "<</script" gives "<<\\/script";
     "Encodes a JSON string, inside a script element or in a JSON document; not in an attribute."
         encode_json_string encode_json_string_to_slice Json, "\n<\"" gives "\\u000A\\u003C\\\"";
+    "Encodes an attribute between quotes of either kind, in ASCII: every other character as a reference, by its shortest name or by number."
+        encode_ascii_quoted_attribute encode_ascii_quoted_attribute_to_slice AsciiQuoted, "\u{E9}\u{1F600}&" gives "&eacute;&#x1F600;&amp;";
 }
 
 named! {

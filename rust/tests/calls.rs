@@ -187,6 +187,7 @@ fn names_and_contexts() {
         encode_style_quoted_text encode_style_quoted_text_to_slice StyleQuoted;
         encode_script encode_script_to_slice ScriptRaw;
         encode_json_string encode_json_string_to_slice Json;
+        encode_ascii_quoted_attribute encode_ascii_quoted_attribute_to_slice AsciiQuoted;
     }
     are_named! { decode:
         decode_html_entities decode_html_entities_to_slice Text;
@@ -215,7 +216,7 @@ fn the_texts_tell_contexts_apart() {
         }
         seen.len()
     };
-    assert_eq!(results(false, &Context::ALL), 15);
+    assert_eq!(results(false, &Context::ALL), 16);
     assert_eq!(results(true, &Context::ALL[6..13]), 7);
 }
 

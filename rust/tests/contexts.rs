@@ -1,5 +1,5 @@
 //! Contexts by number and name, results given to the next call, and buffers that are always long enough.
-use lintelrye::{decoded_at_most, encoded_at_most, Context, Refusal, UnknownContext};
+use lintelrye::{ascii_encoded_at_most, decoded_at_most, encoded_at_most, Context, Refusal, UnknownContext};
 
 #[test]
 fn contexts_by_number() {
@@ -7,7 +7,7 @@ fn contexts_by_number() {
         assert_eq!(context as usize, number);
         assert_eq!(Context::try_from(number as u32), Ok(context));
     }
-    for number in [15, 16, 99, u32::MAX] {
+    for number in [16, 17, 99, u32::MAX] {
         assert_eq!(Context::try_from(number), Err(UnknownContext));
     }
 }
@@ -16,7 +16,7 @@ fn contexts_by_number() {
 fn contexts_by_name() {
     let names =
         "text_minimal text double_quoted single_quoted quoted safe unquoted script_single script_double script_quoted style_single style_double \
-                 style_quoted script_raw json";
+                 style_quoted script_raw json ascii_quoted";
     assert_eq!(names.split(' ').count(), Context::ALL.len());
     for (name, context) in names.split(' ').zip(Context::ALL) {
         assert_eq!(context.name(), name);
@@ -82,11 +82,14 @@ fn buffers_that_are_always_enough() {
     const ROOM: usize = encoded_at_most(3);
     assert_eq!(lintelrye::encode_quoted_attribute_to_slice("'''", &mut [0; ROOM]).map(|written| written.len()), Ok(ROOM));
     assert_eq!(lintelrye::encode_quoted_attribute_to_slice("'''", &mut [0; ROOM - 1]), Err(Refusal::NoRoom { needed: ROOM }));
+    const ASCII: usize = ascii_encoded_at_most(3);
+    assert_eq!(lintelrye::encode_ascii_quoted_attribute_to_slice("\u{25AB}", &mut [0; ASCII]).map(|written| written.len()), Ok(ASCII));
+    assert_eq!([0, 1, 2, 3, 65_536].map(ascii_encoded_at_most), [0, 7, 14, 22, 480_597]);
     assert_eq!([0, 4, 5, 9, 10].map(decoded_at_most), [0, 4, 6, 10, 12]);
     let grown = "&nGt;".repeat(20);
     let mut room = vec![0; decoded_at_most(grown.len())];
     assert_eq!(lintelrye::decode_html_entities_to_slice(grown.as_str(), &mut room).map(|written| written.len()), Ok(room.len()));
-    assert_eq!((encoded_at_most(usize::MAX), decoded_at_most(usize::MAX)), (usize::MAX, usize::MAX));
+    assert_eq!([encoded_at_most, ascii_encoded_at_most, decoded_at_most].map(|most| most(usize::MAX)), [usize::MAX; 3]);
 }
 
 #[cfg(feature = "std")]

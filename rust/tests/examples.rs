@@ -17,6 +17,7 @@ const SCRIPT_QUOTED: u32 = 9;
 const STYLE_QUOTED: u32 = 12;
 const SCRIPT_RAW: u32 = 13;
 const JSON: u32 = 14;
+const ASCII_QUOTED: u32 = 15;
 
 /// Both calls pass with this result and so many replaced places, into a buffer of 64 bytes.
 fn passes(calls: [Call; 2], context: u32, text: &[u8], replaced: u64, result: &[u8]) {
@@ -131,8 +132,8 @@ fn the_empty_text_18() {
 
 #[test]
 fn contexts_of_the_operations() {
-    let read: Vec<u32> = (0..13).chain([JSON]).collect();
-    let (all, html): (Vec<u32>, Vec<u32>) = ((0..15).collect(), (0..7).collect());
+    let read: Vec<u32> = (0..13).chain([JSON, ASCII_QUOTED]).collect();
+    let (all, html): (Vec<u32>, Vec<u32>) = ((0..16).collect(), (0..7).chain([ASCII_QUOTED]).collect());
     for (calls, contexts) in [(ENCODE, &all), (DECODE, &read), (TAKE, &read), (BROWSE, &html)] {
         for context in contexts {
             stay(calls, *context, &[b"Hall"]);

@@ -101,7 +101,8 @@ it is held beside `encode_script` on the same text, of which none ends before it
 call, and is held beside forty calls of the crate, and beside forty of our own (\"encode for a page\"). script_raw by parts is start, a part for each
 4 KiB of the text, and finish, held beside `encode_script` of the whole text. `json`, which the crate has not, is held beside its functions of
 double-quoted script strings: encode on the same text, decode, take and check beside the decoder on the script form of the same text. As the two forms
-differ in length, the crate's time there is per byte of the script form, which is the text that it reads.
+differ in length, the crate's time there is per byte of the script form, which is the text that it reads. `ascii_quoted`, which the crate has not either, is held
+beside its functions of quoted attributes on the same text; with characters above 7F hex those copy what `ascii_quoted` writes as references.
 
 ";
 
@@ -112,7 +113,7 @@ const CLASSES: &str = "\
 | 1 %, 10 %, 50 %, all | 64 KiB, of whose characters so many are special, at random places: what encode replaces in the context; for take, check, decode and browse the references or escapes that they undo (HTML decode: half common names, a quarter numbers, a quarter any names) |
 | short names | 2,000 names of 5 to 40 bytes, one call for each; about one in ten has something special |
 | forty names | the same, forty for a page, which go through the HTML seven in turn |
-| Cyrillic, CJK, emoji | 64 KiB of characters of two, three, four bytes, nothing special |
+| Cyrillic, CJK, emoji | 64 KiB of characters of two, three, four bytes, nothing special; for take and check in `ascii_quoted` the references to 8 KiB of them |
 | English | `unquoted` alone: 64 KiB of English words with the spaces between them |
 | only `<!--`, only `</script>`, only `<` | script_raw alone: 64 KiB of that piece |
 | stray & | decode and browse: 64 KiB of English words in which 1 % of the pieces are `&` or `&bogus;`, which stay |
@@ -161,10 +162,12 @@ fn beside(rows: &[Row]) -> String {
     let page = "fill_page over single calls\n\nForty names in one call over forty copying calls of encode.";
     let parts = "script_raw in parts of 4 KiB over one encode\n\nOurs over ours, on the same texts. Each of the short names is one part, and has no limit.";
     let json = "encode of json over that of script_double\n\nOurs over ours, on the same texts: both escape the same characters, json with two bytes more.";
+    let ascii = "encode of ascii_quoted over that of quoted\n\nOurs over ours, on the same ASCII texts, of which both write the same.";
     beside_copying(rows, |case| case.kind == Kind::Check, check)
         + &beside_copying(rows, |case| case.kind == Kind::Page, page)
         + &beside_copying(rows, |case| case.kind == Kind::Parts, parts)
         + &beside_copying(rows, Case::writes_json, json)
+        + &beside_copying(rows, Case::writes_ascii, ascii)
 }
 
 /// A kind of calls beside the copying call: the worst ratio of each class.

@@ -34,7 +34,8 @@ pub fn summary(rows: &[Row]) -> String {
     let beside = beside(rows, |case| case.kind == Kind::Check, "check over take, worst (* above 1.00 in plain, 0.65 in 10 %, 50 % and all)")
         + &beside(rows, |case| case.kind == Kind::Page, "fill_page over single calls (* above 1.05)")
         + &beside(rows, |case| case.kind == Kind::Parts, "script_raw in parts of 4 KiB over one encode (* above 1.25; short names are one part each)")
-        + &beside(rows, Case::writes_json, "encode of json over that of script_double (* above 1.10, in all 1.30)");
+        + &beside(rows, Case::writes_json, "encode of json over that of script_double (* above 1.10, in all 1.30)")
+        + &beside(rows, Case::writes_ascii, "encode of ascii_quoted over that of quoted (* above 1.05)");
     match rows.iter().any(|row| row.limit.is_some()) {
         true => text + &beside + &above(rows),
         false => text.replace(" (* above the limit)", "") + &beside,
@@ -42,7 +43,7 @@ pub fn summary(rows: &[Row]) -> String {
 }
 
 /// A row beside that of the copying call on the same texts: of check beside `take`, of fill_page beside its single calls, of a script by parts beside its
-/// encode, of json beside script_double.
+/// encode, of json beside script_double, of ascii_quoted beside quoted.
 pub struct Beside<'a> {
     pub row: &'a Row,
     pub copying: &'a Row,

@@ -1,11 +1,15 @@
 //! The texts of the benchmark: for every operation and context the same classes, made by a generator with a fixed seed.
 
 use compare::browser::WITHOUT_END;
-use compare::{json, Numbers, Operation, ToVec, CONTEXTS, CRATE_DECODERS, CRATE_ENCODERS};
+use compare::{ascii, json, Numbers, Operation, ToVec, CONTEXTS, CRATE_DECODERS, CRATE_ENCODERS};
 
 /// The context json, which the crate has not, and the one of the crate's that its texts are made for: both escape the same characters.
 const JSON: usize = 14;
 const SCRIPT_DOUBLE: usize = 8;
+
+/// The context ascii_quoted, which the crate has not either, and the one of the crate's that does the same to ASCII texts.
+const ASCII_QUOTED: usize = 15;
+const QUOTED: usize = 4;
 
 /// The longest text that a call takes.
 const LONGEST: usize = 65_536;
@@ -54,13 +58,12 @@ impl Case {
     }
 
     /// The crate's counterpart: its encoder or decoder of the text's context. For `take`, `check` and `browse`, which the crate does not have, its decoder;
-    /// for json that of script_double.
+    /// for json that of script_double, for ascii_quoted that of quoted.
     pub fn theirs(&self, i: usize) -> ToVec {
-        match (self.operation, self.context_of(i)) {
-            (Operation::Encode, JSON) => CRATE_ENCODERS[SCRIPT_DOUBLE],
-            (Operation::Encode, context) => CRATE_ENCODERS[context],
-            (_, JSON) => CRATE_DECODERS[SCRIPT_DOUBLE],
-            (_, context) => CRATE_DECODERS[context],
+        let context = alike(self.context_of(i));
+        match self.operation {
+            Operation::Encode => CRATE_ENCODERS[context],
+            _ => CRATE_DECODERS[context],
         }
     }
 
@@ -72,10 +75,12 @@ impl Case {
         }
     }
 
-    /// What our result must be, from what the crate makes of its text: its bytes, but where json is written those of the model.
+    /// What our result must be, from what the crate makes of its text: its bytes, but where json or ascii_quoted is written those of the model.
     pub fn expected(&self, i: usize, other: &str) -> Vec<u8> {
-        if let (Operation::Encode, JSON) = (self.operation, self.context) {
-            return json::encode(other).into_owned().into_bytes();
+        match (self.operation, self.context) {
+            (Operation::Encode, JSON) => return json::encode(other).into_owned().into_bytes(),
+            (Operation::Encode, ASCII_QUOTED) => return ascii::encode(other).into_owned().into_bytes(),
+            _ => {}
         }
         let mut output = Vec::new();
         self.theirs(i)(other, &mut output);
@@ -83,16 +88,21 @@ impl Case {
     }
 
     /// Whether these are the copying calls of the same operation on the same texts: what a check, a page and a script by parts are held beside, and
-    /// those of script_double, beside which json is held.
+    /// those of script_double, beside which json is held, and of quoted, beside which ascii_quoted is.
     pub fn is_copying_of(&self, case: &Case) -> bool {
         let kind = if case.kind == Kind::Page { Kind::Singly } else { Kind::Copying };
-        let context = if case.writes_json() { SCRIPT_DOUBLE } else { case.context };
+        let context = if case.operation == Operation::Encode { alike(case.context) } else { case.context };
         self.kind == kind && (self.operation, self.context, self.class) == (case.operation, context, case.class)
     }
 
     /// Whether json is written.
     pub fn writes_json(&self) -> bool {
         (self.operation, self.context) == (Operation::Encode, JSON)
+    }
+
+    /// Whether ascii_quoted is written, on a class whose texts are ASCII: what quoted writes too.
+    pub fn writes_ascii(&self) -> bool {
+        (self.operation, self.context) == (Operation::Encode, ASCII_QUOTED) && !["Cyrillic", "CJK", "emoji"].contains(&self.class)
     }
 
     /// The number of bytes that one pass over the texts takes: ours, the crate's two, which are over `others`, and the copy's.
@@ -114,6 +124,7 @@ impl Case {
             (Operation::Encode, 7..=9, _) => "encode script strings",
             (Operation::Encode, 10..=12, _) => "encode style strings",
             (Operation::Encode, JSON, _) => "encode json",
+            (Operation::Encode, ASCII_QUOTED, _) => "encode ascii_quoted",
             (Operation::Encode, _, _) => "encode script_raw",
             (Operation::Decode, 0..=6, _) => "decode HTML",
             (Operation::Decode, 7..=9, _) => "decode script strings",
@@ -122,10 +133,12 @@ impl Case {
             (Operation::Read, 0..=6, Kind::Check) => "check HTML",
             (Operation::Read, 7..=9, Kind::Check) => "check script strings",
             (Operation::Read, JSON, Kind::Check) => "check json",
+            (Operation::Read, ASCII_QUOTED, Kind::Check) => "check ascii_quoted",
             (Operation::Read, _, Kind::Check) => "check style strings",
             (Operation::Read, 0..=6, _) => "take HTML",
             (Operation::Read, 7..=9, _) => "take script strings",
             (Operation::Read, JSON, _) => "take json",
+            (Operation::Read, ASCII_QUOTED, _) => "take ascii_quoted",
             (Operation::Read, _, _) => "take style strings",
             (Operation::Browse, _, _) => "browse",
         }
@@ -148,6 +161,9 @@ impl Case {
         if self.writes_json() {
             return Some(if self.class == "all" { 1.3 } else { 1.1 });
         }
+        if self.writes_ascii() {
+            return Some(1.05);
+        }
         match (self.kind, self.class) {
             (Kind::Page, _) => Some(1.05),
             (Kind::Check, "plain") => Some(1.0),
@@ -158,8 +174,8 @@ impl Case {
         }
     }
 
-    /// The most that ours may take of the time of the crate after `from_utf8`; `take`, `check` and the calls for parts have no limit, and writing json is
-    /// held beside script_double alone.
+    /// The most that ours may take of the time of the crate after `from_utf8`; `take`, `check` and the calls for parts have no limit, and writing json and
+    /// ascii_quoted is held beside script_double and quoted alone.
     pub fn limit(&self) -> Option<f64> {
         if self.kind == Kind::Closing {
             return Some(if ["plain", "Cyrillic", "CJK", "emoji", "escaped plain"].contains(&self.class) { 1.5 } else { 3.0 });
@@ -175,7 +191,7 @@ impl Case {
             (Operation::Encode, 0..=6, "short names") => Some(0.9),
             (Operation::Encode, 0..=6, "Cyrillic" | "CJK" | "emoji") => Some(0.6),
             (Operation::Encode, 0..=6, _) => Some(1.3),
-            (Operation::Encode, JSON, _) => None,
+            (Operation::Encode, JSON | ASCII_QUOTED, _) => None,
             (Operation::Encode, _, _) => Some(1.5),
             (Operation::Decode, JSON, "plain") => Some(0.5),
             (Operation::Decode | Operation::Browse, _, "plain" | "stray &") => Some(1.0),
@@ -183,6 +199,15 @@ impl Case {
             (Operation::Decode | Operation::Browse, _, _) => Some(2.0),
             (Operation::Read, _, _) => None,
         }
+    }
+}
+
+/// The context of the crate that does nearly the same as this one: itself, but for the two that the crate has not.
+fn alike(context: usize) -> usize {
+    match context {
+        JSON => SCRIPT_DOUBLE,
+        ASCII_QUOTED => QUOTED,
+        _ => context,
     }
 }
 
@@ -196,10 +221,10 @@ pub fn cases() -> Vec<Case> {
     };
     add(Operation::Encode, Kind::Copying, &[0, 1, 2, 3, 4, 5, 6]);
     add(Operation::Encode, Kind::Borrowing, &[0, 1, 2, 3, 4, 5, 6]);
-    add(Operation::Encode, Kind::Copying, &[7, 8, 9, 10, 11, 12, 13, JSON]);
+    add(Operation::Encode, Kind::Copying, &[7, 8, 9, 10, 11, 12, 13, JSON, ASCII_QUOTED]);
     add(Operation::Decode, Kind::Copying, &[1, 7, 8, 9, 10, 11, 12, JSON]);
-    add(Operation::Read, Kind::Copying, &[0, 1, 2, 3, 4, 5, 6, 7, 8, 9, 10, 11, 12, JSON]);
-    add(Operation::Read, Kind::Check, &[0, 1, 2, 3, 4, 5, 6, 7, 8, 9, 10, 11, 12, JSON]);
+    add(Operation::Read, Kind::Copying, &[0, 1, 2, 3, 4, 5, 6, 7, 8, 9, 10, 11, 12, JSON, ASCII_QUOTED]);
+    add(Operation::Read, Kind::Check, &[0, 1, 2, 3, 4, 5, 6, 7, 8, 9, 10, 11, 12, JSON, ASCII_QUOTED]);
     add(Operation::Browse, Kind::Copying, &[1]);
     add(Operation::Encode, Kind::Parts, &[13]);
     all.extend([page_case(Kind::Singly), page_case(Kind::Page)]);
@@ -243,9 +268,9 @@ fn closing_cases() -> Vec<Case> {
 }
 
 /// The classes of one operation in one context. In `unquoted`, where a space is special, plain words have no spaces between them; json is written for the
-/// texts of script_double.
+/// texts of script_double, ascii_quoted for those of quoted, and what is read in ascii_quoted is its own form of a shorter text.
 fn cases_of(operation: Operation, kind: Kind, context: usize) -> Vec<Case> {
-    let numbers = &mut Numbers(if context == JSON { SCRIPT_DOUBLE } else { context } as u64);
+    let numbers = &mut Numbers(alike(context) as u64);
     let gaps = if context == 6 { [""; 6] } else { [" ", " ", " ", " ", ", ", ". "] };
     let english = words(numbers, ENGLISH, &gaps);
     let pieces = pieces(operation, context);
@@ -257,7 +282,11 @@ fn cases_of(operation: Operation, kind: Kind, context: usize) -> Vec<Case> {
     add("short names", names(numbers, &english, &pieces));
     for (class, list, gap) in [("Cyrillic", CYRILLIC, gaps[0]), ("CJK", CJK, ""), ("emoji", EMOJI, "")] {
         let text = words(numbers, list, &[gap]);
-        add(class, vec![fill(numbers, &text, &[], 0, LONGEST)]);
+        let text = match (operation, context) {
+            (Operation::Read, ASCII_QUOTED) => ascii::encode(&fill(numbers, &text, &[], 0, LONGEST / 8)).into_owned(),
+            _ => fill(numbers, &text, &[], 0, LONGEST),
+        };
+        add(class, vec![text]);
     }
     for (class, pieces) in further(operation, context) {
         add(class, vec![fill(numbers, &english, &pieces, 100, LONGEST)]);
@@ -334,7 +363,7 @@ fn special(context: usize) -> Vec<String> {
         1 => vec!["&", "<", ">"],
         2 => vec!["&", "<", ">", "\""],
         3 => vec!["&", "<", ">", "'"],
-        4 => vec!["&", "<", ">", "\"", "'"],
+        QUOTED | ASCII_QUOTED => vec!["&", "<", ">", "\"", "'"],
         5 => vec!["&", "<", ">", "\"", "'", "/"],
         6 => " |!|\"|#|$|%|&|'|(|)|*|+|,|-|.|/|:|;|<|=|>|?|@|[|\\|]|^|_|`|{|}|~|\t|\n|\u{C}|\r".split('|').chain(["|"]).collect(),
         13 => vec!["<!--", "</script>", "<"],
@@ -358,7 +387,7 @@ fn encoded(context: usize, piece: &str) -> String {
         return json::encode(piece).into_owned();
     }
     let mut output = Vec::new();
-    CRATE_ENCODERS[context](piece, &mut output);
+    CRATE_ENCODERS[alike(context)](piece, &mut output);
     String::from_utf8(output).expect("the crate's encoders write UTF-8")
 }
 

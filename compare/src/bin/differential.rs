@@ -32,6 +32,11 @@ const JSON_PIECES: &[&str] = &[
     "\\uDFFF", "\\uE000", "\\uFFFF", "\\ud83d", "\\ude00", "\\uD83D\\uDE00", "\\x3C", "D8", "0", "9", "f", "G", "\n", "\0", "\u{1F}", "\u{7F}", "\u{2028}", "\u{2029}", "\u{202A}", "\u{E9}",
     "\u{1F600}", "a", "Plain English text, with nothing in it.",
 ];
+const ASCII_PIECES: &[&str] = &[
+    "&", "<", ">", "\"", "'", "a", ";", "#", "&amp;", "&#x27;", "&#x", "&eacute;", "&#xE9;", "&#xe9;", "&#x0E9;", "&COPY;", "&copy;", "&mldr;", "&hellip;", "&nbsp;", "&Mu;", "&mu;",
+    "&#x1F600;", "&#128512;", "&EmptyVerySmallSquare;", "&#x80;", "&#x9F;", "&#xD7FF;", "&#xE000;", "&#x10FFFF;", "&#x110000;", "&nGt;", "\u{7F}", "\u{80}", "\u{85}", "\u{9F}", "\u{A0}",
+    "\u{A9}", "\u{E9}", "\u{B5}", "\u{39C}", "\u{2026}", "\u{25AB}", "\u{2028}", "\u{FFFD}", "\u{FB01}", "\u{1D538}", "\u{1F600}", "\0", "Plain English text, with nothing in it.",
+];
 const RAW_PIECES: &[&str] = &[
     "<", "!--", "/", "script", "SCRIPT", "sCrIpT", "scrip", "t", ">", " ", "\t", "\u{B}", "\u{1C}", "\u{1F}", "\r", "\\", "-", "</script", "<!--", "</", "\u{17F}cript",
     "style", "\u{E9}", "\u{1F600}", "a", "Plain English text, with nothing in it.",
@@ -145,6 +150,7 @@ impl Texts {
             0..=6 => HTML_PIECES,
             7..=12 => STRING_PIECES,
             14 => JSON_PIECES,
+            15 => ASCII_PIECES,
             _ => RAW_PIECES,
         };
         (0..self.numbers.below(10)).map(|_| *self.numbers.one_of(pieces)).collect()
@@ -163,7 +169,7 @@ impl Texts {
     /// What the encoder of this context, or of another, makes of pieces or of any characters.
     fn form(&mut self, context: u32) -> String {
         let typed = if self.numbers.below(3) == 0 { self.characters() } else { self.pieces(context) };
-        let encoder = if self.numbers.below(5) == 0 { self.numbers.below(15) as u32 } else { context % 15 };
+        let encoder = if self.numbers.below(5) == 0 { self.numbers.below(16) as u32 } else { context % 16 };
         lending_encoder(encoder)(&typed).into_owned()
     }
 
@@ -179,7 +185,7 @@ impl Texts {
                 text += &self.unicode_escapes(number);
                 continue;
             }
-            match (context < 7, self.numbers.below(6)) {
+            match (context < 7 || context == 15, self.numbers.below(6)) {
                 (true, 0..=2) => text += &format!("&{};", name),
                 (true, 3) => text += &format!("&#{}{};", zeros, number),
                 (true, 4) => text += &format!("&#x{}{:X};", zeros, number),
@@ -249,7 +255,7 @@ impl Texts {
         let count = if self.numbers.below(200) == 0 { 250 + self.numbers.below(12) } else { self.numbers.below(48) };
         let (mut text, mut fields) = (Vec::new(), Vec::new());
         for _ in 0..count {
-            let context = self.numbers.below(15) as u32;
+            let context = self.numbers.below(16) as u32;
             let part = if self.numbers.below(8) == 0 { self.text(context) } else { self.pieces(context).into_bytes() };
             fields.push(Field { context, start: text.len() as u64, length: part.len() as u64, begins: 9, answer: STALE });
             text.extend(part);
@@ -266,7 +272,7 @@ impl Texts {
                 _ => {}
             }
         }
-        let most = 6 * text.len();
+        let most = 8 * text.len();
         let room = if self.numbers.below(4) == 0 { self.numbers.below(most + 1) } else { most + self.numbers.below(64) };
         Page { text, fields, room }
     }
@@ -317,8 +323,8 @@ fn pages(model: &Model, texts: &mut Texts, count: u64) -> u64 {
 struct Run {
     model: Model,
     texts: Texts,
-    cases: [[u64; 16]; 4],
-    differ: [[u64; 16]; 4],
+    cases: [[u64; 17]; 4],
+    differ: [[u64; 17]; 4],
     passed: u64,
     broken: u64,
     cut_short: u64,
@@ -340,7 +346,7 @@ impl Run {
     /// One text in every operation that has the context; now and then in the others too, and in a context that there is not.
     fn one_text(&mut self) {
         let odd = self.texts.numbers.below(500) == 0;
-        let context = if odd { self.texts.numbers.below(24) as u32 } else { self.texts.numbers.below(15) as u32 };
+        let context = if odd { self.texts.numbers.below(24) as u32 } else { self.texts.numbers.below(16) as u32 };
         let text = self.texts.text(context);
         for operation in OPERATIONS {
             if odd || has_context(operation, context) {
@@ -358,7 +364,7 @@ impl Run {
             _ => {}
         }
         self.cross_check(operation, context, text, &outcome);
-        let slot = context.min(15) as usize;
+        let slot = context.min(16) as usize;
         self.cases[operation as usize][slot] += 1;
         let lengths = rooms(&outcome);
         let differs = [false, true].into_iter().any(|borrowing| {
@@ -396,7 +402,7 @@ impl Run {
             self.read_back += 1;
         }
         if operation == Operation::Browse && !text.contains("&#") && self.model.outcome(Operation::Decode, context, text.as_bytes()).left.1 == 0 {
-            assert!(CRATE_LENDING_DECODERS[context as usize](text).as_bytes() == outcome.result, "the model browses {:?} otherwise than decode", text);
+            assert!(CRATE_LENDING_DECODERS[0](text).as_bytes() == outcome.result, "the model browses {:?} otherwise than decode", text);
             self.as_decoded += 1;
         }
     }
@@ -421,7 +427,7 @@ impl Run {
 
     fn report(&self) {
         for operation in OPERATIONS {
-            for slot in 0..15 {
+            for slot in 0..17 {
                 let (cases, differ) = (self.cases[operation as usize][slot], self.differ[operation as usize][slot]);
                 if cases > 0 {
                     println!("{} {}: {} cases, {} differ", name(operation), context_name(slot as u32), cases, differ);
@@ -464,12 +470,35 @@ fn scripts_by_parts(texts: &mut Texts, scripts: u64) -> (u64, u64) {
     (calls, differ)
 }
 
+/// Every character once in ascii_quoted: what is written for it, and what decode, take and browse make of that. Gives how many differ.
+fn every_character(model: &Model) -> u64 {
+    let mut differ = 0;
+    for c in '\0'..=char::MAX {
+        let text = c.to_string();
+        let written = lending_encoder(15)(&text).into_owned();
+        for (operation, text) in [(Operation::Encode, &text), (Operation::Decode, &written), (Operation::Read, &written), (Operation::Browse, &written)] {
+            let outcome = model.outcome(operation, 15, text.as_bytes());
+            if operation != Operation::Encode && operation != Operation::Browse {
+                assert!(outcome.result == c.to_string().as_bytes(), "the model does not give {:?} back", c);
+            }
+            if one_call(operation, 15, text.as_bytes(), &outcome, false, outcome.result.len()).is_some() {
+                differ += 1;
+                if differ <= SHOWN as u64 {
+                    println!("differs: {} ascii_quoted, text \"{}\"", name(operation), readable(text.as_bytes()));
+                }
+            }
+        }
+    }
+    println!("every character once in ascii_quoted, by encode, decode, take and browse: {} differ", differ);
+    differ
+}
+
 fn main() {
     let options = Options::read("differential", &[], &["--cases", "--seed", "--pages"]);
     let cases = options.number("--cases", 10_000_000);
     let seed = options.number("--seed", 1);
     let texts = Texts { numbers: Numbers(seed) };
-    let mut run = Run { model: Model::new(), texts, cases: [[0; 16]; 4], differ: [[0; 16]; 4], passed: 0, broken: 0, cut_short: 0, read_back: 0, as_decoded: 0, nested: 0, shown: Vec::new() };
+    let mut run = Run { model: Model::new(), texts, cases: [[0; 17]; 4], differ: [[0; 17]; 4], passed: 0, broken: 0, cut_short: 0, read_back: 0, as_decoded: 0, nested: 0, shown: Vec::new() };
     let mut told = Instant::now();
     while run.ran() < cases {
         for _ in 0..256 {
@@ -487,7 +516,8 @@ fn main() {
     let scripts = cases / 20;
     let (calls, differ) = scripts_by_parts(&mut run.texts, scripts);
     println!("{} texts of script_raw in parts, cut at random, {} calls, {} differ: each call's answer and bytes beside the crate's encode_script, a refused call's state beside that before it", scripts, calls, differ);
-    if run.differing() + paged + differ > 0 {
+    let alone = every_character(&run.model);
+    if run.differing() + paged + differ + alone > 0 {
         std::process::exit(1);
     }
 }

@@ -7,7 +7,7 @@
 use compare::browser::WITHOUT_END;
 use compare::model::{Model, Outcome, LONGEST, PASSED};
 use compare::options::Options;
-use compare::{lending_encoder, Numbers, Operation, CONTEXTS, OPERATIONS};
+use compare::{ascii, lending_encoder, Numbers, Operation, CONTEXTS, OPERATIONS};
 use std::path::PathBuf;
 use Operation::{Browse, Decode, Encode, Read};
 
@@ -16,9 +16,10 @@ const HTML: [u32; 7] = [0, 1, 2, 3, 4, 5, 6];
 const STRINGS: [u32; 6] = [7, 8, 9, 10, 11, 12];
 const RAW: [u32; 1] = [13];
 const JSON: [u32; 1] = [14];
-const ALL: [u32; 15] = [0, 1, 2, 3, 4, 5, 6, 7, 8, 9, 10, 11, 12, 13, 14];
+const ASCII_QUOTED: [u32; 1] = [15];
+const ALL: [u32; 16] = [0, 1, 2, 3, 4, 5, 6, 7, 8, 9, 10, 11, 12, 13, 14, 15];
 /// The contexts of decode and read.
-const READ: [u32; 14] = [0, 1, 2, 3, 4, 5, 6, 7, 8, 9, 10, 11, 12, 14];
+const READ: [u32; 15] = [0, 1, 2, 3, 4, 5, 6, 7, 8, 9, 10, 11, 12, 14, 15];
 
 /// How long the output is: one short, exact and one over, or one of the three by turns.
 #[derive(Clone, Copy)]
@@ -32,7 +33,7 @@ struct List {
     model: Model,
     lines: String,
     result: Vec<u8>,
-    counts: [[u64; 16]; 4],
+    counts: [[u64; 17]; 4],
     turn: usize,
 }
 
@@ -103,7 +104,7 @@ impl List {
             self.lines.push_str(&format!("{} {} {} {}\n", operation_letters, context_letters, kind, words.join(" ")));
             for &operation in operations {
                 for &context in contexts {
-                    self.counts[operation as usize][context.min(15) as usize] += kind.len() as u64;
+                    self.counts[operation as usize][context.min(16) as usize] += kind.len() as u64;
                 }
             }
         }
@@ -292,11 +293,11 @@ fn sequences_of_bytes(list: &mut List) {
     let leads = [0x80, 0xBF, 0xC0, 0xC1, 0xC2, 0xDF, 0xE0, 0xE1, 0xEC, 0xED, 0xEE, 0xEF, 0xF0, 0xF1, 0xF3, 0xF4, 0xF5, 0xF8, 0xFC, 0xFE, 0xFF];
     let seconds = [0x00, 0x7F, 0x80, 0x8F, 0x90, 0x9F, 0xA0, 0xBF, 0xC0, 0xFF];
     for lead in leads {
-        list.cases(&[Encode], &[lead as u32 % 15], &[b'a', lead], Rooms::Turns);
+        list.cases(&[Encode], &[lead as u32 % 16], &[b'a', lead], Rooms::Turns);
         for second in seconds {
             for rest in [&[][..], &[0x80], &[0xBF, 0xBF], &[0x80, 0x7F], &[0x80, 0x80, b'a'], &[0x80, 0xC0]] {
                 let text = [&[b'a', lead, second], rest].concat();
-                list.cases(&[Encode], &[(lead as u32 + second as u32) % 15], &text, Rooms::Turns);
+                list.cases(&[Encode], &[(lead as u32 + second as u32) % 16], &text, Rooms::Turns);
             }
         }
     }
@@ -318,18 +319,18 @@ fn lengths(list: &mut List) {
         for special in [b'&', b'\'', b'<', b'\\', 0, 0x80] {
             let texts = [[&[special], before].concat(), [before, &[special]].concat(), [&letters[..length / 2], &[special], &letters[..length - length / 2 - 1]].concat()];
             for text in texts {
-                list.cases(&[Encode], &[1, 4, 6, 9, 12, 13, 14], &text, Rooms::Turns);
+                list.cases(&[Encode], &[1, 4, 6, 9, 12, 13, 14, 15], &text, Rooms::Turns);
             }
         }
         for special in ["'", "<", "\0", "\u{2028}", "\u{E9}", "\u{10000}"] {
-            list.cases(&[Encode, Read], &[0, 4, 6, 7, 9, 12, 13, 14], special.repeat(length / special.len()).as_bytes(), Rooms::Three);
+            list.cases(&[Encode, Read], &[0, 4, 6, 7, 9, 12, 13, 14, 15], special.repeat(length / special.len()).as_bytes(), Rooms::Three);
         }
         for form in ["&amp;", "&nGt;", "&#60;", "\\x3C", "\\3C ", "\\\\", "&#xD800;", "\\u003C", "\\uD83D\\uDE00"] {
             let run = form.repeat(length / form.len());
-            list.cases(&[Decode, Read, Browse], &[1, 6, 9, 12, 14], [run.as_bytes(), &letters[..length - run.len()]].concat().as_slice(), Rooms::Three);
+            list.cases(&[Decode, Read, Browse], &[1, 6, 9, 12, 14, 15], [run.as_bytes(), &letters[..length - run.len()]].concat().as_slice(), Rooms::Three);
         }
         for tail in [&[0xC3][..], &[0xC3, 0xA9], &[0xE2, 0x80], &[0xE2, 0x80, 0xA9], &[0xF0, 0x90, 0x80], &[0xF0, 0x90, 0x80, 0x80]] {
-            list.cases(&OPERATIONS, &[1, 9, 12, 14], &[&letters[..length - tail.len()], tail].concat(), Rooms::Turns);
+            list.cases(&OPERATIONS, &[1, 9, 12, 14, 15], &[&letters[..length - tail.len()], tail].concat(), Rooms::Turns);
         }
         list.cases(&OPERATIONS, &ALL, &letters, Rooms::Three);
     }
@@ -349,6 +350,31 @@ fn json_strings(list: &mut List) {
         for (before, after) in [("", ""), ("a", "b"), ("\\n\u{E9}", "\""), ("\"", "")] {
             list.cases(&[Decode, Read], &JSON, [before, &text, after].concat().as_bytes(), Rooms::Turns);
         }
+    }
+}
+
+/// ascii_quoted: every character that has a name, its neighbours of which some have none, the edges of UTF-8, and other spellings of the units.
+fn old_displays(list: &mut List) {
+    list.remark("ascii_quoted: every character that has a name, numbers, and other spellings of the same characters");
+    let mut named: Vec<char> = ascii::names().keys().copied().collect();
+    named.sort_unstable();
+    for characters in named.chunks(16) {
+        let text: String = characters.iter().collect();
+        list.cases(&[Encode], &ASCII_QUOTED, text.as_bytes(), Rooms::Turns);
+        list.cases(&[Decode, Read, Browse], &ASCII_QUOTED, encoded(15, &text).as_bytes(), Rooms::Turns);
+    }
+    let mut numbers = Numbers(SEED);
+    let edges = [0x7F, 0x80, 0x9F, 0xA0, 0x7FF, 0x800, 0xD7FF, 0xE000, 0xFFFF, 0x1_0000, 0xF_FFFF, 0x10_0000, 0x10_FFFF];
+    let any: Vec<u32> = (0..200).map(|_| 0x80 + numbers.below(0x10_FF80) as u32).collect();
+    for c in edges.into_iter().chain(0x80..0xA0).chain(any).filter_map(char::from_u32) {
+        list.cases(&[Encode, Read], &ASCII_QUOTED, c.to_string().as_bytes(), Rooms::Turns);
+        let number = c as u32;
+        for spelling in [encoded(15, &c.to_string()), format!("&#x{:x};", number), format!("&#x0{:X};", number), format!("&#X{:X};", number), format!("&#{};", number), format!("&#x{:X}", number)] {
+            list.cases(&[Decode, Read, Browse], &ASCII_QUOTED, spelling.as_bytes(), Rooms::Turns);
+        }
+    }
+    for (name, _) in html_escape::NAMED_ENTITIES.iter().step_by(7) {
+        list.cases(&[Read], &ASCII_QUOTED, &[b"&", *name, b";"].concat(), Rooms::Turns);
     }
 }
 
@@ -381,7 +407,7 @@ fn damaged(list: &mut List) {
                     _ => text.truncate(at + 1),
                 }
             }
-            let operations: &[Operation] = if context < 7 { &[Decode, Read, Browse] } else { &[Decode, Read] };
+            let operations: &[Operation] = if context < 7 || context == 15 { &[Decode, Read, Browse] } else { &[Decode, Read] };
             let operations = if context == 13 { &[Encode] } else { operations };
             list.cases(operations, &[context], &text, Rooms::Turns);
         }
@@ -390,8 +416,8 @@ fn damaged(list: &mut List) {
 
 fn main() {
     Options::read("generate", &[], &[]);
-    let mut list = List { model: Model::new(), lines: String::new(), result: Vec::new(), counts: [[0; 16]; 4], turn: 0 };
-    let sections = [characters, short_texts, names, bare_names, numbers, tags, sequences_of_bytes, lengths, json_strings, refusals, damaged];
+    let mut list = List { model: Model::new(), lines: String::new(), result: Vec::new(), counts: [[0; 17]; 4], turn: 0 };
+    let sections = [characters, short_texts, names, bare_names, numbers, tags, sequences_of_bytes, lengths, json_strings, old_displays, refusals, damaged];
     for section in sections {
         let (bytes, cases) = (list.lines.len(), list.total());
         section(&mut list);

@@ -1,28 +1,34 @@
 -- Contained: whatever is typed and whatever follows, the place takes exactly the written form, and holds the text. Once over context and place: a form is a
--- run of units, and each unit is a copied byte, a character above 7F or what a row writes, which the tests have judged.
+-- run of units, and each unit is a copied byte, a character above 7F, what a row writes or what is written by rule, which the tests have judged.
 -- Assumes nothing.
 use mathlib.Core.Bool.{Bool, not, _&&_, cond}
 use mathlib.Core.Logic.{_⊎_, inl, inr}
+use mathlib.Core.Option.{Option, none, some}
 use mathlib.Core.Path.{_≡_, refl, sym, ap, _∙_, subst}
 use mathlib.Core.List.{List, [], _∷_, _++_, append-assoc, append-nil}
 use Prim.Native.Nat.{ℕ, _<_}
 use lib.Dec.{T, leb, T-not}
-use Rattle.rules.specs.Bytes.{In, All, sameBytes}
+use Rattle.rules.specs.Bytes.{In, All, all, sameBytes}
 use Rattle.rules.specs.Moves.{Move, keep, swap, leave, stop, takes, gives, moves, through, taken, result}
 use Rattle.rules.specs.Utf8.{IsText, IsFree, substitute}
 use Rattle.rules.specs.Tables.{table, replacedChars}
 use Rattle.rules.specs.Units.{IsUnit}
 use Rattle.rules.specs.Operations.{encodeOf}
+use Rattle.rules.specs.Ascii.{byRule}
+use Rattle.rules.specs.declared.Kind.{Kind}
 use Rattle.rules.specs.declared.Context.{Context}
 use Rattle.rules.proofs.Tests.{and-left, and-right, or-cases, is-false, same-bytes}
 use Rattle.rules.proofs.Machine.{Follows, retrace, singly, taken-append, result-singly}
 use Rattle.rules.proofs.Chars.{taken-singles, char-singly}
+use Rattle.rules.proofs.Ascii.{rule-char}
+use Rattle.rules.proofs.AsciiBrowsed.{browsed, free-browsed}
 use Rattle.rules.proofs.Encoder.{encode-run, run-of, wide, table-run}
 use Rattle.places.specs.Places.{Place, placeStep}
 use Rattle.contained.proofs.Steps.{prev-free, made-first, one-byte, result-append, steady, steady-moves, leavesAt, left-there}
-use Rattle.contained.proofs.Heads.{mild-takes, quiet-keeps, char-case, tail-kept, lead-kept}
+use Rattle.contained.proofs.Heads.{mild, mild-takes, quiet, quiet-keeps, char-case, tail-kept, lead-kept}
 use Rattle.contained.proofs.Written.{meant, known, known-made}
-use Rattle.contained.proofs.Judged.{staysIn, holdsBut, copiesIn, rowHolds, rowCopied, stays-high, stays-byte, stays-row, holds-unread, holds-byte, holds-row, copies-byte, copies-row}
+use Rattle.contained.proofs.Ruled.{reads, unread-none, amp-read, rule-amp, rule-made, bytes-taken}
+use Rattle.contained.proofs.Judged.{staysIn, holdsBut, copiesIn, rowHolds, rowCopied, stays-high, stays-byte, stays-row, stays-rule, holds-unread, holds-byte, holds-row, holds-rule, copies-byte, copies-row, copies-rule}
 
 -- ---- through a run of units
 
@@ -69,7 +75,7 @@ module _ (c : Context) (p : Place) (bad : List (List ℕ)) where
         )
 
     -- A character above 7F that is copied.
-    high-held : (x : ℕ) (a r : List ℕ) → IsUnit (table c) (replacedChars c) (keep (x ∷ a)) → T (leb 0x80 x) → (asked : Type 0) → Taking asked (x ∷ a) (x ∷ a) r
+    pub high-held : (x : ℕ) (a r : List ℕ) → IsUnit c (table c) (keep (x ∷ a)) → T (leb 0x80 x) → (asked : Type 0) → Taking asked (x ∷ a) (x ∷ a) r
     high-held x a r u h asked =
         let high = stays-high c p ok in
         let f : Follows (placeStep p) (singly (x ∷ a)) r = char-singly (placeStep p) (tail-kept c p high) x a r (u .0) (λ q. lead-kept c p high q x a r u h) in (
@@ -111,7 +117,30 @@ module _ (c : Context) (p : Place) (bad : List (List ℕ)) where
           λ l. same-bytes (result (through (placeStep p) v)) v (and-right (not (known (p .references) (k, v))) (sameBytes (result (through (placeStep p) v)) v) (copied l)),
         )
 
-    pub unit-held : (u : Move) (r : List ℕ) → IsUnit (table c) (replacedChars c) u → Taking (Free u) (takes u) (gives u) r
+    -- What is written by rule.
+    rule-held : (v k r : List ℕ) → byRule c k ≡ some v → Taking (In k bad → ⊥) v k r
+    rule-held v k r e = go (p .references) refl (stays-rule c p ok k v e)
+      where
+        read : (kind : Kind) → p .references ≡ some kind → Taking (In k bad → ⊥) v k r
+        read kind q = (
+          swap v (browsed k) ∷ [],
+          (λ n. made-first p n (swap v (browsed k)) r (rule-made c p kind q k v e r)),
+          append-nil v,
+          (λ h f. append-nil (browsed k) ∙ free-browsed k (rule-char c k v e .0) (λ i. f (holds-rule bad c p h k v e .1 k i))),
+          λ l. absurd (amp-read p kind q (rule-amp c k v e .0) (subst (λ (v : List ℕ). T (all (quiet p) v)) (rule-amp c k v e .1) (copies-rule c p l k v e))),
+        )
+
+        passed : p .references ≡ none → T (all (mild p) v) → Taking (In k bad → ⊥) v k r
+        passed q m =
+            let (ms, f, t, w) = bytes-taken p v r m in
+            (ms, f, t, (λ h f. absurd (unread-none p q (holds-rule bad c p h k v e .0))), λ l. w (copies-rule c p l k v e))
+
+        go : (o : Option Kind) → p .references ≡ o → T (reads p) ⊎ T (all (mild p) v) → Taking (In k bad → ⊥) v k r
+        go (some kind) q t = read kind q
+        go none q (inl t) = absurd (unread-none p q t)
+        go none q (inr m) = passed q m
+
+    pub unit-held : (u : Move) (r : List ℕ) → IsUnit c (table c) u → Taking (Free u) (takes u) (gives u) r
     unit-held (keep []) r u = ([], (λ q. prev-free p q 0 r), refl, (λ h f. refl), λ k. refl)
     unit-held (keep (x ∷ a)) r u = go (char-case x a (u .0))
       where
@@ -120,11 +149,12 @@ module _ (c : Context) (p : Place) (bad : List (List ℕ)) where
             subst (λ (b : List ℕ). Taking (In (x ∷ b) bad → ⊥) (x ∷ b) (x ∷ b) r) (sym (l .1))
             (byte-held x r (l .0) (subst (λ (b : List ℕ). In (x ∷ b) (replacedChars c) → ⊥) (l .1) (u .1)))
         go (inr h) = high-held x a r u h (In (x ∷ a) bad → ⊥)
-    unit-held (swap v k) r i = row-held v k r i
+    unit-held (swap v k) r (inl i) = row-held v k r i
+    unit-held (swap v k) r (inr e) = rule-held v k r e
     unit-held (leave x a) r u = absurd u
     unit-held (stop w) r u = absurd u
 
-    run-held : (us : List Move) (r : List ℕ) → All (IsUnit (table c) (replacedChars c)) us → Taking (All Free us) (taken us) (result us) r
+    run-held : (us : List Move) (r : List ℕ) → All (IsUnit c (table c)) us → Taking (All Free us) (taken us) (result us) r
     run-held [] r g = ([], (λ q. prev-free p q 0 r), refl, (λ h f. refl), λ k. refl)
     run-held (u ∷ us) r g =
         let (ms, e, t, w, y) = unit-held u (taken us ++ r) (g .0) in

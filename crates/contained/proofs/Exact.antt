@@ -1,30 +1,36 @@
 -- Every text, with no exception: what a place holds of a form is the text as the place's own input stage leaves it (CR LF and CR as LF, NUL as U+FFFD or
--- dropped), where the context copies what that stage changes and the end begins with no byte that it looks for.
+-- dropped), where the context copies what that stage changes and the end begins with no byte that it looks for. Of what is written by rule the text has the
+-- character that a browser takes it for.
 -- Assumes nothing.
 use mathlib.Core.Bool.{Bool, true, false, not, _&&_, _||_}
 use mathlib.Core.Logic.{_⊎_, inl, inr}
-use mathlib.Core.Option.{some}
+use mathlib.Core.Option.{Option, none, some}
 use mathlib.Core.Path.{_≡_, refl, sym, ap, _∙_, subst}
-use mathlib.Core.List.{List, [], _∷_, _++_, append-assoc, append-nil}
+use mathlib.Core.List.{List, [], _∷_, _++_, map, append-assoc, append-nil}
 use Prim.Native.Nat.{ℕ, _<_}
-use lib.Dec.{T, leb, ltb, eqb→eq, T-not}
+use lib.Dec.{T, eqb, leb, ltb, eqb→eq, T-not}
 use lib.ListN.{take}
-use Rattle.rules.specs.Bytes.{In, All, all, only, fits, oneOf}
+use Rattle.rules.specs.Bytes.{In, All, all, only, join, fits, oneOf}
 use Rattle.rules.specs.Moves.{Move, keep, swap, leave, stop, takes, gives, moves, through, taken, result}
-use Rattle.rules.specs.Utf8.{IsText}
+use Rattle.rules.specs.Utf8.{IsChar}
 use Rattle.rules.specs.Tables.{Row, key, value, table, replacedChars}
 use Rattle.rules.specs.Units.{IsUnit}
 use Rattle.rules.specs.Operations.{encodeOf}
 use Rattle.places.specs.Places.{Effect, leaves, means, Entry, Place, entryAt, act, actOn, refers, placeStep, single, stage}
+use Rattle.rules.specs.Ascii.{byRule}
+use Rattle.rules.specs.declared.Kind.{Kind}
 use Rattle.rules.specs.declared.Context.{Context}
-use Rattle.rules.proofs.Tests.{and-left, and-right, and-both, or-cases, or-right, is-false, all-in, in-same}
+use Rattle.rules.proofs.Tests.{and-left, and-right, and-both, or-cases, or-right, is-false, all-in, any-in, in-same}
 use Rattle.rules.proofs.Machine.{singly, result-singly}
 use Rattle.rules.proofs.Chars.{isTail, char-tails}
-use Rattle.rules.proofs.Encoder.{encode-run, table-run}
-use Rattle.contained.proofs.Steps.{prev-free, one-byte, result-append, leavesAt, left-there}
-use Rattle.contained.proofs.Heads.{headHas, headsSingle, head-has, mild, mild-takes, quiet, quiet-keeps, no-amp, asciiSet, above, high-apart, char-case}
-use Rattle.contained.proofs.Judged.{among, staysIn, holdsBut, stays-byte}
-use Rattle.contained.proofs.Contained.{unit-held}
+use Rattle.rules.proofs.AsciiBrowsed.{browsed}
+use Rattle.rules.proofs.Encoder.{encode-run, key-ruleless, unit-of}
+use Rattle.contained.specs.Matrix.{heldAs}
+use Rattle.contained.proofs.Steps.{prev-free, made-first, one-byte, result-append, leavesAt, left-there}
+use Rattle.contained.proofs.Heads.{headHas, headsSingle, head-has, mild, mild-takes, quiet, quiet-keeps, no-amp, asciiSet, high-apart, char-case}
+use Rattle.contained.proofs.Ruled.{whereRuled, where-ruled, rule-amp, unread-none, rule-made, rule-browsed}
+use Rattle.contained.proofs.Judged.{among, staysIn, holdsBut, stays-byte, holds-rule}
+use Rattle.contained.proofs.Contained.{high-held, unit-held}
 use Rattle.contained.proofs.Begins.{to-not}
 
 -- ---- the same byte, before the same or another text
@@ -102,11 +108,15 @@ apartFrom set (b ∷ s) = not (oneOf set b)
 abbrev apartRow : List ℕ → Row → Bool
 apartRow set e = apartFrom set (key e) && apartFrom set (value e)
 
+-- The set is of ASCII bytes other than `&`, with which begins what is written by rule.
+abbrev apartRule : Context → List ℕ → Bool
+apartRule c set = whereRuled c (asciiSet set && not (oneOf set 38))
+
 -- An entry of the input stage looks at most one byte ahead, for a byte that the context copies and that no row and no end begins with.
 abbrev looksAhead : Context → List ℕ → List (List ℕ) → Bool
 looksAhead c end [] = false
 looksAhead c end (set ∷ []) = true
-looksAhead c end (set ∷ next ∷ []) = apartFrom next end && all (apartRow next) (table c)
+looksAhead c end (set ∷ next ∷ []) = apartFrom next end && (all (apartRow next) (table c) && apartRule c next)
 looksAhead c end (set ∷ next ∷ more ∷ ps) = false
 
 abbrev entryLooks : Context → List ℕ → Entry → Bool
@@ -120,9 +130,9 @@ stageKeeps p b = leb 0x80 b || quiet (stage p) b
 abbrev rowKept : List (List ℕ) → Place → Row → Bool
 rowKept bad p e = not (among bad (key e)) && all (stageKeeps p) (key e)
 
--- The exceptions are ASCII, the rows are of none of them, and the input stage looks at nothing else in the form than in the text.
+-- The rows are of no exception, and the input stage looks at nothing else in the form than in the text.
 abbrev pub exactIn : List (List ℕ) → Context → Place → List ℕ → Bool
-exactIn bad c p end = all asciiSet bad && (all (rowKept bad p) (table c) && (all (entryLooks c end) (p .entries) && lowHeads p))
+exactIn bad c p end = all (rowKept bad p) (table c) && (all (entryLooks c end) (p .entries) && lowHeads p)
 
 module _ (bad : List (List ℕ)) (c : Context) (p : Place) (end : List ℕ) (ok : T (staysIn c p)) (holding : T (holdsBut bad c p)) (exactly : T (exactIn bad c p end)) where
   abbrev rowsKept : Bool
@@ -131,62 +141,81 @@ module _ (bad : List (List ℕ)) (c : Context) (p : Place) (end : List ℕ) (ok 
   abbrev entriesLook : Bool
   entriesLook = all (entryLooks c end) (p .entries)
 
-  ok-bad : T (all asciiSet bad)
-  ok-bad = and-left (all asciiSet bad) (rowsKept && (entriesLook && lowHeads p)) exactly
-
-  ok-rest : T (rowsKept && (entriesLook && lowHeads p))
-  ok-rest = and-right (all asciiSet bad) (rowsKept && (entriesLook && lowHeads p)) exactly
-
   ok-rows : T rowsKept
-  ok-rows = and-left rowsKept (entriesLook && lowHeads p) ok-rest
+  ok-rows = and-left rowsKept (entriesLook && lowHeads p) exactly
 
   ok-entries : T entriesLook
-  ok-entries = and-left entriesLook (lowHeads p) (and-right rowsKept (entriesLook && lowHeads p) ok-rest)
+  ok-entries = and-left entriesLook (lowHeads p) (and-right rowsKept (entriesLook && lowHeads p) exactly)
 
   ok-heads : T (lowHeads p)
-  ok-heads = and-right entriesLook (lowHeads p) (and-right rowsKept (entriesLook && lowHeads p) ok-rest)
+  ok-heads = and-right entriesLook (lowHeads p) (and-right rowsKept (entriesLook && lowHeads p) exactly)
+
+  -- The text that a run gives, with what a browser takes each character for.
+  abbrev held : List Move → List ℕ
+  held us = join (map (λ (u : Move). heldAs c (gives u)) us)
+
+  plain-held : (a : List ℕ) → byRule c a ≡ none → heldAs c a ≡ a
+  plain-held a e = ap (λ (o : Option (List ℕ)). elim o [ none ↦ a | some v ↦ browsed a ]) e
+
+  row-plain : (v k : List ℕ) → In (k, v) (table c) → heldAs c k ≡ k
+  row-plain v k i = plain-held k (key-ruleless c (k, v) i)
+
+  rule-held : (v k : List ℕ) → byRule c k ≡ some v → heldAs c k ≡ browsed k
+  rule-held v k e = ap (λ (o : Option (List ℕ)). elim o [ none ↦ k | some v ↦ browsed k ]) e
 
   -- What stands next is one of the set in the form exactly if it is in the text.
-  next-same : (next : List ℕ) → T (apartFrom next end) → T (all (apartRow next) (table c)) → (r : List ℕ)
-      → (us : List Move) → All (IsUnit (table c) (replacedChars c)) us → fits oneOf (next ∷ []) (taken us ++ (end ++ r)) ≡ fits oneOf (next ∷ []) (result us)
-  next-same next a b r [] g = not-next end a
-    where
-      not-next : (s : List ℕ) → T (apartFrom next s) → fits oneOf (next ∷ []) (s ++ r) ≡ false
-      not-next [] t = absurd t
-      not-next (y ∷ s) t = is-false (oneOf next y && true) (λ u. T-not (oneOf next y) t (and-left (oneOf next y) true u))
-  next-same next a b r (keep [] ∷ us) g = next-same next a b r us (g .1)
-  next-same next a b r (keep (y ∷ s) ∷ us) g = refl
-  next-same next a b r (leave x a′ ∷ us) g = absurd (g .0)
-  next-same next a b r (stop w ∷ us) g = absurd (g .0)
-  next-same next a b r (swap v k ∷ us) g =
-      let t = all-in (apartRow next) (table c) b (k, v) (g .0) in
-      not-next v (taken us ++ (end ++ r)) (taken us) (and-right (apartFrom next k) (apartFrom next v) t) ∙ sym (is-next k (result us) (and-left (apartFrom next k) (apartFrom next v) t))
-    where
-      is-next : (s w : List ℕ) → T (apartFrom next s) → fits oneOf (next ∷ []) (s ++ w) ≡ false
-      is-next [] w t = absurd t
-      is-next (y ∷ s) w t = is-false (oneOf next y && true) (λ u. T-not (oneOf next y) t (and-left (oneOf next y) true u))
+  module _ (next : List ℕ) (a : T (apartFrom next end)) (b : T (all (apartRow next) (table c))) (d : T (apartRule c next)) where
+    not-next : (s w : List ℕ) → T (apartFrom next s) → fits oneOf (next ∷ []) (s ++ w) ≡ false
+    not-next [] w t = absurd t
+    not-next (y ∷ s) w t = is-false (oneOf next y && true) (λ u. T-not (oneOf next y) t (and-left (oneOf next y) true u))
 
-      not-next : (s w z : List ℕ) → T (apartFrom next s) → fits oneOf (next ∷ []) ((s ++ z) ++ (end ++ r)) ≡ false
-      not-next [] w z t = absurd t
-      not-next (y ∷ s) w z t = is-false (oneOf next y && true) (λ u. T-not (oneOf next y) t (and-left (oneOf next y) true u))
+    -- Neither what is written nor what it stands for begins with one of the set.
+    both-apart : (v k s u r : List ℕ) → T (apartFrom next v) → T (apartFrom next k) → fits oneOf (next ∷ []) ((v ++ s) ++ (end ++ r)) ≡ fits oneOf (next ∷ []) (k ++ u)
+    both-apart v k s u r t w = ap (fits oneOf (next ∷ [])) (append-assoc v s (end ++ r)) ∙ not-next v (s ++ (end ++ r)) t ∙ sym (not-next k u w)
 
-  all-agree : (x : ℕ) (us : List Move) (r : List ℕ) → All (IsUnit (table c) (replacedChars c)) us → (es : List Entry)
-      → T (all (entryLooks c end) es) → All (Agrees x (taken us ++ (end ++ r)) (result us)) es
+    rule-apart : (v k : List ℕ) → byRule c k ≡ some v → T (apartFrom next v) × T (apartFrom next (browsed k))
+    rule-apart v k e =
+        let t = where-ruled c (asciiSet next && not (oneOf next 38)) d k v e in
+        let (s, q) = rule-amp c k v e in
+        let (x, u, w, high, tails) = rule-browsed c k v e in (
+          subst (λ (v : List ℕ). T (apartFrom next v)) (sym q) (and-right (asciiSet next) (not (oneOf next 38)) t),
+          subst (λ (k : List ℕ). T (apartFrom next k)) (sym w) (to-not (oneOf next x) (high-apart next x (and-left (asciiSet next) (not (oneOf next 38)) t) high)),
+        )
+
+    next-same : (r : List ℕ) (us : List Move) → All (IsUnit c (table c)) us → fits oneOf (next ∷ []) (taken us ++ (end ++ r)) ≡ fits oneOf (next ∷ []) (held us)
+    next-same r [] g = not-next end r a
+    next-same r (keep [] ∷ us) g = next-same r us (g .1) ∙ ap (λ (s : List ℕ). fits oneOf (next ∷ []) (s ++ held us)) (sym (plain-held [] (g .0 .2)))
+    next-same r (keep (y ∷ s) ∷ us) g = ap (λ (t : List ℕ). fits oneOf (next ∷ []) (t ++ held us)) (sym (plain-held (y ∷ s) (g .0 .2)))
+    next-same r (leave x w ∷ us) g = absurd (g .0)
+    next-same r (stop w ∷ us) g = absurd (g .0)
+    next-same r (swap v k ∷ us) (inl i, g) =
+        let t = all-in (apartRow next) (table c) b (k, v) i in
+        both-apart v k (taken us) (held us) r (and-right (apartFrom next k) (apartFrom next v) t) (and-left (apartFrom next k) (apartFrom next v) t)
+        ∙ ap (λ (s : List ℕ). fits oneOf (next ∷ []) (s ++ held us)) (sym (row-plain v k i))
+    next-same r (swap v k ∷ us) (inr e, g) =
+        both-apart v (browsed k) (taken us) (held us) r (rule-apart v k e .0) (rule-apart v k e .1)
+        ∙ ap (λ (s : List ℕ). fits oneOf (next ∷ []) (s ++ held us)) (sym (rule-held v k e))
+
+  all-agree : (x : ℕ) (us : List Move) (r : List ℕ) → All (IsUnit c (table c)) us → (es : List Entry)
+      → T (all (entryLooks c end) es) → All (Agrees x (taken us ++ (end ++ r)) (held us)) es
   all-agree x us r g [] t = tt
   all-agree x us r g (e ∷ es) t = (
     one (or-cases (not (single (e .1))) (looksAhead c end (e .0)) (and-left (entryLooks c end e) (all (entryLooks c end) es) t)),
     all-agree x us r g es (and-right (entryLooks c end e) (all (entryLooks c end) es) t),
   )
     where
-      ahead : (ps : List (List ℕ)) → T (looksAhead c end ps) → fits oneOf ps (x ∷ (taken us ++ (end ++ r))) ≡ fits oneOf ps (x ∷ result us)
+      ahead : (ps : List (List ℕ)) → T (looksAhead c end ps) → fits oneOf ps (x ∷ (taken us ++ (end ++ r))) ≡ fits oneOf ps (x ∷ held us)
       ahead [] l = absurd l
       ahead (set ∷ []) l = refl
-      ahead (set ∷ next ∷ []) l = ap (λ (b : Bool). oneOf set x && b)
-          (next-same next (and-left (apartFrom next end) (all (apartRow next) (table c)) l)
-          (and-right (apartFrom next end) (all (apartRow next) (table c)) l) r us g)
+      ahead (set ∷ next ∷ []) l =
+          let rowsApart = all (apartRow next) (table c) in
+          let written = and-right (apartFrom next end) (rowsApart && apartRule c next) l in
+          ap (λ (b : Bool). oneOf set x && b)
+          (next-same next (and-left (apartFrom next end) (rowsApart && apartRule c next) l) (and-left rowsApart (apartRule c next) written)
+          (and-right rowsApart (apartRule c next) written) r us g)
       ahead (set ∷ next ∷ more ∷ ps) l = absurd l
 
-      one : T (not (single (e .1))) ⊎ T (looksAhead c end (e .0)) → Agrees x (taken us ++ (end ++ r)) (result us) e
+      one : T (not (single (e .1))) ⊎ T (looksAhead c end (e .0)) → Agrees x (taken us ++ (end ++ r)) (held us) e
       one (inl n) s = absurd (T-not (single (e .1)) n s)
       one (inr l) s = ahead (e .0) l
 
@@ -207,20 +236,20 @@ module _ (bad : List (List ℕ)) (c : Context) (p : Place) (end : List ℕ) (ok 
       (ms : List Move) × ((q : ℕ) → moves (placeStep p) q 0 (form ++ (end ++ r)) ≡ ms ++ moves (placeStep p) 0 0 (end ++ r)) × (result ms ≡ result (through (placeStep (stage p)) text))
 
   -- A plain ASCII byte.
-  byte-exact : (x : ℕ) (us : List Move) (r : List ℕ) → x < 128 → (In (x ∷ []) (replacedChars c) → ⊥) → All (IsUnit (table c) (replacedChars c)) us → Exact (taken us) (result us) r → Exact (x ∷ taken us) (x ∷ result us) r
+  byte-exact : (x : ℕ) (us : List Move) (r : List ℕ) → x < 128 → (In (x ∷ []) (replacedChars c) → ⊥) → All (IsUnit c (table c)) us → Exact (taken us) (held us) r → Exact (x ∷ taken us) (x ∷ held us) r
   byte-exact x us r l n g ih =
       let (ms, f, e) = ih in
       let s = taken us ++ (end ++ r) in
       let m = placeStep p 0 (x ∷ s) in
-      let m′ = placeStep (stage p) 0 (x ∷ result us) in
+      let m′ = placeStep (stage p) 0 (x ∷ held us) in
       let mi = stays-byte c p ok x l n in
       let same : gives m ≡ gives m′ =
       ap gives (no-amp p 0 x s (T-not (refers (p .references) x) (and-left (not (refers (p .references) x)) (headsSingle (p .entries) x) mi)))
-      ∙ same-given (p .entries) x s (result us) (and-right (not (refers (p .references) x)) (headsSingle (p .entries) x) mi) (all-agree x us r g (p .entries) ok-entries)
-      ∙ sym (ap gives (no-amp (stage p) 0 x (result us) (λ a. a))) in (
+      ∙ same-given (p .entries) x s (held us) (and-right (not (refers (p .references) x)) (headsSingle (p .entries) x) mi) (all-agree x us r g (p .entries) ok-entries)
+      ∙ sym (ap gives (no-amp (stage p) 0 x (held us) (λ a. a))) in (
         m ∷ ms,
         (λ q. one-byte p q x s (mild-takes p 0 x s mi) ∙ ap (λ (ns : List Move). m ∷ ns) (f 0)),
-        (λ i. same i ++ e i) ∙ sym (ap result (one-byte (stage p) 0 x (result us) (mild-takes (stage p) 0 x (result us) (only-mild x)))),
+        (λ i. same i ++ e i) ∙ sym (ap result (one-byte (stage p) 0 x (held us) (mild-takes (stage p) 0 x (held us) (only-mild x)))),
       )
 
   -- What is taken and held as it should be, and what the stage keeps.
@@ -248,36 +277,74 @@ module _ (bad : List (List ℕ)) (c : Context) (p : Place) (end : List ℕ) (ok 
       go (inl h) = quiet-high p ok-heads y h
       go (inr q) = q
 
-  run-exact : (us : List Move) (r : List ℕ) → All (IsUnit (table c) (replacedChars c)) us → Exact (taken us) (result us) r
-  run-exact [] r g = ([], (λ q. prev-free p q 0 (end ++ r)), refl)
-  run-exact (keep [] ∷ us) r g = run-exact us r (g .1)
-  run-exact (leave x a ∷ us) r g = absurd (g .0)
-  run-exact (stop w ∷ us) r g = absurd (g .0)
-  run-exact (keep (x ∷ a) ∷ us) r g = go (char-case x a (g .0 .0)) (run-exact us r (g .1))
-    where
-      go : ((x < 128) × (a ≡ [])) ⊎ T (leb 0x80 x) → Exact (taken us) (result us) r → Exact (x ∷ (a ++ taken us)) (x ∷ (a ++ result us)) r
-      go (inl l) ih =
-          subst (λ (b : List ℕ). Exact (x ∷ (b ++ taken us)) (x ∷ (b ++ result us)) r) (sym (l .1))
-          (byte-exact x us r (l .0) (subst (λ (b : List ℕ). In (x ∷ b) (replacedChars c) → ⊥) (l .1) (g .0 .1)) (g .1) ih)
-      go (inr h) ih =
-          let (ms, f, t, w, y) = unit-held c p bad ok (keep (x ∷ a)) (taken us ++ (end ++ r)) (g .0) in
-          kept-exact (x ∷ a) (x ∷ a) (taken us) (result us) r ms f (w holding (λ i. high-bad i))
-          (and-both (quiet (stage p) x) (all (quiet (stage p)) a) (quiet-high p ok-heads x h) (tails-quiet a (char-tails x a (g .0 .0)))) ih
-        where
-          high-bad : In (x ∷ a) bad → ⊥
-          high-bad i = above x h (and-left (ltb x 128) (all (λ (b : ℕ). ltb b 128) a) (all-in asciiSet bad ok-bad (x ∷ a) i))
-  run-exact (swap v k ∷ us) r g =
-      let (ms, f, t, w, y) = unit-held c p bad ok (swap v k) (taken us ++ (end ++ r)) (g .0) in
-      let row = all-in (rowKept bad p) (table c) ok-rows (k, v) (g .0) in
-      kept-exact v k (taken us) (result us) r ms f
-      (w holding (λ i. T-not (among bad k) (and-left (not (among bad k)) (all (stageKeeps p) k) row) (in-same k bad i)))
-      (key-quiet k (and-right (not (among bad k)) (all (stageKeeps p) k) row)) (run-exact us r (g .1))
+  -- What begins above 7F and goes on with bytes 80 to BF.
+  high-quiet : (x : ℕ) (a : List ℕ) → T (leb 0x80 x) → T (all isTail a) → T (all (quiet (stage p)) (x ∷ a))
+  high-quiet x a h t = and-both (quiet (stage p) x) (all (quiet (stage p)) a) (quiet-high p ok-heads x h) (tails-quiet a t)
 
-  -- Of every text the place holds what its input stage makes of it.
-  pub held-exactly : T (leavesAt p end) → (s : List ℕ) → IsText s → (r : List ℕ) → result (through (placeStep p) (encodeOf c s ++ (end ++ r))) ≡ result (through (placeStep (stage p)) s)
-  held-exactly l s t r =
-      let (cs, h, e) = t in
-      let (us, g, q) = table-run c cs h in
-      let (ms, f, w) = run-exact us r g in
-      ap (λ (a : List ℕ). result (through (placeStep p) (a ++ (end ++ r)))) (ap (encodeOf c) (e ∙ q) ∙ encode-run c us g)
-      ∙ ap result (f 0 ∙ ap (λ (ns : List Move). ms ++ ns) (left-there p end r l) ∙ append-nil ms) ∙ w ∙ ap (λ (a : List ℕ). result (through (placeStep (stage p)) a)) (sym (e ∙ q))
+  -- The unit of a character, before those of the text behind it.
+  abbrev Next : Move → Type 0
+  Next u = (us : List Move) (r : List ℕ) → All (IsUnit c (table c)) us → Exact (taken us) (held us) r → Exact (takes u ++ taken us) (heldAs c (gives u) ++ held us) r
+
+  -- Where the character is held as k.
+  as-held : (a b k : List ℕ) (us : List Move) (r : List ℕ) → heldAs c b ≡ k → Exact (a ++ taken us) (k ++ held us) r → Exact (a ++ taken us) (heldAs c b ++ held us) r
+  as-held a b k us r e = subst (λ (s : List ℕ). Exact (a ++ taken us) (s ++ held us) r) (sym e)
+
+  row-exact : (v k : List ℕ) → In (k, v) (table c) → Next (swap v k)
+  row-exact v k i us r g ih =
+      let (ms, f, t, w, y) = unit-held c p bad ok (swap v k) (taken us ++ (end ++ r)) (inl i) in
+      let row = all-in (rowKept bad p) (table c) ok-rows (k, v) i in
+      as-held v k k us r (row-plain v k i)
+      (kept-exact v k (taken us) (held us) r ms f
+      (w holding (λ j. T-not (among bad k) (and-left (not (among bad k)) (all (stageKeeps p) k) row) (in-same k bad j)))
+      (key-quiet k (and-right (not (among bad k)) (all (stageKeeps p) k) row)) ih)
+
+  rule-exact : (v k : List ℕ) → byRule c k ≡ some v → Next (swap v k)
+  rule-exact v k e us r g ih =
+      let (x, a, w, high, tails) = rule-browsed c k v e in
+      as-held v k (browsed k) us r (rule-held v k e)
+      (kept-exact v (browsed k) (taken us) (held us) r (swap v (browsed k) ∷ []) (read (p .references) refl) (append-nil (browsed k))
+      (subst (λ (s : List ℕ). T (all (quiet (stage p)) s)) (sym w) (high-quiet x a high tails)) ih)
+    where
+      read : (o : Option Kind) → p .references ≡ o → (q : ℕ) → moves (placeStep p) q 0 (v ++ (taken us ++ (end ++ r))) ≡ swap v (browsed k) ∷ moves (placeStep p) 0 0 (taken us ++ (end ++ r))
+      read (some kind) o q = made-first p q (swap v (browsed k)) (taken us ++ (end ++ r)) (rule-made c p kind o k v e (taken us ++ (end ++ r)))
+      read none o q = absurd (unread-none p o (holds-rule bad c p holding k v e .0))
+
+  char-exact : (x : ℕ) (a : List ℕ) → IsUnit c (table c) (keep (x ∷ a)) → Next (keep (x ∷ a))
+  char-exact x a u us r g ih = as-held (x ∷ a) (x ∷ a) (x ∷ a) us r (plain-held (x ∷ a) (u .2)) (go (char-case x a (u .0)))
+    where
+      go : ((x < 128) × (a ≡ [])) ⊎ T (leb 0x80 x) → Exact (x ∷ (a ++ taken us)) (x ∷ (a ++ held us)) r
+      go (inl l) =
+          subst (λ (b : List ℕ). Exact (x ∷ (b ++ taken us)) (x ∷ (b ++ held us)) r) (sym (l .1))
+          (byte-exact x us r (l .0) (subst (λ (b : List ℕ). In (x ∷ b) (replacedChars c) → ⊥) (l .1) (u .1)) g ih)
+      go (inr h) =
+          let (ms, f, t, w, y) = high-held c p bad ok x a (taken us ++ (end ++ r)) u h (Unit {0}) in
+          kept-exact (x ∷ a) (x ∷ a) (taken us) (held us) r ms f (w holding tt) (high-quiet x a h (char-tails x a (u .0))) ih
+
+  unit-exact : (u : Move) → IsUnit c (table c) u → Next u
+  unit-exact (keep []) u = λ us r g ih. as-held [] [] [] us r (plain-held [] (u .2)) ih
+  unit-exact (keep (x ∷ a)) u = char-exact x a u
+  unit-exact (swap v k) (inl i) = row-exact v k i
+  unit-exact (swap v k) (inr e) = rule-exact v k e
+  unit-exact (leave x a) u = absurd u
+  unit-exact (stop w) u = absurd u
+
+  run-exact : (us : List Move) (r : List ℕ) → All (IsUnit c (table c)) us → Exact (taken us) (held us) r
+  run-exact [] r g = ([], (λ q. prev-free p q 0 (end ++ r)), refl)
+  run-exact (u ∷ us) r g = unit-exact u (g .0) us r (g .1) (run-exact us r (g .1))
+
+  -- The units of some characters, with what these are held as.
+  units-held : (cs : List (List ℕ)) → All IsChar cs → (us : List Move) × All (IsUnit c (table c)) us × (join cs ≡ result us) × (held us ≡ join (map (heldAs c) cs))
+  units-held [] h = ([], tt, refl, refl)
+  units-held (a ∷ cs) h =
+      let (u, i, e) = unit-of c a (h .0) in
+      let (us, g, q, w) = units-held cs (h .1) in
+      (u ∷ us, (i, g), (λ i. sym e i ++ q i), λ i. heldAs c (e i) ++ w i)
+
+  -- Of every text the place holds what its input stage makes of it, each character as a browser takes it.
+  pub held-exactly : T (leavesAt p end) → (cs : List (List ℕ)) → All IsChar cs → (r : List ℕ)
+      → result (through (placeStep p) (encodeOf c (join cs) ++ (end ++ r))) ≡ result (through (placeStep (stage p)) (join (map (heldAs c) cs)))
+  held-exactly l cs h r =
+      let (us, g, q, w) = units-held cs h in
+      let (ms, f, e) = run-exact us r g in
+      ap (λ (a : List ℕ). result (through (placeStep p) (a ++ (end ++ r)))) (ap (encodeOf c) q ∙ encode-run c us g)
+      ∙ ap result (f 0 ∙ ap (λ (ns : List Move). ms ++ ns) (left-there p end r l) ∙ append-nil ms) ∙ e ∙ ap (λ (a : List ℕ). result (through (placeStep (stage p)) a)) w

@@ -188,7 +188,7 @@ module _ (c : Context) (p : Place) (ok : T (headsApart c p)) where
           T-not (isTail z) (all-in (λ (b : ℕ). not (isTail b)) set (and-left (noTail set) (asciiSet set || any (exact (set ∷ ps)) (replacedChars c)) h) z i)
           (subst (λ (w : ℕ). T (isTail w)) (eqb→eq y z e) t)
 
-  pub lead-kept : (q x : ℕ) (a r : List ℕ) → IsUnit (table c) (replacedChars c) (keep (x ∷ a)) → T (leb 0x80 x) → placeStep p q (x ∷ (a ++ r)) ≡ keep (x ∷ [])
+  pub lead-kept : (q x : ℕ) (a r : List ℕ) → IsUnit c (table c) (keep (x ∷ a)) → T (leb 0x80 x) → placeStep p q (x ∷ (a ++ r)) ≡ keep (x ∷ [])
   lead-kept q x a r u h = none-kept p q x (a ++ r) (high-amp (p .references) x h) (λ e i f. go (e .0) (entry-apart e i) f)
     where
       go : (ps : List (List ℕ)) → T (headApart c ps) → T (fits oneOf ps (x ∷ (a ++ r))) → ⊥
@@ -202,4 +202,4 @@ module _ (c : Context) (p : Place) (ok : T (headsApart c p)) where
           cases (inl l) = high-apart set x l h (and-left (oneOf set x) (fits oneOf ps (a ++ r)) f)
           cases (inr l) =
               let (b, i, e) = any-in (exact (set ∷ ps)) (replacedChars c) l in
-              bar-stops key (table c) (replacedChars c) (keys-code c) (x ∷ a) r u b i (exact-stands (set ∷ ps) b (x ∷ (a ++ r)) e f)
+              bar-stops key (table c) (replacedChars c) (keys-code c) (x ∷ a) r (u .0, u .1) b i (exact-stands (set ∷ ps) b (x ∷ (a ++ r)) e f)

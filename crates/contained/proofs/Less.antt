@@ -29,6 +29,7 @@ use Rattle.rules.proofs.Browsing.{Cases, reference-cases, reference-here}
 use Rattle.places.specs.Places.{Effect, leaves, means, single, Entry, Place, entryAt, act, actOn, refers, afterAmp, placeStep}
 use Rattle.contained.proofs.Steps.{goes, prev-free, step-free, then-append, taken-then, leavesAt, left-there}
 use Rattle.contained.proofs.Heads.{single-takes, char-case}
+use Rattle.contained.proofs.Ruled.{rule-bytes}
 
 -- No `<`.
 abbrev pub noLess : List ℕ → Bool
@@ -202,7 +203,7 @@ tails-less (y ∷ a) t =
     and-both (not (eqb y 60)) (noLess a) (high-less y (and-left (leb 0x80 y) (leb y 0xBF) here)) (tails-less a (and-right (isTail y) (all isTail a) t))
 
 module _ (c : Context) (ok : T (lessFree c)) where
-  unit-less : (u : Move) → IsUnit (table c) (replacedChars c) u → T (noLess (takes u))
+  unit-less : (u : Move) → IsUnit c (table c) u → T (noLess (takes u))
   unit-less (keep []) u = tt
   unit-less (keep (x ∷ a)) u = and-both (not (eqb x 60)) (noLess a) (go (char-case x a (u .0))) (tails-less a (char-tails x a (u .0)))
     where
@@ -214,11 +215,12 @@ module _ (c : Context) (ok : T (lessFree c)) where
           other false q = tt
           other true q = absurd (u .1 (subst (λ (z : List ℕ). In z (replacedChars c)) (λ i. sym (eqb→eq x 60 (subst T (sym q) tt)) i ∷ sym (l .1) i)
               (same-in (60 ∷ []) (replacedChars c) (and-left (replacesLess c) (writesNoLess c) ok))))
-  unit-less (swap v k) i = all-in (λ (e : Row). noLess (value e)) (table c) (and-right (replacesLess c) (writesNoLess c) ok) (k, v) i
+  unit-less (swap v k) (inl i) = all-in (λ (e : Row). noLess (value e)) (table c) (and-right (replacesLess c) (writesNoLess c) ok) (k, v) i
+  unit-less (swap v k) (inr e) = rule-bytes c (λ (b : ℕ). not (eqb b 60)) tt k v e
   unit-less (leave x a) u = absurd u
   unit-less (stop w) u = absurd u
 
-  run-less : (us : List Move) → All (IsUnit (table c) (replacedChars c)) us → T (noLess (taken us))
+  run-less : (us : List Move) → All (IsUnit c (table c)) us → T (noLess (taken us))
   run-less [] g = tt
   run-less (u ∷ us) g = less-append (takes u) (taken us) (unit-less u (g .0)) (run-less us (g .1))
 

@@ -3,6 +3,7 @@ pub mod Settled
 pub mod Steps
 pub mod Heads
 pub mod Written
+pub mod Ruled
 pub mod Judged
 pub mod Contained
 pub mod Begins

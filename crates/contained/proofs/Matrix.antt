@@ -3,27 +3,32 @@
 -- Assumes nothing.
 use mathlib.Core.Bool.{Bool, true, false, not, _&&_, _||_}
 use mathlib.Core.Logic.{_⊎_, inl, inr}
-use mathlib.Core.Path.{_≡_, sym, subst}
-use mathlib.Core.List.{List, [], _∷_, _++_}
+use mathlib.Core.Path.{_≡_, refl, sym, subst}
+use mathlib.Core.Option.{Option, none, some}
+use mathlib.Core.List.{List, [], _∷_, _++_, map}
 use Prim.Native.Nat.{ℕ}
 use lib.Dec.{T, eqb, eqb→eq}
-use Rattle.rules.specs.Bytes.{In, all, any, sameBytes}
+use Rattle.rules.specs.Bytes.{In, All, all, any, join, sameBytes}
 use Rattle.rules.specs.Moves.{through, taken, result}
-use Rattle.rules.specs.Utf8.{IsText, IsFree}
+use Rattle.rules.specs.Utf8.{IsChar, IsText, IsFree, utf8}
+use Rattle.rules.specs.Ascii.{nameOf, byRule}
 use Rattle.rules.specs.Contexts.{Label, contextNames}
 use Rattle.rules.specs.Names.{names as nameTable}
 use Rattle.rules.specs.Bare.{bare}
-use Rattle.rules.specs.References.{renumbering}
+use Rattle.rules.specs.References.{renumbering, renumbered}
 use Rattle.rules.specs.Browsing.{identifiers}
 use Rattle.rules.specs.Encoding.{encodeStep, rawStep}
 use Rattle.rules.specs.Operations.{encodeOf, rawOf}
 use Rattle.rules.specs.declared.Context.{Context}
+use Rattle.rules.specs.declared.Context.the-variants.{InHtml, InScript, InStyle, InJson, InAscii}
 use Rattle.rules.specs.declared.AnyContext.{AnyContext}
 use Rattle.rules.specs.declared.AnyContext.the-variants.{Units, ScriptRaw, Unknown}
 use Rattle.rules.proofs.Tests.{and-left, and-right, or-cases, all-in}
+use Rattle.rules.proofs.AsciiBrowsed.{browsed, free-browsed}
 use Rattle.places.specs.Places.{Place, placeStep, begins, stage}
-use Rattle.contained.specs.Matrix.{PlaceName, ElementText, TitleText, TextareaText, DoubleQuotedValue, SingleQuotedValue, UnquotedValue, ScriptElement, StyleElement, ScriptSingle, ScriptDouble, OldScriptSingle, OldScriptDouble, ScriptTemplate, StyleSingle, StyleDouble, JsonText, placeOf, endsOf, formOf, Stays, Holds, allowed, Verdict, holds, alters, breaks, Line, nulAndCr, matrix}
+use Rattle.contained.specs.Matrix.{PlaceName, ElementText, TitleText, TextareaText, DoubleQuotedValue, SingleQuotedValue, UnquotedValue, ScriptElement, StyleElement, ScriptSingle, ScriptDouble, OldScriptSingle, OldScriptDouble, ScriptTemplate, StyleSingle, StyleDouble, JsonText, placeOf, endsOf, formOf, Stays, Holds, allowed, Verdict, holds, alters, breaks, heldAs, Line, matrix}
 use Rattle.contained.proofs.Steps.{leavesAt}
+use Rattle.contained.proofs.Ruled.{hasRule}
 use Rattle.contained.proofs.Judged.{staysIn, holdsBut}
 use Rattle.contained.proofs.Contained.{contained, contained-text}
 use Rattle.contained.proofs.Begins.{beginsIn, form-begins}
@@ -108,7 +113,7 @@ abbrev pub checked : Line → Bool
 checked l = endsLeave (l .name) && cells (cell (l .name)) contextNames (l .verdicts)
 
 pub matrix-checked : T (all checked matrix)
-unfolding placeStep encodeStep rawStep nameTable bare identifiers renumbering
+unfolding placeStep encodeStep rawStep nameTable nameOf bare identifiers renumbering
 matrix-checked = tt
 
 -- The empty text is no value without quotes, in any context.
@@ -136,6 +141,7 @@ abbrev exactLine : Line → Bool
 exactLine l = cells (exactCell (l .name)) contextNames (l .verdicts)
 
 exact-cells : T (all exactLine matrix)
+unfolding renumbering
 exact-cells = tt
 
 -- ---- what a cell says
@@ -277,16 +283,33 @@ module _ (l : Line) where
   matrix-breaks ScriptRaw a s = cell-checked ScriptRaw (breaks a) s
   matrix-breaks Unknown a s = absurd (cell-checked Unknown (breaks a) s)
 
-  -- Where it lists NUL and CR the place holds of every text, with no exception, what its own input stage makes of that.
-  pub matrix-exactly : (n : AnyContext) → Says l n (holds nulAndCr) → (t : List ℕ) → IsText t → (end : List ℕ) → In end (endsOf (l .name)) → (r : List ℕ)
-      → result (through (placeStep (placeOf (l .name))) (formOf n t ++ (end ++ r))) ≡ result (through (placeStep (stage (placeOf (l .name)))) t)
-  matrix-exactly (Units c) s t h end i r =
+  -- Where it lists CR too, and perhaps the 27 characters, the place holds of every text, with no exception, what its own input stage makes of that, each character
+  -- as a browser takes it.
+  pub matrix-exactly : (c : Context) (a b : List ℕ) (bad : List (List ℕ)) → Says l (Units c) (holds (a ∷ b ∷ bad)) → (cs : List (List ℕ)) → All IsChar cs
+      → (end : List ℕ) → In end (endsOf (l .name)) → (r : List ℕ)
+      → result (through (placeStep (placeOf (l .name))) (encodeOf c (join cs) ++ (end ++ r))) ≡ result (through (placeStep (stage (placeOf (l .name)))) (join (map (heldAs c) cs)))
+  matrix-exactly c a b bad s cs h end i r =
       let p = placeOf (l .name) in
-      let k = cell-checked (Units c) (holds nulAndCr) s in
-      let rest = holdsBut nulAndCr c p && exceptions nulAndCr (l .name) c in
+      let all-bad = a ∷ b ∷ bad in
+      let k = cell-checked (Units c) (holds all-bad) s in
+      let rest = holdsBut all-bad c p && exceptions all-bad (l .name) c in
       let s′ = and-right (beginsIn c p) (staysIn c p && rest) k in
-      let exact = cell-of (exactCell (l .name)) contextNames (l .verdicts) (all-in exactLine matrix exact-cells l (s .0)) (Units c) (holds nulAndCr) (s .1) in
-      held-exactly nulAndCr c p end (and-left (staysIn c p) rest s′) (and-left (holdsBut nulAndCr c p) (exceptions nulAndCr (l .name) c) (and-right (staysIn c p) rest s′))
-      (all-in (exactIn nulAndCr c p) (endsOf (l .name)) exact end i) (end-leaves (l .name) (ends-checked (s .0)) end i) t h r
-  matrix-exactly ScriptRaw s t h end i r = absurd (cell-checked ScriptRaw (holds nulAndCr) s)
-  matrix-exactly Unknown s t h end i r = absurd (cell-checked Unknown (holds nulAndCr) s)
+      let exact = cell-of (exactCell (l .name)) contextNames (l .verdicts) (all-in exactLine matrix exact-cells l (s .0)) (Units c) (holds all-bad) (s .1) in
+      held-exactly all-bad c p end (and-left (staysIn c p) rest s′) (and-left (holdsBut all-bad c p) (exceptions all-bad (l .name) c) (and-right (staysIn c p) rest s′))
+      (all-in (exactIn all-bad c p) (endsOf (l .name)) exact end i) (end-leaves (l .name) (ends-checked (s .0)) end i) cs h r
+
+-- A browser takes each character of a context without a rule for itself,
+pub held-same : (c : Context) → T (not (hasRule c)) → (a : List ℕ) → heldAs c a ≡ a
+held-same (InHtml h) t a = refl
+held-same (InScript q) t a = refl
+held-same (InStyle q) t a = refl
+held-same InJson t a = refl
+held-same InAscii t a = absurd t
+
+-- and of ascii_quoted each but the 27.
+pub held-unmoved : (c : Context) (a : List ℕ) → IsChar a → (In a (map utf8 renumbered) → ⊥) → heldAs c a ≡ a
+held-unmoved c a h f = go (byRule c a)
+  where
+    go : (o : Option (List ℕ)) → elim o [ none ↦ a | some v ↦ browsed a ] ≡ a
+    go none = refl
+    go (some v) = free-browsed a h f

@@ -5,7 +5,7 @@ use mathlib.Core.Path.{_≡_}
 use mathlib.Core.List.{List, [], _∷_, _++_}
 use Prim.Native.Nat.{ℕ}
 use lib.Dec.{T, ltb}
-use Rattle.rules.specs.Bytes.{In, all, any, sameBytes}
+use Rattle.rules.specs.Bytes.{In, all, any, bytes, sameBytes}
 use Rattle.rules.specs.Moves.{Move, taken, result, through}
 use Rattle.rules.specs.Utf8.{IsText, IsFree}
 use Rattle.rules.specs.Tables.{Row, value, rows, replacedChars}
@@ -16,9 +16,10 @@ use Rattle.rules.specs.declared.Quotes.the-variants.{Single, Double, Both}
 use Rattle.rules.specs.declared.Context.{Context}
 use Rattle.rules.specs.declared.Context.the-variants.{InHtml, InScript, InStyle, InJson}
 use Rattle.rules.proofs.Tests.{and-left, and-right, all-in, same-in}
-use Rattle.rules.proofs.Nested.{ascii-free, form-clear}
+use Rattle.rules.proofs.Nested.{ascii-free, rule-clear, form-clear}
 use Rattle.places.specs.Places.{Place, placeStep}
 use Rattle.contained.specs.Matrix.{PlaceName, DoubleQuotedValue, SingleQuotedValue, UnquotedValue, ScriptElement, StyleElement, ScriptSingle, ScriptDouble, StyleSingle, StyleDouble, JsonText, placeOf, nul, nulAndCr}
+use Rattle.contained.proofs.Ruled.{whereRuled, where-ruled}
 use Rattle.contained.proofs.Judged.{among, staysIn, holdsBut, copiesIn}
 use Rattle.contained.proofs.Contained.{stays, holds}
 
@@ -34,14 +35,21 @@ hidesAll bad i = all (among (replacedChars i)) bad
 abbrev writesClean : List (List ℕ) → Context → Bool
 writesClean bad i = all (λ (row : Row). all (cleanByte bad) (value row)) (rows i)
 
+-- What is written by rule is of bytes from `#` to `z`.
+abbrev ruledClean : List (List ℕ) → Context → Bool
+ruledClean bad i = whereRuled i (all (cleanByte bad) (bytes 35 122))
+
 -- The forms of a context are free of the bad characters: it replaces each, and writes none.
 abbrev pub clears : List (List ℕ) → Context → Bool
-clears bad i = hidesAll bad i && writesClean bad i
+clears bad i = hidesAll bad i && (writesClean bad i && ruledClean bad i)
 
 cleared : (bad : List (List ℕ)) (i : Context) → T (clears bad i) → (t : List ℕ) → IsText t → IsFree bad (encodeOf i t)
 cleared bad i ok =
-    form-clear bad i (λ a j. same-in a (replacedChars i) (all-in (among (replacedChars i)) bad (and-left (hidesAll bad i) (writesClean bad i) ok) a j))
-    (λ row j. ascii-free bad (value row) (all-in (λ (row : Row). all (cleanByte bad) (value row)) (rows i) (and-right (hidesAll bad i) (writesClean bad i) ok) row j))
+    let spared = writesClean bad i && ruledClean bad i in
+    let rest = and-right (hidesAll bad i) spared ok in
+    form-clear bad i (λ a j. same-in a (replacedChars i) (all-in (among (replacedChars i)) bad (and-left (hidesAll bad i) spared ok) a j))
+    (λ row j. ascii-free bad (value row) (all-in (λ (row : Row). all (cleanByte bad) (value row)) (rows i) (and-left (writesClean bad i) (ruledClean bad i) rest) row j))
+    (λ k v e. rule-clear bad (where-ruled i (all (cleanByte bad) (bytes 35 122)) (and-right (writesClean bad i) (ruledClean bad i) rest) k v e) i k v e)
 
 -- ---- the laws
 

@@ -2,13 +2,17 @@
 -- Assumes nothing.
 use mathlib.Core.Bool.{Bool, true}
 use mathlib.Core.Path.{_≡_}
-use mathlib.Core.List.{List, [], _∷_, _++_}
+use mathlib.Core.Option.{none, some}
+use mathlib.Core.List.{List, [], _∷_, _++_, map}
 use Prim.Native.Nat.{ℕ}
 use lib.Dec.{T}
 use Rattle.rules.specs.Bytes.{ascii, In}
 use Rattle.rules.specs.Moves.{through, taken, result}
-use Rattle.rules.specs.Utf8.{utf8}
+use Rattle.rules.specs.Utf8.{utf8, codeOf}
+use Rattle.rules.specs.Ascii.{byRule}
+use Rattle.rules.specs.References.{renumbering, renumbered, standsFor}
 use Rattle.rules.specs.Operations.{encodeOf, rawOf}
+use Rattle.rules.specs.declared.Context.{Context}
 use Rattle.rules.specs.declared.AnyContext.{AnyContext}
 use Rattle.rules.specs.declared.AnyContext.the-variants.{Units, ScriptRaw, Unknown}
 use Rattle.places.specs.Places.{Place, placeStep, begins}
@@ -91,6 +95,10 @@ Stays name w =
 abbrev pub Holds : PlaceName → List ℕ → List ℕ → Type 0
 Holds name w v = Stays name w × ((end : List ℕ) → In end (endsOf name) → (r : List ℕ) → result (through (placeStep (placeOf name)) (w ++ (end ++ r))) ≡ v)
 
+-- What a browser takes a character for that is written in a context: where it is written by rule, the one that browse gives for its number (RULES 10, 27).
+abbrev pub heldAs : Context → List ℕ → List ℕ
+heldAs c a = elim (byRule c a) [ none ↦ a | some v ↦ utf8 (standsFor renumbering (codeOf a)) ]
+
 -- The text may be put there: an attribute value without quotes cannot be empty.
 abbrev pub allowed : PlaceName → List ℕ → Bool
 allowed name [] = begins (placeOf name .never) []
@@ -121,8 +129,12 @@ nul = (0 ∷ []) ∷ []
 abbrev pub nulAndCr : List (List ℕ)
 nulAndCr = (0 ∷ []) ∷ (13 ∷ []) ∷ []
 
+-- NUL, CR and the 27 characters between U+0080 and U+009F whose numbers a browser takes for others.
+abbrev pub nulCrAndMoved : List (List ℕ)
+nulCrAndMoved = (0 ∷ []) ∷ (13 ∷ []) ∷ map utf8 renumbered
+
 -- text_minimal, text, double_quoted, single_quoted, quoted, safe, unquoted; script_single, script_double, script_quoted; style_single, style_double,
--- style_quoted; script_raw; json. tools/places_table.py prints it as the table of README.md.
+-- style_quoted; script_raw; json; ascii_quoted. tools/places_table.py prints it as the table of README.md.
 abbrev pub matrix : List Line
 matrix =
     -- The text of an element.
@@ -132,6 +144,7 @@ matrix =
     ∷ alters (ascii "'") ∷ alters (ascii "\"") ∷ alters (ascii "\"")
     ∷ breaks (ascii "</")
     ∷ alters (ascii "\"")
+    ∷ holds nulCrAndMoved
     ∷ [])
     -- The text of a title.
     ∷ line TitleText (
@@ -140,6 +153,7 @@ matrix =
     ∷ alters (ascii "'") ∷ alters (ascii "\"") ∷ alters (ascii "\"")
     ∷ breaks (ascii "</title>")
     ∷ alters (ascii "\"")
+    ∷ holds nulCrAndMoved
     ∷ [])
     -- The text of a textarea.
     ∷ line TextareaText (
@@ -148,6 +162,7 @@ matrix =
     ∷ alters (ascii "'") ∷ alters (ascii "\"") ∷ alters (ascii "\"")
     ∷ breaks (ascii "</textarea>")
     ∷ alters (ascii "\"")
+    ∷ holds nulCrAndMoved
     ∷ [])
     -- An attribute value in double quotes.
     ∷ line DoubleQuotedValue (
@@ -156,6 +171,7 @@ matrix =
     ∷ breaks (ascii "\"") ∷ breaks (ascii "\"") ∷ breaks (ascii "\"")
     ∷ breaks (ascii "\"")
     ∷ breaks (ascii "\"")
+    ∷ holds nulCrAndMoved
     ∷ [])
     -- An attribute value in single quotes.
     ∷ line SingleQuotedValue (
@@ -164,12 +180,14 @@ matrix =
     ∷ breaks (ascii "'") ∷ breaks (ascii "'") ∷ breaks (ascii "'")
     ∷ breaks (ascii "'")
     ∷ breaks (ascii "'")
+    ∷ holds nulCrAndMoved
     ∷ [])
     -- An attribute value without quotes.
     ∷ line UnquotedValue (
     breaks (ascii " ") ∷ breaks (ascii " ") ∷ breaks (ascii " ") ∷ breaks (ascii " ") ∷ breaks (ascii " ") ∷ breaks (ascii " ") ∷ holds nul
     ∷ breaks (ascii " ") ∷ breaks (ascii " ") ∷ breaks (ascii " ")
     ∷ breaks (ascii " ") ∷ breaks (ascii " ") ∷ breaks (ascii " ")
+    ∷ breaks (ascii " ")
     ∷ breaks (ascii " ")
     ∷ breaks (ascii " ")
     ∷ [])
@@ -180,6 +198,7 @@ matrix =
     ∷ alters (ascii "'") ∷ alters (ascii "\"") ∷ alters (ascii "\"")
     ∷ alters (ascii "<!--")
     ∷ alters (ascii "\"")
+    ∷ alters (ascii "\"")
     ∷ [])
     -- A style element.
     ∷ line StyleElement (
@@ -187,6 +206,7 @@ matrix =
     ∷ alters (ascii "'") ∷ alters (ascii "\"") ∷ alters (ascii "\"")
     ∷ alters (ascii "'") ∷ alters (ascii "\"") ∷ alters (ascii "\"")
     ∷ breaks (ascii "</style>")
+    ∷ alters (ascii "\"")
     ∷ alters (ascii "\"")
     ∷ [])
     -- An ECMAScript string in single quotes.
@@ -196,6 +216,7 @@ matrix =
     ∷ alters (ascii "<") ∷ breaks (ascii "'") ∷ alters (ascii "<")
     ∷ breaks (ascii "'")
     ∷ breaks (ascii "'")
+    ∷ breaks (ascii "\\")
     ∷ [])
     -- An ECMAScript string in double quotes.
     ∷ line ScriptDouble (
@@ -204,6 +225,7 @@ matrix =
     ∷ breaks (ascii "\"") ∷ alters (ascii "<") ∷ alters (ascii "<")
     ∷ breaks (ascii "\"")
     ∷ holds []
+    ∷ breaks (ascii "\\")
     ∷ [])
     -- The same two before ECMAScript 2019.
     ∷ line OldScriptSingle (
@@ -212,6 +234,7 @@ matrix =
     ∷ breaks (utf8 0x2028) ∷ breaks (ascii "'") ∷ breaks (utf8 0x2028)
     ∷ breaks (ascii "'")
     ∷ breaks (ascii "'")
+    ∷ breaks (ascii "\\")
     ∷ [])
     ∷ line OldScriptDouble (
     breaks (ascii "\"") ∷ breaks (ascii "\"") ∷ breaks (ascii "\\") ∷ breaks (ascii "\"") ∷ breaks (ascii "\\") ∷ breaks (ascii "\\") ∷ breaks (utf8 0x2028)
@@ -219,6 +242,7 @@ matrix =
     ∷ breaks (ascii "\"") ∷ breaks (utf8 0x2028) ∷ breaks (utf8 0x2028)
     ∷ breaks (ascii "\"")
     ∷ holds []
+    ∷ breaks (ascii "\\")
     ∷ [])
     -- An ECMAScript template.
     ∷ line ScriptTemplate (
@@ -227,6 +251,7 @@ matrix =
     ∷ breaks (ascii "`") ∷ breaks (ascii "`") ∷ breaks (ascii "`")
     ∷ breaks (ascii "\\")
     ∷ breaks (ascii "`")
+    ∷ breaks (ascii "\\")
     ∷ [])
     -- A CSS string in single quotes.
     ∷ line StyleSingle (
@@ -235,6 +260,7 @@ matrix =
     ∷ holds nul ∷ breaks (ascii "'") ∷ holds nul
     ∷ breaks (ascii "'")
     ∷ breaks (ascii "'")
+    ∷ breaks (ascii "\\")
     ∷ [])
     -- A CSS string in double quotes.
     ∷ line StyleDouble (
@@ -243,6 +269,7 @@ matrix =
     ∷ breaks (ascii "\"") ∷ holds nul ∷ holds nul
     ∷ breaks (ascii "\"")
     ∷ alters (ascii "<")
+    ∷ breaks (ascii "\\")
     ∷ [])
     -- A JSON string.
     ∷ line JsonText (
@@ -251,5 +278,6 @@ matrix =
     ∷ breaks (ascii "\"") ∷ breaks (ascii "<") ∷ breaks (ascii "'")
     ∷ breaks (ascii "\"")
     ∷ holds []
+    ∷ breaks (ascii "\\")
     ∷ [])
     ∷ []

@@ -27,7 +27,7 @@ use Rattle.rules.specs.declared.Reference.the-variants.{Found, Left, Nothing}
 use Rattle.rules.specs.declared.Reason.{Reason}
 use Rattle.rules.specs.declared.Reason.the-variants.{NoEnd, Empty, UnknownName}
 use Rattle.rules.proofs.Loops.{drop-next}
-use Rattle.rules.proofs.Decoder.{reference-quiet}
+use Rattle.rules.proofs.Search.{reference-quiet}
 use Rattle.rules.proofs.Tests.{all-in}
 use Rattle.rules.proofs.Names.{looked-up, empty-unnamed}
 use Rattle.decode_html.specs.Taking.{Real, RealMeaning, Reads}

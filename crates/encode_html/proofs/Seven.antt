@@ -8,7 +8,7 @@ use lib.Dec.{T, eqb, eqb→eq}
 use Rattle.rules.specs.Bytes.{all, count}
 use Rattle.rules.specs.declared.Html.{Html}
 use Rattle.rules.specs.declared.Context.{Context}
-use Rattle.rules.specs.declared.Context.the-variants.{InHtml, InScript, InStyle, InJson}
+use Rattle.rules.specs.declared.Context.the-variants.{InHtml, InScript, InStyle, InJson, InAscii}
 use Rattle.rules.proofs.Every.{contexts, every}
 use Rattle.rules.proofs.EveryByte.{every-byte}
 
@@ -18,6 +18,7 @@ html f (InHtml h) = f h
 html f (InScript q) = true
 html f (InStyle q) = true
 html f InJson = true
+html f InAscii = true
 
 pub seven : (f : Html → Bool) → T (all (html f) contexts) → (h : Html) → T (f h)
 seven f t h = every (html f) t (InHtml h)

@@ -32,12 +32,12 @@ module _ (h : Html) where
 
   pub cons-written : (b : ℕ) (t : List ℕ) → encodeOf (InHtml h) (b ∷ t) ≡ written h b ++ encodeOf (InHtml h) t
   unfolding written
-  cons-written b t = encode-append (InHtml h) (bytewise h) (b ∷ []) t
+  cons-written b t = encode-append (InHtml h) (λ a. refl) (bytewise h) (b ∷ []) t
 
   -- At most six bytes are written for one.
   pub written-most : (b : ℕ) → length (written h b) ≤ 6
   unfolding written
-  written-most b = encode-six (InHtml h) (b ∷ [])
+  written-most b = encode-six (InHtml h) tt (b ∷ [])
 
   -- And at least one.
   pub written-some : (b : ℕ) → 1 ≤ length (written h b)
@@ -55,14 +55,14 @@ module _ (h : Html) where
       → Next (encodeOf (InHtml h) (drop i t)) (encodeOf (InHtml h) (take (e - i) (drop i t))) (encodeOf (InHtml h) (drop e t))
   next-part t i e l =
       let whole = ap (encodeOf (InHtml h)) (sym (parted t i e l)) in
-      record { next = whole ∙ encode-append (InHtml h) (bytewise h) (take (e - i) (drop i t)) (drop e t) }
+      record { next = whole ∙ encode-append (InHtml h) (λ a. refl) (bytewise h) (take (e - i) (drop i t)) (drop e t) }
 
   -- The same of how many places are replaced.
   pub hits-byte : (t : List ℕ) (i : ℕ) → i < length t → hitsOf h (drop i t) ≡ hitsOf h (getD t i 0 ∷ []) + hitsOf h (drop (i + 1) t)
-  hits-byte t i l = ap (hitsOf h) (drop-next t i l) ∙ replaced-both (InHtml h) (bytewise h) (getD t i 0 ∷ []) (drop (i + 1) t)
+  hits-byte t i l = ap (hitsOf h) (drop-next t i l) ∙ replaced-both (InHtml h) (λ a. refl) (bytewise h) (getD t i 0 ∷ []) (drop (i + 1) t)
 
   pub hits-part : (t : List ℕ) (i e : ℕ) → i ≤ e → hitsOf h (drop i t) ≡ hitsOf h (take (e - i) (drop i t)) + hitsOf h (drop e t)
-  hits-part t i e l = ap (hitsOf h) (sym (parted t i e l)) ∙ replaced-both (InHtml h) (bytewise h) (take (e - i) (drop i t)) (drop e t)
+  hits-part t i e l = ap (hitsOf h) (sym (parted t i e l)) ∙ replaced-both (InHtml h) (λ a. refl) (bytewise h) (take (e - i) (drop i t)) (drop e t)
 
   -- At the end nothing is left.
   pub next-none : (t : List ℕ) (i : ℕ) → length t ≤ i → encodeOf (InHtml h) (drop i t) ≡ []
@@ -74,7 +74,7 @@ module _ (h : Html) where
 
   -- A text in two, the rest as it is lent.
   pub halves : (t : List ℕ) (e : ℕ) → encodeOf (InHtml h) t ≡ encodeOf (InHtml h) (take e t) ++ encodeOf (InHtml h) (take (length t - e) (drop e t))
-  halves t e = ap (encodeOf (InHtml h)) (sym (take-append-drop e t)) ∙ encode-append (InHtml h) (bytewise h) (take e t) (drop e t) ∙ rw (lent-rest e t)
+  halves t e = ap (encodeOf (InHtml h)) (sym (take-append-drop e t)) ∙ encode-append (InHtml h) (λ a. refl) (bytewise h) (take e t) (drop e t) ∙ rw (lent-rest e t)
 
   -- How long the two are; the rest does not shrink.
   pub half-sizes : (t : List ℕ) (e : ℕ)

@@ -22,7 +22,7 @@ use Rattle.rules.proofs.Blind.{Local, Parted, parted-result, parted-replaced}
 use Rattle.base.proofs.Part.{part-length, part-at, parted as part-split}
 use Rattle.base.proofs.Filled.{Next}
 use Rattle.encode_strings.specs.Strings.{endsOf, ended, Apart, separates}
-use Rattle.encode_strings.proofs.Heads.{kept, lone}
+use Rattle.encode_strings.proofs.Heads.{strings-ruleless, kept, lone}
 use Rattle.encode_strings.proofs.Finds.{ends-are, lead-kept, separator-sizes, lead-taken, lead-style}
 use Rattle.encode_strings.proofs.Sums.{encode-blind, grows}
 use Rattle.rules.specs.Contexts.{writtenIn}
@@ -79,7 +79,7 @@ ended-clear (y ∷ []) (w ∷ b) (inr (inr f)) = absurd (f 0 (omega arith) (omeg
 local-byte : (notation : Notation) (quotes : Quotes) (x : ℕ) (a b : List ℕ) → (x ≡ 0xE2 → ⊥) → Local (encodeStep (writtenIn notation quotes)) (x ∷ a) b
 local-byte notation quotes x a b ne =
     let c = writtenIn notation quotes in
-    (lone c 0 x (a ++ b) ne ∙ sym (lone c 0 x a ne), 0, ap (λ (m : Move). length (takes m)) (lone c 0 x a ne) ∙ grows notation quotes x ne .0, omega arith)
+    (lone c (strings-ruleless notation quotes) 0 x (a ++ b) ne ∙ sym (lone c (strings-ruleless notation quotes) 0 x a ne), 0, ap (λ (m : Move). length (takes m)) (lone c (strings-ruleless notation quotes) 0 x a ne) ∙ grows notation quotes x ne .0, omega arith)
 
 local-kept : (c : Context) (x : ℕ) (a b : List ℕ) → encodeStep c 0 (x ∷ (a ++ b)) ≡ keep (x ∷ []) → encodeStep c 0 (x ∷ a) ≡ keep (x ∷ []) → Local (encodeStep c) (x ∷ a) b
 local-kept c x a b e f = (e ∙ sym f, 0, ap (λ (m : Move). length (takes m)) f, omega arith)
@@ -99,7 +99,7 @@ local-script notation w q (y ∷ z ∷ a) b h = go (endsOf y z) refl
     )
 
 local-lead : (notation : Notation) (q : Quotes) (a b : List ℕ) → Clear (0xE2 ∷ a) b → Local (encodeStep (writtenIn notation q)) (0xE2 ∷ a) b
-local-lead Style q a b h = local-kept (InStyle q) 0xE2 a b (kept (InStyle q) 0 0xE2 (a ++ b) (lead-style q)) (kept (InStyle q) 0 0xE2 a (lead-style q))
+local-lead Style q a b h = local-kept (InStyle q) 0xE2 a b (kept (InStyle q) (λ a. refl) 0 0xE2 (a ++ b) (lead-style q)) (kept (InStyle q) (λ a. refl) 0 0xE2 a (lead-style q))
 local-lead Script q a b h = local-script Script refl q a b h
 local-lead Json q a b h = local-script Json refl q a b h
 

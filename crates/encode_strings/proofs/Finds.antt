@@ -27,7 +27,8 @@ use Rattle.rules.specs.declared.Replaced.the-variants.{By, Nothing}
 use Rattle.rules.proofs.Tests.{and-left, and-right, or-cases, same-bytes}
 use Rattle.rules.proofs.Below.{below, eqb-comm}
 use Rattle.encode_strings.specs.Strings.{isSlashed, isHexed, hexBy, replacedBy, starts, Held, HeldAt, singleKey, doubleKey, escapedOf, hexedOf, sameOf, endsOf, ended, quotesIn, singleOf, doubleOf, separates, moreOf, replacedWith}
-use Rattle.encode_strings.proofs.Heads.{not-ascii, kept, no-start, lone}
+use Rattle.rules.proofs.Bytewise.{by-table}
+use Rattle.encode_strings.proofs.Heads.{strings-ruleless, not-ascii, kept, no-start, lone}
 use Rattle.rules.specs.Contexts.{writtenIn}
 use Rattle.rules.specs.declared.Notation.{Notation}
 use Rattle.rules.specs.declared.Notation.the-variants.{Script, Style, Json}
@@ -142,7 +143,7 @@ hexed-high b h = rw (le-ltb b 32 (omega arith), not-ascii b 0x3C h (omega arith)
 byte-ruled : (notation : Notation) (quotes : Quotes) (b : ℕ) → (b ≡ 0xE2 → ⊥)
     → (p : ℕ) (s : List ℕ) → replacedMove notation (b ∷ s) (replacedBy notation quotes b) ≡ encodeStep (writtenIn notation quotes) p (b ∷ s)
 byte-ruled notation quotes b ne p s =
-    headmost notation (isSlashed (singleKey notation quotes) (doubleKey notation quotes) b) (isHexed b) (eqb b 0) refl ∙ go (ltb b 0x80) refl ∙ sym (lone (writtenIn notation quotes) p b s ne)
+    headmost notation (isSlashed (singleKey notation quotes) (doubleKey notation quotes) b) (isHexed b) (eqb b 0) refl ∙ go (ltb b 0x80) refl ∙ sym (lone (writtenIn notation quotes) (strings-ruleless notation quotes) p b s ne)
   where
     headmost : (notation : Notation) (t u v : Bool) → eqb b 0 ≡ v
         → replacedMove notation (b ∷ s) (cond t (By Slashed) (cond u (By (hexBy notation b)) Nothing)) ≡ replacedMove notation (b ∷ []) (cond t (By Slashed) (cond u (By (hexBy notation b)) Nothing))
@@ -157,7 +158,7 @@ byte-ruled notation quotes b ne p s =
     go true l = ascii-ruled notation quotes b (ltb-true b 0x80 l)
     go false l =
         let h = ltb-false b 0x80 l in
-        rw (slashed-high notation quotes b h, hexed-high b h) (sym (kept (writtenIn notation quotes) 0 b [] (no-start (writtenIn notation quotes) b h ne)))
+        rw (slashed-high notation quotes b h, hexed-high b h) (sym (kept (writtenIn notation quotes) (strings-ruleless notation quotes) 0 b [] (no-start (writtenIn notation quotes) (strings-ruleless notation quotes) b h ne)))
 
 -- ---- what the rule says of the bytes that the code tells apart
 
@@ -283,8 +284,8 @@ separator-row notation (x ∷ y ∷ s) =
 -- The move at E2 where line separators are escaped.
 module _ (notation : Notation) (w : separates notation ≡ true) (q : Quotes) where
   lead-moves : (p : ℕ) (s : List ℕ) → replacedMove notation (0xE2 ∷ s) (separatorAt s) ≡ encodeStep (writtenIn notation q) p (0xE2 ∷ s)
-  unfolding encodeStep
-  lead-moves p s = sym (ap (λ (o : Option Row). write o (keep (0xE2 ∷ []))) (lead-row notation q w s) ∙ separator-row notation s)
+  lead-moves p s =
+      sym (by-table (writtenIn notation q) (strings-ruleless notation q) p (0xE2 ∷ s) ∙ ap (λ (o : Option Row). write o (keep (0xE2 ∷ []))) (lead-row notation q w s) ∙ separator-row notation s)
 
   -- It is kept where no separator is ended.
   pub lead-kept : (s : List ℕ) → ended s ≡ false → encodeStep (writtenIn notation q) 0 (0xE2 ∷ s) ≡ keep (0xE2 ∷ [])
@@ -337,7 +338,7 @@ pub found-style : (notation : Notation) (q : Quotes) (s : List ℕ) → separate
 found-style Script q s w h e p = absurd (let z : _≡_ {A = ℕ} 1 0 = ap (λ (x : Bool). cond x 1 0) w in omega arith)
 found-style Json q s w h e p = absurd (let z : _≡_ {A = ℕ} 1 0 = ap (λ (x : Bool). cond x 1 0) w in omega arith)
 found-style Style q [] w h e p = absurd (not-suc-le-zero h)
-found-style Style q (x ∷ s) w h e p = rw e (sym (kept (InStyle q) p 0xE2 s (lead-style q)))
+found-style Style q (x ∷ s) w h e p = rw e (sym (kept (InStyle q) (λ a. refl) p 0xE2 s (lead-style q)))
 
 -- Less than two bytes after it end no separator; otherwise the two tell.
 pub ended-short : (s : List ℕ) → length s < 3 → ended (drop 1 s) ≡ false

@@ -13,9 +13,14 @@ use Rattle.rules.specs.Bytes.{In, all, stands}
 use Rattle.rules.specs.Moves.{keep}
 use Rattle.rules.specs.Tables.{Row, rowAt, key, table}
 use Rattle.rules.specs.Encoding.{write, encodeStep}
+use Rattle.rules.specs.Contexts.{writtenIn}
+use Rattle.rules.specs.declared.Quotes.{Quotes}
+use Rattle.rules.specs.declared.Notation.{Notation}
+use Rattle.rules.specs.declared.Notation.the-variants.{Script, Style, Json}
 use Rattle.rules.specs.declared.Context.{Context}
 use Rattle.rules.proofs.Tests.{and-left, and-right, or-cases, is-false, all-in, any-in, any-intro, first-none}
 use Rattle.rules.proofs.Every.{every}
+use Rattle.rules.proofs.Bytewise.{Ruleless, by-table}
 use Rattle.encode_strings.specs.Strings.{headed, starts}
 
 -- A byte that is not ASCII is no ASCII byte.
@@ -57,12 +62,19 @@ lone-row (row ∷ rows) b s t n =
     let r = lone-row rows b s (and-right (short (key row)) all-short t) n in
     λ i. elim (e i) [ true ↦ some row | false ↦ r i ]
 
-module _ (c : Context) where
+-- No rule stands beside the table of a string.
+pub strings-ruleless : (notation : Notation) (quotes : Quotes) → Ruleless (writtenIn notation quotes)
+strings-ruleless Script quotes a = refl
+strings-ruleless Style quotes a = refl
+strings-ruleless Json quotes a = refl
+
+module _ (c : Context) (ruleless : Ruleless c) where
   -- A byte that begins no key is kept.
   pub kept : (p b : ℕ) (s : List ℕ) → starts (table c) b ≡ false → encodeStep c p (b ∷ s) ≡ keep (b ∷ [])
-  unfolding encodeStep starts
+  unfolding starts
   kept p b s e =
-      ap (λ (o : Option Row). write o (keep (b ∷ [])))
+      by-table c ruleless p (b ∷ s)
+      ∙ ap (λ (o : Option Row). write o (keep (b ∷ [])))
       (first-none (λ (row : Row). stands (key row)) (table c) (b ∷ s)
       (λ row i t. subst T e (any-intro (λ (row : Row). headed b (key row)) (table c) row i (stands-headed (key row) b s t))))
 
@@ -80,5 +92,7 @@ module _ (c : Context) where
 
   -- The move at any byte but E2 is its own.
   pub lone : (p b : ℕ) (s : List ℕ) → (b ≡ 0xE2 → ⊥) → encodeStep c p (b ∷ s) ≡ encodeStep c 0 (b ∷ [])
-  unfolding encodeStep
-  lone p b s n = ap (λ (o : Option Row). write o (keep (b ∷ []))) (lone-row (table c) b s (keys-short c) n)
+  lone p b s n =
+      by-table c ruleless p (b ∷ s)
+      ∙ ap (λ (o : Option Row). write o (keep (b ∷ []))) (lone-row (table c) b s (keys-short c) n)
+      ∙ sym (by-table c ruleless 0 (b ∷ []))

@@ -13,7 +13,7 @@ use Rattle.rules.specs.declared.Reason.{Reason}
 use Rattle.rules.specs.Answers.{Measures}
 use Rattle.rules.specs.declared.Notation.{Notation}
 use Rattle.rules.specs.declared.Quotes.{Quotes}
-use Rattle.rules.proofs.Growth.{encode-whole, encode-six}
+use Rattle.rules.proofs.Growth.{strings-sixfold, encode-whole, encode-six}
 use Rattle.rules.proofs.Reasons.{no-lefts, encode-leaveless}
 use Rattle.base.proofs.Part.{part-length}
 use Rattle.encode_strings.specs.Strings.{Apart}
@@ -66,6 +66,6 @@ module _ (notation : Notation) (quotes : Quotes) where
       -- The sums stay small.
       pub gone-small : (w m : ℕ) → length t ≤ 65536 → w ≡ size (take (e - i) (drop i t)) → m ≤ 2 * length (take (e - i) (drop i t)) → (n + w ≤ 393216) × (k + m ≤ 131072)
       gone-small w m b p r = (
-        omega (arith, g .long, p, next-length notation quotes t i e h l apart, encode-six (writtenIn notation quotes) t),
+        omega (arith, g .long, p, next-length notation quotes t i e h l apart, encode-six (writtenIn notation quotes) (strings-sixfold notation quotes) t),
         omega (arith, g .few, r, part-length t i e h l),
       )

@@ -21,7 +21,7 @@ use Rattle.rules.proofs.Blind.{Blind, blind-next, replaced-append}
 use Rattle.rules.proofs.Loops.{drop-next}
 use Rattle.rules.proofs.Growth.{encode-sum}
 use Rattle.encode_strings.specs.Strings.{singleKey, doubleKey, isSlashed, isHexed, escapedOf, hexedOf, sameOf, total, endsOf, ended, separatorsIn, separates, hexGrowth, moreOf, placesBy}
-use Rattle.encode_strings.proofs.Heads.{not-ascii, kept, no-start, lone}
+use Rattle.encode_strings.proofs.Heads.{strings-ruleless, not-ascii, kept, no-start, lone}
 use Rattle.encode_strings.proofs.Finds.{less, alone, Grows, ascii-grows, slashed-high, hexed-high, ends-are, lead-kept, lead-taken, lead-style, separator-sizes}
 use Rattle.rules.specs.Contexts.{writtenIn}
 use Rattle.rules.specs.declared.Notation.{Notation}
@@ -105,7 +105,7 @@ module _ (notation : Notation) (quotes : Quotes) where
   high-grows b h ne =
       let z : eqb 0 b ≡ false = ne-eqb 0 b (λ e. omega arith) in
       let n = none-high notation quotes b h in
-      rw (kept (writtenIn notation quotes) 0 b [] (no-start (writtenIn notation quotes) b h ne), n .0, n .1) (refl, same notation z, refl)
+      rw (kept (writtenIn notation quotes) (strings-ruleless notation quotes) 0 b [] (no-start (writtenIn notation quotes) (strings-ruleless notation quotes) b h ne), n .0, n .1) (refl, same notation z, refl)
     where
       same : (notation : Notation) → eqb 0 b ≡ false → 1 + less notation b ≡ 1
       same Script z = refl
@@ -136,7 +136,7 @@ adds c b s k m e z =
 
 -- That of a byte which grows by itself, and that of one which is kept.
 byte-adds : (notation : Notation) (quotes : Quotes) (b : ℕ) (s : List ℕ) → (b ≡ 0xE2 → ⊥) → Adds (writtenIn notation quotes) (alone notation quotes b) (b ∷ s) s
-byte-adds notation quotes b s ne = adds (writtenIn notation quotes) b s 0 (alone notation quotes b) (lone (writtenIn notation quotes) 0 b s ne) (grows notation quotes b ne .0)
+byte-adds notation quotes b s ne = adds (writtenIn notation quotes) b s 0 (alone notation quotes b) (lone (writtenIn notation quotes) (strings-ruleless notation quotes) 0 b s ne) (grows notation quotes b ne .0)
 
 kept-adds : (c : Context) (b : ℕ) (s : List ℕ) → encodeStep c 0 (b ∷ s) ≡ keep (b ∷ []) → Adds c (keep (b ∷ [])) (b ∷ s) s
 kept-adds c b s e = adds c b s 0 (keep (b ∷ [])) e refl
@@ -154,7 +154,7 @@ sheet q (b ∷ s) = go (eqb b 0xE2) refl (sheet q s)
   where
     go : (t : Bool) → eqb b 0xE2 ≡ t → InSheet q s → InSheet q (b ∷ s)
     go true e ih =
-        let a = kept-adds (InStyle q) 0xE2 s (kept (InStyle q) 0 0xE2 s (lead-style q)) in
+        let a = kept-adds (InStyle q) 0xE2 s (kept (InStyle q) (λ a. refl) 0 0xE2 s (lead-style q)) in
         let n = none-high Style q 0xE2 (omega arith) in
         rw (eqb-true b 0xE2 e, n .0, n .1) (omega (arith, a .0, ih .0), omega (arith, a .1, ih .1))
     go false e ih =

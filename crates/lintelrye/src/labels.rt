@@ -7,7 +7,7 @@ ghost use Rattle.rules.specs.declared.Operation.the-variants.{Browse};
 use rules::Operation;
 
 // The names of the contexts in the order of their numbers, a line each.
-pub const CONTEXT_NAMES: [u8; 164] = *b"\
+pub const CONTEXT_NAMES: [u8; 177] = *b"\
     text_minimal\n\
     text\n\
     double_quoted\n\
@@ -22,7 +22,8 @@ pub const CONTEXT_NAMES: [u8; 164] = *b"\
     style_double\n\
     style_quoted\n\
     script_raw\n\
-    json\n";
+    json\n\
+    ascii_quoted\n";
 
 // The names of the operations, a line each.
 pub const OPERATION_NAMES: [u8; 26] = *b"\

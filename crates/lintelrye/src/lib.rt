@@ -16,7 +16,7 @@
 //
 // The refusals, in the order in which they are checked; at most one of NOT_UTF8 and CUT_SHORT applies, and at most one of NOT_A_FORM
 // and LONE_SURROGATE:
-//   BAD_CONTEXT  the operation has no such context: encode has all fifteen, decode and read have 0 to 12 and 14, browse has 0 to 6;
+//   BAD_CONTEXT  the operation has no such context: encode has all sixteen, decode and read have 0 to 12, 14 and 15, browse has 0 to 6 and 15;
 //   BAD_RANGE    a record of a page only: the part that it names leaves the text;
 //   TOO_LONG     the text is longer than 65,536 bytes;
 //   NOT_UTF8     the text is not valid UTF-8, and not cut short; `place` is the length of its longest valid prefix;
@@ -35,6 +35,8 @@
 //     `encode` can still close the element. It is no JSON encoder: it keeps the text from closing the element, and does not make a string or a value of it.
 //   - `json` is for text between the quotes of a JSON string, inside a script element or in a JSON document; not in an attribute, where the result has
 //     to be escaped once more. decode takes any string that the RFC allows, whoever wrote it.
+//   - `ascii_quoted` is for the places of `quoted`, where only ASCII may leave: every other character is written as a reference, by name where HTML
+//     has one (the shortest, among equals the first by bytes), else by number.
 //
 // The contracts cite the definitions of crates/rules/specs: `Allowed` (Refusals.antt) fixes the seven numbers and every byte of the output,
 // by the rule of the operation in the context (Operations.antt); `checkOf` (Refusals.antt) fixes what `check` answers.
@@ -73,6 +75,7 @@ pub use stream::script_raw_part;
 pub use stream::script_raw_start;
 
 // The operations, the answer records, the contexts and the statuses.
+pub use rules::ASCII_QUOTED;
 pub use rules::Answer;
 pub use rules::BAD_CONTEXT;
 pub use rules::BAD_RANGE;
@@ -110,7 +113,7 @@ pub use rules::TOO_LONG;
 pub use rules::UNQUOTED;
 
 // Escapes `text` for `context`: every character that the context replaces is replaced, everything else is copied.
-// A result is at most six times as long as its text.
+// A result is at most six times as long as its text; for `ascii_quoted` it has at most 22 bytes for 3 of the text.
 pub fn encode(context: u32, text: &[u8], output: &mut [u8]) -> Answer
     ensures { λ r. ⌜ Allowed Encode (contextOf context) false (now (text .entry)) (now (output .entry)) r (now (output .exit)) ⌝ }
 {

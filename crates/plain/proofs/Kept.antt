@@ -8,7 +8,7 @@ use mathlib.Core.Path.{_≡_, refl, sym, ap, _∙_, subst}
 use mathlib.Core.List.{List, [], _∷_}
 use Prim.Native.Nat.{ℕ, _≤_, _<_}
 use native.Mathlib.Omega.{arith}
-use lib.Dec.{T, eqb, eqb→eq, leb, leb→le, T-not}
+use lib.Dec.{T, eqb, eqb→eq, leb, leb→le, lt→ltb, T-not}
 use Rattle.rules.specs.Bytes.{ascii, all, any, count, stands, Range, inside, oneOf}
 use Rattle.rules.specs.Moves.{keep, swap, Rule}
 use Rattle.rules.specs.Utf8.{sequenceAt, keepChar, IsChar}
@@ -18,10 +18,11 @@ use Rattle.rules.specs.Reading.{undo, unless, readStep}
 use Rattle.rules.specs.Browsing.{kindOf, browseStep}
 use Rattle.rules.specs.Json.{escapedOnly}
 use Rattle.rules.specs.Operations.{decodeStep, ruleOf}
-use Rattle.rules.specs.declared.Html.{Html}
+use Rattle.rules.specs.declared.Kind.{Kind}
+use Rattle.rules.specs.declared.Kind.the-variants.{InAttribute}
 use Rattle.rules.specs.declared.Quotes.the-variants.{Single}
 use Rattle.rules.specs.declared.Context.{Context}
-use Rattle.rules.specs.declared.Context.the-variants.{InHtml, InScript, InStyle, InJson}
+use Rattle.rules.specs.declared.Context.the-variants.{InHtml, InScript, InStyle, InJson, InAscii}
 use Rattle.rules.specs.declared.AnyContext.{AnyContext}
 use Rattle.rules.specs.declared.AnyContext.the-variants.{Units, ScriptRaw, Unknown}
 use Rattle.rules.specs.declared.Operation.{Operation}
@@ -32,6 +33,7 @@ use Rattle.rules.proofs.Every.{every}
 use Rattle.rules.proofs.Below.{below}
 use Rattle.rules.proofs.Decoder.{at-other}
 use Rattle.rules.proofs.Browsing.{browse-quiet}
+use Rattle.rules.proofs.AsciiWritten.{encode-low, read-low}
 use Rattle.plain.specs.Plain.{unquotedIn, unquotedAt, plain}
 
 -- ---- what is computed
@@ -109,19 +111,23 @@ module _ (c : Context) (b : ℕ) (t : T (plain (unquotedIn c) b)) where
   no-mark : T (oneOf (38 ∷ 60 ∷ 92 ∷ []) b) → ⊥
   no-mark = T-not (oneOf (38 ∷ 60 ∷ 92 ∷ []) b) (and-right low noMark (and-right noValue (low && noMark) (and-right noKey (noValue && (low && noMark)) found)))
 
+  -- It is no byte of which decode makes anything.
+  other : (m : ℕ) → T (oneOf (38 ∷ 60 ∷ 92 ∷ []) m) → T (eqb b m) → ⊥
+  other m i h = no-mark (subst (λ (x : ℕ). T (oneOf (38 ∷ 60 ∷ 92 ∷ []) x)) (sym (eqb→eq b m h)) i)
+
   -- encode keeps it.
   encode-kept : (p : ℕ) (s : List ℕ) → encodeStep c p (b ∷ s) ≡ keep (b ∷ [])
-  unfolding encodeStep
   encode-kept p s =
-      ap (λ (o : Option Row). write o (keep (b ∷ [])))
+      encode-low c p b s (lt→ltb b 128 (plain-low (unquotedIn c) b t))
+      ∙ ap (λ (o : Option Row). write o (keep (b ∷ [])))
       (first-none (λ (row : Row). stands (key row)) (table c) (b ∷ s)
       (λ e i. off-stands b (key e) s (all-in (offHead b) (replacedChars c) no-key (key e) (map-in key e (table c) i))))
 
   -- read keeps it.
   read-kept : (p : ℕ) (s : List ℕ) → readStep c p (b ∷ s) ≡ keep (b ∷ [])
-  unfolding readStep
   read-kept p s =
-      ap (λ (o : Option Row). undo o (unless (any (λ (k : List ℕ). stands k (b ∷ s)) (replacedChars c)) (keepChar (sequenceAt (b ∷ s)) (b ∷ s))))
+      read-low c p b s (lt→ltb b 128 (plain-low (unquotedIn c) b t)) (other 38 tt)
+      ∙ ap (λ (o : Option Row). undo o (unless (any (λ (k : List ℕ). stands k (b ∷ s)) (replacedChars c)) (keepChar (sequenceAt (b ∷ s)) (b ∷ s))))
       (first-none (λ (row : Row). stands (value row)) (rows c) (b ∷ s)
       (λ e i. off-stands b (value e) s (all-in (λ (e : Row). offHead b (value e)) (rows c) no-value e i)))
       ∙ ap (λ (x : Bool). unless x (keepChar (sequenceAt (b ∷ s)) (b ∷ s))) (is-false (any (λ (k : List ℕ). stands k (b ∷ s)) (replacedChars c)) unbarred)
@@ -132,10 +138,6 @@ module _ (c : Context) (b : ℕ) (t : T (plain (unquotedIn c) b)) where
 
       one : IsChar (b ∷ [])
       one = ((0x00, 0x7F) ∷ [], inl refl, and-both (inside (0x00, 0x7F) b) true is-low tt, refl)
-
-  -- It is no byte of which decode makes anything.
-  other : (m : ℕ) → T (oneOf (38 ∷ 60 ∷ 92 ∷ []) m) → T (eqb b m) → ⊥
-  other m i h = no-mark (subst (λ (x : ℕ). T (oneOf (38 ∷ 60 ∷ 92 ∷ []) x)) (sym (eqb→eq b m h)) i)
 
 -- Nor may any of them not stand by itself in a JSON string.
 json-plain : (b : ℕ) → T (plain false b) → T (oneOf escapedOnly b) → ⊥
@@ -150,9 +152,10 @@ decode-kept (InHtml h) b t p s = at-other (InHtml h) p b s (λ u. other (InHtml 
 decode-kept (InScript q) b t p s = at-other (InScript q) p b s (λ u. other (InScript q) b t 92 tt (or-false (eqb b 92) u))
 decode-kept (InStyle q) b t p s = at-other (InStyle q) p b s (λ u. other (InStyle q) b t 92 tt (or-false (eqb b 92) u))
 decode-kept InJson b t p s = at-other InJson p b s (json-plain b t)
+decode-kept InAscii b t p s = at-other InAscii p b s (λ u. other InAscii b t 38 tt (or-false (eqb b 38) u))
 
-browse-kept : (h : Html) (b : ℕ) → T (plain (unquotedIn (InHtml h)) b) → (p : ℕ) (s : List ℕ) → browseStep (kindOf h) p (b ∷ s) ≡ keep (b ∷ [])
-browse-kept h b t p s = browse-quiet (kindOf h) p b s (other (InHtml h) b t 38 tt)
+browse-kept : (kind : Kind) (c : Context) (b : ℕ) → T (plain (unquotedIn c) b) → (p : ℕ) (s : List ℕ) → browseStep kind p (b ∷ s) ≡ keep (b ∷ [])
+browse-kept kind c b t p s = browse-quiet kind p b s (other c b t 38 tt)
 
 -- script_raw has the plain bytes of a script string.
 raw-kept : (b : ℕ) → T (plain false b) → (p : ℕ) (s : List ℕ) → rawStep p (b ∷ s) ≡ keep (b ∷ [])
@@ -168,10 +171,11 @@ module _ (rule : Rule) (b p : ℕ) (s : List ℕ) where
   plain-kept Encode (Units c) e t = kept-by (encodeStep c) e (encode-kept c b t p s)
   plain-kept Decode (Units c) e t = kept-by (decodeStep c) e (decode-kept c b t p s)
   plain-kept Read (Units c) e t = kept-by (readStep c) e (read-kept c b t p s)
-  plain-kept Browse (Units (InHtml h)) e t = kept-by (browseStep (kindOf h)) e (browse-kept h b t p s)
+  plain-kept Browse (Units (InHtml h)) e t = kept-by (browseStep (kindOf h)) e (browse-kept (kindOf h) (InHtml h) b t p s)
   plain-kept Browse (Units (InScript q)) e t = absurd (Option·none-ne-some rule e)
   plain-kept Browse (Units (InStyle q)) e t = absurd (Option·none-ne-some rule e)
   plain-kept Browse (Units InJson) e t = absurd (Option·none-ne-some rule e)
+  plain-kept Browse (Units InAscii) e t = kept-by (browseStep InAttribute) e (browse-kept InAttribute InAscii b t p s)
   plain-kept Encode ScriptRaw e t = kept-by rawStep e (raw-kept b t p s)
   plain-kept Decode ScriptRaw e t = absurd (Option·none-ne-some rule e)
   plain-kept Read ScriptRaw e t = absurd (Option·none-ne-some rule e)

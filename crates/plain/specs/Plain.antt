@@ -12,7 +12,7 @@ use Rattle.rules.specs.Tables.{letterOrDigit}
 use Rattle.rules.specs.declared.Html.{Html}
 use Rattle.rules.specs.declared.Html.the-variants.{TextMinimal, Text, DoubleQuoted, SingleQuoted, Quoted, Safe, Unquoted}
 use Rattle.rules.specs.declared.Context.{Context}
-use Rattle.rules.specs.declared.Context.the-variants.{InHtml, InScript, InStyle, InJson}
+use Rattle.rules.specs.declared.Context.the-variants.{InHtml, InScript, InStyle, InJson, InAscii}
 use Rattle.rules.specs.declared.AnyContext.{AnyContext}
 use Rattle.rules.specs.declared.AnyContext.the-variants.{Units, ScriptRaw, Unknown}
 
@@ -32,6 +32,7 @@ unquotedIn (InHtml h) = unquoted h
 unquotedIn (InScript q) = false
 unquotedIn (InStyle q) = false
 unquotedIn InJson = false
+unquotedIn InAscii = false
 
 -- The same of any.
 abbrev pub unquotedAt : AnyContext → Bool

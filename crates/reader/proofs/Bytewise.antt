@@ -2,6 +2,7 @@
 -- kept cut into bytes. So the two have the same result, stop at the same place, and replace as many places.
 -- Assumes nothing.
 use mathlib.Core.Bool.{Bool, true, false, not}
+use mathlib.Core.Logic.{inl}
 use mathlib.Core.Option.{Option, none, some, Option·none-ne-some}
 use mathlib.Core.Path.{_≡_, refl, sym, ap, _∙_, subst}
 use mathlib.Core.List.{List, [], _∷_, _++_, append-assoc, append-nil}
@@ -12,26 +13,29 @@ use lib.Dec.{T, eqb, eqb→eq, T-not}
 use lib.ListN.{length, drop}
 use lib.Seq.{drop-append-seam}
 use Rattle.rules.specs.Bytes.{All, all, join, stands, Range}
-use Rattle.rules.specs.Moves.{Move, keep, swap, stop, takes, andThen, moves, result, replaced, firstOf, firstLeft, place, through, from}
-use Rattle.rules.specs.Utf8.{IsChar, IsText, sequenceAt, keepChar, validTo}
+use Rattle.rules.specs.Moves.{Move, keep, swap, leave, stop, takes, andThen, moves, result, replaced, firstOf, firstLeft, place, through, from}
+use Rattle.rules.specs.Utf8.{IsChar, IsText, charAt, sequenceAt, keepChar, validTo}
 use Rattle.rules.specs.Tables.{Row, rowAt, value, rows, replacedChars}
-use Rattle.rules.specs.Units.{IsUnit}
+use Rattle.rules.specs.Units.{IsRun}
 use Rattle.rules.specs.Encoding.{keepByte}
 use Rattle.rules.specs.Answers.{Measures}
-use Rattle.rules.specs.Reading.{undo, unless, readStep}
+use Rattle.rules.specs.Ascii.{referTo}
+use Rattle.rules.specs.Reading.{undo, unless, readBy, ruleBack, readStep}
 use Rattle.rules.specs.Operations.{readOf, readTo}
 use Rattle.rules.specs.declared.Context.{Context}
+use Rattle.rules.specs.declared.Context.the-variants.{InHtml, InScript, InStyle, InJson, InAscii}
 use Rattle.rules.proofs.Tests.{and-left, is-false, all-in, any-in}
-use Rattle.rules.proofs.Machine.{Makes, Follows, Ends, singly, cut, follows-cut, retrace, moves-fair, taken-cut, result-cut, replaced-cut}
+use Rattle.rules.proofs.Machine.{Makes, Follows, Fair, Ends, singly, cut, follows-cut, retrace, moves-fair, taken-cut, result-cut, replaced-cut}
 use Rattle.rules.proofs.Reasons.{no-lefts, read-leaveless}
 use Rattle.rules.proofs.Codes.{Reads}
 use Rattle.rules.proofs.Chars.{isTail, char-unique, char-singly, sequence-of-char, sequence-pos, pred-of}
-use Rattle.rules.proofs.Tables.{barred, bar-stops, row-length, row-first, table-reads}
+use Rattle.rules.proofs.Tables.{IsEntry, barred, bar-stops, row-length, row-first, table-reads}
+use Rattle.rules.proofs.Reader.{by-rows}
 use Rattle.rules.proofs.Valid.{valid-iff}
 use Rattle.rules.proofs.Every.{every, values-code}
 use Rattle.rules.proofs.Encoder.{run-text}
 use Rattle.base.proofs.Counted.{Counted, counted-end}
-use Rattle.reader.specs.Units.{byteStep}
+use Rattle.reader.specs.Units.{Ruleless, byteStep}
 use Rattle.reader.proofs.Characters.{keeps-plain}
 
 -- ---- what is left of a text after some of its characters is a text
@@ -71,12 +75,36 @@ tail-plain c y s t = is-false (barred (replacedChars c) (y ∷ s)) (λ b. let (k
     go [] l h = l
     go (x ∷ k) l h = T-not (isTail x) l (subst (λ (z : ℕ). T (isTail z)) (sym (eqb→eq x y (and-left (eqb x y) (stands k s) h))) t)
 
-module _ (c : Context) where
-  units-read : Reads (IsUnit (rows c) (replacedChars c)) (readStep c)
-  unfolding readStep
-  units-read = table-reads (rows c) (replacedChars c) (values-code c)
+-- Without a rule nothing is undone by one.
+no-back : (c : Context) → Ruleless c → (s : List ℕ) → ruleBack c s ≡ none
+no-back (InHtml h) ruleless s = refl
+no-back (InScript q) ruleless s = refl
+no-back (InStyle q) ruleless s = refl
+no-back InJson ruleless s = refl
+no-back InAscii ruleless s = absurd (Option·none-ne-some (referTo (0xC3 ∷ 0xA9 ∷ [])) (sym (ruleless (0xC3 ∷ 0xA9 ∷ []))))
 
-  byte-keeps : (a : List ℕ) → IsUnit (rows c) (replacedChars c) (keep a) → (r : List ℕ) → Follows (byteStep c) (singly a) r
+module _ (c : Context) (ruleless : Ruleless c) where
+  -- The rows alone count.
+  step-rows : (p : ℕ) (s : List ℕ) → readStep c p s ≡ readBy (rows c) (replacedChars c) p s
+  step-rows p s = by-rows c p s (no-back c ruleless s) (ap (λ (o : Option (List ℕ)). elim o [ none ↦ false | some v ↦ true ]) (ruleless (charAt s)))
+
+  units-read : Reads (IsEntry (rows c) (replacedChars c)) (readStep c)
+  units-read =
+      let reads = table-reads (rows c) (replacedChars c) (values-code c) in
+      record {
+        finds = λ u i r. let (k, l, e) = reads .finds u i r in (k, l, λ p. step-rows p (takes u ++ r) ∙ e p);
+        fair = λ p s. subst (λ (m : Move). Fair (IsEntry (rows c) (replacedChars c)) m s) (sym (step-rows p s)) (reads .fair p s);
+      }
+
+  -- Its units are the context's.
+  entries-run : (ms : List Move) → All (IsEntry (rows c) (replacedChars c)) ms → IsRun c ms
+  entries-run [] g = tt
+  entries-run (keep a ∷ ms) g = ((g .0 .0, g .0 .1, ruleless a), entries-run ms (g .1))
+  entries-run (swap v k ∷ ms) g = (inl (g .0), entries-run ms (g .1))
+  entries-run (leave w a ∷ ms) g = absurd (g .0)
+  entries-run (stop w ∷ ms) g = absurd (g .0)
+
+  byte-keeps : (a : List ℕ) → IsEntry (rows c) (replacedChars c) (keep a) → (r : List ℕ) → Follows (byteStep c) (singly a) r
   byte-keeps [] u r = tt
   byte-keeps (x ∷ a) u r =
       char-singly (byteStep c) (λ p y s t. keeps-plain c p y s (tail-plain c y s t)) x a r (u .0)
@@ -85,7 +113,7 @@ module _ (c : Context) where
       (λ b. let (k, i, h) = any-in (λ (k : List ℕ). stands k (x ∷ (a ++ r))) (replacedChars c) b in
       bar-stops value (rows c) (replacedChars c) (values-code c) (x ∷ a) r u k i h)))
 
-  byte-swaps : (v k : List ℕ) → IsUnit (rows c) (replacedChars c) (swap v k) → (r : List ℕ) → Makes (byteStep c) (swap v k) r
+  byte-swaps : (v k : List ℕ) → IsEntry (rows c) (replacedChars c) (swap v k) → (r : List ℕ) → Makes (byteStep c) (swap v k) r
   unfolding byteStep
   byte-swaps v k i r = (
     pred (length v),
@@ -95,9 +123,9 @@ module _ (c : Context) where
 
   -- Where the one reader stops before a text, so does the other.
   byte-stops : (r : List ℕ) → IsText r → Ends (readStep c) r → (q : ℕ) → moves (byteStep c) q 0 r ≡ []
-  unfolding readStep byteStep
+  unfolding byteStep
   byte-stops [] t end q = refl
-  byte-stops (x ∷ s) t end q = ap (λ (m : Move). andThen m (moves (byteStep c) x (pred (length (takes m))) s)) (go (rowAt value (rows c) (x ∷ s)) (barred (replacedChars c) (x ∷ s)) (sequenceAt (x ∷ s)) refl (end .2))
+  byte-stops (x ∷ s) t end q = ap (λ (m : Move). andThen m (moves (byteStep c) x (pred (length (takes m))) s)) (go (rowAt value (rows c) (x ∷ s)) (barred (replacedChars c) (x ∷ s)) (sequenceAt (x ∷ s)) refl (sym (step-rows (end .0) (x ∷ s)) ∙ end .2))
     where
       go : (o : Option Row) (b : Bool) (w : Option (List Range)) → sequenceAt (x ∷ s) ≡ w → undo o (unless b (keepChar w (x ∷ s))) ≡ stop (end .1) → undo o (unless b (keep (x ∷ []))) ≡ stop (end .1)
       go (some e) b w h f = f
@@ -109,11 +137,11 @@ module _ (c : Context) where
   byte-moves : (t : List ℕ) → validTo t ≡ length t → through (byteStep c) t ≡ cut (through (readStep c) t)
   byte-moves t h =
       let ms = through (readStep c) t in
-      let (g, r, e, end) = moves-fair (IsUnit (rows c) (replacedChars c)) (readStep c) (units-read .fair) 0 0 t in
+      let (g, r, e, end) = moves-fair (IsEntry (rows c) (replacedChars c)) (readStep c) (units-read .fair) 0 0 t in
       let (cs, f, q) = valid-iff t .1 h in
-      let (ds, f′, q′) = run-text c ms g in
+      let (ds, f′, q′) = run-text c ms (entries-run ms g) in
       let left = text-rest ds cs r f′ f (ap (λ (a : List ℕ). a ++ r) (sym q′) ∙ sym e ∙ q) in
-      let (p, w) = retrace (byteStep c) 0 (cut ms) r (follows-cut (byteStep c) (IsUnit (rows c) (replacedChars c)) byte-keeps byte-swaps (λ w a u. u) ms g r) in
+      let (p, w) = retrace (byteStep c) 0 (cut ms) r (follows-cut (byteStep c) (IsEntry (rows c) (replacedChars c)) byte-keeps byte-swaps (λ w a u. u) ms g r) in
       ap (through (byteStep c)) (e ∙ ap (λ (a : List ℕ). a ++ r) (sym (taken-cut ms))) ∙ w ∙ ap (λ (ns : List Move). cut ms ++ ns) (byte-stops r left end p) ∙ append-nil (cut ms)
 
   pub byte-result : (t : List ℕ) → validTo t ≡ length t → result (through (byteStep c) t) ≡ readOf c t

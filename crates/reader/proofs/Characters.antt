@@ -18,7 +18,7 @@ use Rattle.rules.specs.Encoding.{keepByte}
 use Rattle.rules.specs.Reading.{undo, unless}
 use Rattle.rules.specs.declared.Html.{Html}
 use Rattle.rules.specs.declared.Context.{Context}
-use Rattle.rules.specs.declared.Context.the-variants.{InHtml, InScript, InStyle, InJson}
+use Rattle.rules.specs.declared.Context.the-variants.{InHtml, InScript, InStyle, InJson, InAscii}
 use Rattle.rules.specs.declared.Escape.{Escape}
 use Rattle.rules.specs.declared.Escape.the-variants.{Taken, Nothing}
 use Rattle.rules.proofs.Tests.{and-left, and-right, is-false, all-in, any-in, any-intro, first-none, same-bytes, same-in, stands-self, stands-split}
@@ -76,6 +76,7 @@ separates (InHtml h) = false
 separates (InScript q) = true
 separates (InStyle q) = false
 separates InJson = true
+separates InAscii = false
 
 abbrev separatorsIn : Bool → List (List ℕ)
 separatorsIn true = (0xE2 ∷ 0x80 ∷ 0xA8 ∷ []) ∷ (0xE2 ∷ 0x80 ∷ 0xA9 ∷ []) ∷ []

@@ -1,4 +1,4 @@
-// read, the strict reader: a text that is a run of the context's units, read back.
+// read, the strict reader: a text that is a run of the context's units, read back, in the contexts whose units are those of a table.
 ghost use mathlib.Core.Path.{_≡_};
 ghost use Prim.Native.Nat.{_≤_};
 ghost use lib.ListN.{length};
@@ -8,6 +8,7 @@ ghost use Rattle.rules.specs.Utf8.{validTo};
 ghost use Rattle.rules.specs.Answers.{Measures};
 ghost use Rattle.rules.specs.Reading.{readStep};
 ghost use Rattle.rules.specs.Operations.{readOf};
+ghost use Rattle.reader.specs.Units.{Ruleless};
 use decode_strings::rows;
 use rules::Context;
 use rules::Escape;
@@ -20,7 +21,7 @@ pub mod units;
 // is plain up to the next replaced character; if that is the byte itself, the reader stops there. The packed unit is used here and `read_unit` in
 // `write`: with one user the compiler puts `read_unit` in line.
 pub fn measure(c: Context, text: &[u8]) -> Measured
-    requires { ⌜ (length (now text) ≤ 65536) × (validTo (now text) ≡ length (now text)) ⌝ }
+    requires { ⌜ (length (now text) ≤ 65536) × (validTo (now text) ≡ length (now text)) × Ruleless c ⌝ }
     ensures { λ r. ⌜ Measures r (through (readStep c) (now (text .entry))) ⌝ }
 {
     let leads = replaced::leads_of(c);
@@ -71,7 +72,7 @@ pub fn measure(c: Context, text: &[u8]) -> Measured
 // Writes the result of read of a valid text to the start of `output`, leaves the bytes after it as they were, and returns what `measure` does. It goes
 // through the text as that does.
 pub fn write(c: Context, text: &[u8], output: &mut [u8]) -> Measured
-    requires { ⌜ (validTo (now text) ≡ length (now text)) × (length (readOf c (now text)) ≤ length (now output)) ⌝ }
+    requires { ⌜ (validTo (now text) ≡ length (now text)) × (length (readOf c (now text)) ≤ length (now output)) × Ruleless c ⌝ }
     ensures { λ r. ⌜ Measures r (through (readStep c) (now (text .entry))) × (now (output .exit) ≡ over (readOf c (now (text .entry))) (now (output .entry))) ⌝ }
 {
     let leads = replaced::leads_of(c);

@@ -60,6 +60,7 @@ pub fn leads_of(c: Context) -> [u8; 8]
         Context::InScript(quotes) => string_leads(Language::Script, quotes),
         Context::InStyle(quotes) => string_leads(Language::Style, quotes),
         Context::InJson => string_leads(Language::Script, Quotes::Double),
+        Context::InAscii => html_leads(Html::Quoted),
     }
 }
 
@@ -157,6 +158,7 @@ pub fn set_of(c: Context) -> [u64; 4]
         Context::InScript(quotes) => string_set(Language::Script, quotes),
         Context::InStyle(quotes) => string_set(Language::Style, quotes),
         Context::InJson => string_set(Language::Script, Quotes::Double),
+        Context::InAscii => html_set(Html::Quoted),
     }
 }
 

@@ -185,6 +185,7 @@ pub fn unit(c: Context, set: &[u64; 4], text: &[u8], at: usize) -> u32
         Context::InScript(quotes) => string_unit(Language::Script, quotes, text, at),
         Context::InStyle(quotes) => string_unit(Language::Style, quotes, text, at),
         Context::InJson => json_unit(text, at),
+        Context::InAscii => html_unit(Html::Quoted, set, text, at),
     }
 }
 
@@ -205,5 +206,6 @@ pub fn mark_of(c: Context) -> u8
         Context::InScript(_) => b'\\',
         Context::InStyle(_) => b'\\',
         Context::InJson => b'\\',
+        Context::InAscii => b'&',
     }
 }

@@ -22,7 +22,7 @@ use Rattle.rules.specs.declared.AnyContext.{AnyContext}
 use Rattle.rules.specs.declared.AnyContext.the-variants.{Units, ScriptRaw, Unknown}
 use Rattle.rules.specs.declared.Checked.{Checked}
 use Rattle.rules.specs.declared.Context.{Context}
-use Rattle.rules.specs.declared.Context.the-variants.{InHtml, InScript, InStyle, InJson}
+use Rattle.rules.specs.declared.Context.the-variants.{InHtml, InScript, InStyle, InJson, InAscii}
 use Rattle.rules.specs.declared.Operation.the-variants.{Encode, Read}
 use Rattle.rules.proofs.Machine.{same-result}
 use Rattle.rules.proofs.Laws.{form-iff, form-within, form-text, form-free, read-whole, read-length, encode-read}
@@ -213,17 +213,19 @@ module _ (c : Context) where
           let (a, l) = ih u (subst IsText q (cs, g, w)) in
           (a, omega (arith, l, shorter s u q))
 
+  -- A field that check passes, of at most 8,192 bytes: encode writes its last text within as many.
+  within : (t : List ℕ) (b : Bool) → ltb 8192 (size t) ≡ b → cond b 1 (checkOf (Units c) t .status) ≡ 0 → Writable (Units c) (core 4 (Units c) t) × (size t ≤ 8192)
+  within t true l e = absurd (numbers 1 0 e tt)
+  within t false l e =
+      let f = check-form c t .0 e .0 in
+      let (x, z) = core-text 4 t (form-text c t f) in
+      let m = ltb-false 8192 (size t) l in
+      (record { known = λ q. Option·some-ne-none _ q; valid = x; short = omega (arith, z, m); fits = omega (arith, core-fits 3 t f, m) }, m)
+
 -- A field that passes has at most 8,192 bytes, and encode writes its last text within as many.
 pub writable : (n : AnyContext) (t : List ℕ) → statusOf n t ≡ 0 → Writable n (core 4 n t) × (size t ≤ 8192)
-writable (Units (InHtml h)) t = go (ltb 8192 (size t)) refl
-  where
-    go : (b : Bool) → ltb 8192 (size t) ≡ b → cond b 1 (checkOf (Units (InHtml h)) t .status) ≡ 0 → Writable (Units (InHtml h)) (core 4 (Units (InHtml h)) t) × (size t ≤ 8192)
-    go true l e = absurd (numbers 1 0 e tt)
-    go false l e =
-        let f = check-form (InHtml h) t .0 e .0 in
-        let (x, z) = core-text (InHtml h) 4 t (form-text (InHtml h) t f) in
-        let m = ltb-false 8192 (size t) l in
-        (record { known = λ q. Option·some-ne-none _ q; valid = x; short = omega (arith, z, m); fits = omega (arith, core-fits (InHtml h) 3 t f, m) }, m)
+writable (Units (InHtml h)) t = within (InHtml h) t (ltb 8192 (size t)) refl
+writable (Units InAscii) t = within InAscii t (ltb 8192 (size t)) refl
 writable (Units (InScript q)) t = λ e. absurd (numbers 5 0 e tt)
 writable (Units (InStyle q)) t = λ e. absurd (numbers 5 0 e tt)
 writable (Units InJson) t = λ e. absurd (numbers 5 0 e tt)

@@ -3,7 +3,7 @@
 -- Assumes nothing.
 use mathlib.Core.Bool.{Bool, true, false}
 use mathlib.Core.Option.{Option, none, some}
-use mathlib.Core.Path.{_≡_, refl, sym, ap, _∙_}
+use mathlib.Core.Path.{_≡_, refl, sym, ap, _∙_, subst}
 use mathlib.Core.List.{List, [], _∷_, _++_}
 use Prim.Native.Nat.{ℕ, zero, suc, _≤_}
 use native.Mathlib.Nat.{suc-ne-zero}
@@ -20,12 +20,12 @@ use Rattle.rules.specs.Operations.{encodeOf, readOf, readTo}
 use Rattle.rules.specs.Program.{decimal}
 use Rattle.rules.specs.declared.AnyContext.the-variants.{Units}
 use Rattle.rules.specs.declared.Context.{Context}
-use Rattle.rules.specs.declared.Context.the-variants.{InHtml}
-use Rattle.rules.specs.declared.Html.{Html}
+use Rattle.rules.specs.declared.Context.the-variants.{InHtml, InScript, InStyle, InJson, InAscii}
 use Rattle.rules.proofs.Machine.{same-result}
 use Rattle.rules.proofs.Laws.{form-iff, form-text, read-whole, read-encode, encode-form, encode-any, encode-injective}
 use Rattle.rules.proofs.Check.{check-form}
-use Rattle.repairs.specs.Repair.{peel, layers, core, statusOf, mended, repaired}
+use Rattle.rules.proofs.Stream.{true-false}
+use Rattle.repairs.specs.Repair.{peel, layers, core, isHtml, statusOf, mended, repaired}
 use Rattle.repairs.proofs.Peeling.{layers-by, core-by, kept}
 
 -- A field in form in which nothing is replaced comes out unchanged, with 0 layers.
@@ -38,10 +38,15 @@ core-same c k s f z = go (peel (Units c) s) refl
 
 -- ---- a text that was encoded some times, in an HTML context
 
-module _ (h : Html) where
-  abbrev html : Context
-  html = InHtml h
+-- encode of an HTML context has a form for every text.
+html-all : (c : Context) → isHtml (Units c) ≡ true → unread c ≡ []
+html-all (InHtml h) e = refl
+html-all (InScript q) e = true-false (sym e)
+html-all (InStyle q) e = true-false (sym e)
+html-all InJson e = true-false (sym e)
+html-all InAscii e = refl
 
+module _ (html : Context) (is : isHtml (Units html) ≡ true) where
   -- A text, encoded k times.
   abbrev pub encodes : ℕ → List ℕ → List ℕ
   encodes zero t = t
@@ -52,7 +57,7 @@ module _ (h : Html) where
   free-all (a ∷ cs) = ((λ i. i), free-all cs)
 
   text-free : (t : List ℕ) → IsText t → IsFree (unread html) t
-  text-free t x = let (cs, g, e) = x in (cs, g, free-all cs, e)
+  text-free t x = let (cs, g, e) = x in subst (λ (z : List (List ℕ)). IsFree z t) (sym (html-all html is)) (cs, g, free-all cs, e)
 
   encodes-text : (k : ℕ) (t : List ℕ) → IsText t → IsText (encodes k t)
   encodes-text zero t x = x
@@ -93,7 +98,7 @@ module _ (h : Html) where
 
   -- A field in form of at most 8,192 bytes passes.
   form-passes : (s : List ℕ) → IsForm html s → size s ≤ 8192 → statusOf (Units html) s ≡ 0
-  form-passes s f m = rw (le-ltb 8192 (size s) m) (check-form html s .1 (f, omega (arith, m)))
+  form-passes s f m = rw (is, le-ltb 8192 (size s) m) (check-form html s .1 (f, omega (arith, m)))
 
   -- What the program prints then.
   passes-prints : (s : List ℕ) → statusOf (Units html) s ≡ 0 → repaired (Units html) s ≡ mended (Units html) s

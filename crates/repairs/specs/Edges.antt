@@ -34,9 +34,13 @@ edges =
     ∷ (stored (ascii "single_quoted") (ascii "&amp;#x27;"), ascii "layers=2\ntext=&#x27;")
     ∷ (stored (ascii "safe") (ascii "&amp;#x2F;"), ascii "layers=2\ntext=&#x2F;")
     ∷ (stored (ascii "unquoted") (ascii "a&amp;&#x23;x20&#x3B;b"), ascii "layers=2\ntext=a&#x20;b")
+    ∷ (stored (ascii "ascii_quoted") (ascii "&amp;eacute; &amp;"), ascii "layers=1\ntext=&amp;eacute; &amp;")
+    ∷ (stored (ascii "ascii_quoted") (ascii "&amp;amp;eacute;"), ascii "layers=3\ntext=&eacute;")
     -- no form; not UTF-8; cut short; too long
     ∷ (stored (ascii "quoted") (ascii "AT&T"), ascii "status=4\n")
     ∷ (stored (ascii "text_minimal") (ascii "&gt;"), ascii "status=4\n")
+    ∷ (stored (ascii "ascii_quoted") (ascii "&copy;"), ascii "status=4\n")
+    ∷ (stored (ascii "ascii_quoted") (0xC3 ∷ 0xA9 ∷ []), ascii "status=4\n")
     ∷ (stored (ascii "quoted") (0x61 ∷ 0xC3 ∷ 0x28 ∷ []), ascii "status=2\n")
     ∷ (stored (ascii "quoted") (0x26 ∷ 0xC3 ∷ []), ascii "status=7\n")
     ∷ (stored (ascii "quoted") (unreadable 8191), ascii "status=2\n")

@@ -13,7 +13,7 @@ use Rattle.rules.specs.Refusals.{Call, movesOf, checkOf}
 use Rattle.rules.specs.Program.{contextLine, decimal}
 use Rattle.rules.specs.declared.AnyContext.{AnyContext}
 use Rattle.rules.specs.declared.AnyContext.the-variants.{Units, ScriptRaw, Unknown}
-use Rattle.rules.specs.declared.Context.the-variants.{InHtml, InScript, InStyle, InJson}
+use Rattle.rules.specs.declared.Context.the-variants.{InHtml, InScript, InStyle, InJson, InAscii}
 use Rattle.rules.specs.declared.Operation.the-variants.{Encode, Read}
 
 -- The moves of a strict reading of a text.
@@ -44,6 +44,7 @@ isHtml (Units (InHtml h)) = true
 isHtml (Units (InScript q)) = false
 isHtml (Units (InStyle q)) = false
 isHtml (Units InJson) = false
+isHtml (Units InAscii) = true
 isHtml ScriptRaw = false
 isHtml Unknown = false
 

@@ -61,6 +61,7 @@ fn is_html(context: Context) -> bool
         Context::InScript(_) => false,
         Context::InStyle(_) => false,
         Context::InJson => false,
+        Context::InAscii => true,
     }
 }
 

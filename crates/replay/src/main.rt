@@ -320,19 +320,26 @@ fn replay(
     state
 }
 
-// Room for the list, a text, a result or an output. The length is what lending a part of it asks for.
-fn buffer() -> [u8; 1572864]
-    ensures { λ r. ⌜ 1572864 ≡ length r ⌝ }
+// Room for the list. The length is what lending a part of it asks for.
+fn buffer() -> [u8; 2097152]
+    ensures { λ r. ⌜ 2097152 ≡ length r ⌝ }
 {
-    [0; 1572864]
+    [0; 2097152]
+}
+
+// Room for a text, a result or an output.
+fn room() -> [u8; 1048576]
+    ensures { λ r. ⌜ 1048576 ≡ length r ⌝ }
+{
+    [0; 1048576]
 }
 
 // Reads the list, replays it and prints the report.
 fn main() {
     let mut list = buffer();
-    let mut text = buffer();
-    let mut result = buffer();
-    let mut output = buffer();
+    let mut text = room();
+    let mut result = room();
+    let mut output = room();
     let mut tally: [u64; 258] = [0; 258];
     let n = io::read_full(STDIN_FILENO, &mut list);
     let state = replay(&list[..n], &mut text, &mut result, &mut output, &mut tally);

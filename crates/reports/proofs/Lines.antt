@@ -45,7 +45,7 @@ unfolding caseBy
 long-case rule t room h = rw (lt-ltb 8192 (size t) h)
 
 long-status : (t : List ℕ) → 8192 < size t → statusOf t ≡ 1
-long-status t h = ap (λ (row : Case). answerAt row t (movesIn (decoding t)) .status) (long-case (decodeStep (InHtml Text)) t (6 * 8192) h)
+long-status t h = ap (λ (row : Case). answerAt row t (movesIn (decoding t)) .status) (long-case (decodeStep (InHtml Text)) t 60074 h)
 
 long-text : (t : List ℕ) → 8192 < size t → reasonsOf t ≡ statusLine 1
 unfolding reasonsOf

@@ -53,17 +53,17 @@ module _ (t : List ℕ) (long : 8192 < size t) where
   prints by row = printed (answerAt row t (movesOf by t)) (shown (answerAt row t (movesOf by t)) (result (movesOf by t)))
 
   -- The text itself does not matter.
-  long-text : (by : Option Rule) → prints by (caseBy by false 8192 t (6 * 8192)) ≡ refusal by
+  long-text : (by : Option Rule) → prints by (caseBy by false 8192 t (60074)) ≡ refusal by
   unfolding caseBy
   long-text none = refl
   long-text (some rule) =
       λ i. prints (some rule)
       (chosen (lt-ltb 8192 (size t) long i) (ltb (validTo t) (size t)) (isCut (drop (validTo t) t)) (ltb (place (through rule t)) (size t)) (eqb (whyAt rule t) 10) (false && eqb (replaced (through rule t)) 0)
-      (ltb (6 * 8192) (size (result (through rule t)))))
+      (ltb (60074) (size (result (through rule t)))))
 
 -- The call of a text.
 abbrev pub calls : Operation → AnyContext → List ℕ → Call
-calls o c t = record { operation = o; context = c; borrows = false; limit = 8192; text = t; room = 6 * 8192 }
+calls o c t = record { operation = o; context = c; borrows = false; limit = 8192; text = t; room = 60074 }
 
 call-cut : (o : Operation) (c : AnyContext) (t : List ℕ) (n : ℕ) → 8193 ≤ n → printedCall (calls o c (take n t)) ≡ printedCall (calls o c t)
 call-cut o c t n h = go (ltb 8192 (size t)) refl

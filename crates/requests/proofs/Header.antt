@@ -191,7 +191,7 @@ pub no-text : (o : Operation) (n : AnyContext) (s : List ℕ) → stands (ascii 
 no-text o n s e = rw e
 
 -- It does, and the call is that of the rest.
-pub some-text : (o : Operation) (number : ℕ) (s : List ℕ) → stands (ascii "text=") s ≡ true → textOf o (contextOf number) s ≡ some (asked o number (drop 5 s) 49152)
+pub some-text : (o : Operation) (number : ℕ) (s : List ℕ) → stands (ascii "text=") s ≡ true → textOf o (contextOf number) s ≡ some (asked o number (drop 5 s) 60074)
 some-text o number s e = rw e
 
 -- ---- the line of the context, and `text=` behind it
@@ -203,11 +203,11 @@ module _ (o : Operation) (s : List ℕ) (j n : ℕ) (found : some (j, n) ≡ lin
   text-none e = after-line (ascii "context=") s (textOf o) Unknown contextNames j n found ∙ no-text o (contextOf j) (drop n s) e
 
   -- `text=` does, and the text is the rest.
-  pub text-some : stands (ascii "text=") (drop n s) ≡ true → contextLine o s ≡ some (asked o j (drop (n + 5) s) 49152)
+  pub text-some : stands (ascii "text=") (drop n s) ≡ true → contextLine o s ≡ some (asked o j (drop (n + 5) s) 60074)
   unfolding contextOf
   text-some e =
       after-line (ascii "context=") s (textOf o) Unknown contextNames j n found ∙ some-text o j (drop n s) e
-      ∙ ap (λ (t : List ℕ). some (asked o j t 49152)) (drop-drop 5 n s)
+      ∙ ap (λ (t : List ℕ). some (asked o j t 60074)) (drop-drop 5 n s)
 
 -- The text begins within the request.
 pub text-within : (s : List ℕ) (n : ℕ) → n ≤ size s → stands (ascii "text=") (drop n s) ≡ true → n + 5 ≤ size s

@@ -74,8 +74,8 @@ module _ (o : Operation) (number : ℕ) (t out : List ℕ) where
       go written h = not-below (size (result ms)) (size out) (h .1 .1 .1 .1 .1 .1 .1 .1 .0)
 
   -- What the program prints: the lines of the answer, and then what view gives.
-  pub said : (a : Answer) (after view : List ℕ) → 49152 ≡ size out → a ≡ answerTo k → after ≡ outputOf k out → view ≡ viewOf t after (a .same) (a .length)
-      → (printedCall (asked o number t 49152) ≡ printed a [] ++ view) × (size view ≤ 49152)
+  pub said : (a : Answer) (after view : List ℕ) → 60074 ≡ size out → a ≡ answerTo k → after ≡ outputOf k out → view ≡ viewOf t after (a .same) (a .length)
+      → (printedCall (asked o number t 60074) ≡ printed a [] ++ view) × (size view ≤ 60074)
   said a after view r p q v =
       let w : view ≡ shown (answerTo k) (result ms) = v ∙ (λ i. viewOf t (q i) (p i .same) (p i .length)) ∙ viewed in (
         ap (λ (m : ℕ). printedCall (asked o number t m)) r ∙ printed-text (answerTo k) (shown (answerTo k) (result ms)) ∙ (λ i. printed (sym p i) [] ++ sym w i),

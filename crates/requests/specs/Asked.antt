@@ -10,15 +10,11 @@ use lib.ListN.{length as size, drop}
 use Rattle.rules.specs.Bytes.{ascii, over}
 use Rattle.rules.specs.Contexts.{contextOf}
 use Rattle.rules.specs.Refusals.{Call, refusal, answerAt, outAt, caseOf, movesIn}
-use Rattle.rules.specs.Program.{decimal, printed, printedCall}
+use Rattle.rules.specs.Program.{resultRoom, decimal, printed, printedCall}
 use Rattle.rules.specs.declared.Answer.{Answer}
 use Rattle.rules.specs.declared.Operation.{Operation}
 use Rattle.requests.specs.declared.lines.Line.{Line}
 use Rattle.requests.specs.declared.lines.Line.the-variants.{Names, Nothing}
-
--- Room for every result of a request: six times its longest text.
-abbrev pub resultRoom : ℕ
-resultRoom = 49152
 
 -- The first three lines of an answer: status, length and same.
 abbrev pub firstLines : Answer → List ℕ

@@ -12,9 +12,9 @@ ghost use lib.ListN.{length, take};
 ghost use Rattle.rules.specs.Bytes.{over};
 ghost use Rattle.rules.specs.Contexts.{contextOf};
 ghost use Rattle.rules.specs.Refusals.{Allowed};
-ghost use Rattle.rules.specs.Program.{entityOf, requestOf, contextLine, printedCall};
+ghost use Rattle.rules.specs.Program.{resultRoom, entityOf, requestOf, contextLine, printedCall};
 ghost use Rattle.rules.specs.declared.Operation.the-variants.{Read};
-ghost use Rattle.requests.specs.Asked.{resultRoom, replyRoom, asked, answerTo, outputOf, refused, printedBy, Prints};
+ghost use Rattle.requests.specs.Asked.{replyRoom, asked, answerTo, outputOf, refused, printedBy, Prints};
 use crate::lines::Line;
 use lintelrye::Answer;
 use lintelrye::Operation;
@@ -23,8 +23,8 @@ use lintelrye::labels;
 // The longest text of a request, in bytes.
 pub const TEXT_LIMIT: usize = 8192;
 
-// Room for every result: a result is at most six times as long as its text.
-pub const RESULT_ROOM: usize = 6 * TEXT_LIMIT;
+// Room for every result: a result has at most 22 bytes for 3 of its text.
+pub const RESULT_ROOM: usize = 22 * TEXT_LIMIT / 3;
 
 // Room for every reply: the lines of an answer, and a result.
 pub const REPLY_ROOM: usize = 65536;

@@ -21,7 +21,7 @@ use Rattle.rules.specs.Operations.{decodeStep, ruleOf, encodeOf, readOf,
 use Rattle.rules.specs.Refusals.{Call, Case, bad-context, too-long, not-utf8, cut-short, not-a-form, lone-surrogate, lent, no-room, written, Lone, NoForm, Given, movesIn, caseOf, refusal, success, answerAt, outAt, textLimit, judge, caseBy, call, answerOf, outOf, Allowed, viewOf}
 use Rattle.rules.specs.declared.Answer.{Answer}
 use Rattle.rules.specs.declared.Context.{Context}
-use Rattle.rules.specs.declared.Context.the-variants.{InHtml, InScript, InStyle, InJson}
+use Rattle.rules.specs.declared.Context.the-variants.{InHtml, InScript, InStyle, InJson, InAscii}
 use Rattle.rules.specs.declared.Operation.{Operation}
 use Rattle.rules.specs.declared.Operation.the-variants.{Decode, Read}
 use Rattle.rules.specs.declared.AnyContext.{AnyContext}
@@ -60,6 +60,7 @@ fine : (c : Context) (t : List ℕ) → IsFree (undecoded c) t → (NoForm Decod
 fine (InHtml h) t f = (λ no. no, λ no. no)
 fine (InScript q) t f = (λ no. no, λ no. no)
 fine (InStyle q) t f = (λ no. no, λ no. no)
+fine InAscii t f = (λ no. no, λ no. no)
 fine InJson t f = let (cs, h, b, e) = f in let content = encode-content t (cs, h, e) in (λ no. no .0 content, content-alone (encodeOf InJson t) content)
 
 -- An operation takes a text from what was written: the call passes, and view gives that text.

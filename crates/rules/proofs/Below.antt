@@ -19,7 +19,7 @@ counted f a zero k h = absurd (omega arith)
 counted f a (suc n) zero h = rw add-zero
 counted f a (suc n) (suc k) h = let e : suc a + k ≡ a + suc k = omega arith in counted f (suc a) n k (omega arith) ∙ ap f e
 
-count-in : (a n k : ℕ) → a ≤ k → k < a + n → In k (count a n)
+pub count-in : (a n k : ℕ) → a ≤ k → k < a + n → In k (count a n)
 count-in a zero k h l = absurd (omega arith)
 count-in a (suc n) k h l = go (eq-or-lt-of-le h) (λ i. count-in (suc a) n k i (omega arith))
   where

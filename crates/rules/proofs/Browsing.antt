@@ -468,6 +468,15 @@ numbered-alike kind s body v n e f g = let (r, w) = body-split s body e in ap (r
         go false true f = number-ended digit refl 10 n (x ∷ []) (y ∷ ds) r v f g
         go false false f = absurd (Option·none-ne-some n f)
 
+-- A body before its `;`, taken for what it stands for in browse.
+pub body-alike : (kind : Kind) (s body v : List ℕ) → bodyOf s ≡ some body → meaning browseChar body ≡ some v → referenceAt kind s ≡ some (body ++ ascii ";", v)
+body-alike kind s body v e f = go (numberOf body) refl f
+  where
+    go : (o : Option ℕ) → numberOf body ≡ o → _≡_ {A = Option (List ℕ)} (elim o [ some n ↦ browseChar n | none ↦ lookup names body ]) (some v)
+        → referenceAt kind s ≡ some (body ++ ascii ";", v)
+    go none g f = named-alike kind s body v e f
+    go (some n) g f = numbered-alike kind s body v n e g f
+
 -- What decode takes for a reference browse takes too, for the same, unless it is one of the 27 numbers.
 pub decode-alike : (kind : Kind) (s body v : List ℕ) → bodyOf s ≡ some body → meaning decodeChar body ≡ some v
     → ((n : ℕ) → numberOf body ≡ some n → In n renumbered → ⊥) → referenceAt kind s ≡ some (body ++ ascii ";", v)

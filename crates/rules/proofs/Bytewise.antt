@@ -12,7 +12,9 @@ use lib.ListN.{length}
 use Rattle.rules.specs.Bytes.{all, stands}
 use Rattle.rules.specs.Moves.{Move, keep, takes, moves, through, result, replaced}
 use Rattle.rules.specs.Tables.{Row, rowAt, key, table}
-use Rattle.rules.specs.Encoding.{write, encodeStep}
+use Rattle.rules.specs.Utf8.{charAt}
+use Rattle.rules.specs.Ascii.{byRule}
+use Rattle.rules.specs.Encoding.{write, encodeBy, encodeStep}
 use Rattle.rules.specs.Operations.{encodeOf}
 use Rattle.rules.specs.declared.Context.{Context}
 use Rattle.rules.proofs.Tests.{all-in, first-sound}
@@ -41,16 +43,24 @@ one-long [] h = absurd h
 one-long (x ∷ []) h = refl
 one-long (x ∷ y ∷ k) h = absurd h
 
-module _ (c : Context) (bytewise : T (all ofByte (table c))) where
+-- No rule stands beside the table.
+abbrev pub Ruleless : Context → Type 0
+Ruleless c = (a : List ℕ) → byRule c a ≡ none
+
+-- So the table alone counts.
+pub by-table : (c : Context) → Ruleless c → (p : ℕ) (s : List ℕ) → encodeStep c p s ≡ encodeBy (table c) p s
+unfolding encodeStep
+by-table c ruleless p s =
+    ap (λ (o : Option (List ℕ)). write (elim o [ none ↦ none | some v ↦ some (charAt s, v) ]) (encodeBy (table c) p s)) (ruleless (charAt s))
+
+module _ (c : Context) (ruleless : Ruleless c) (bytewise : T (all ofByte (table c))) where
   -- The move at a byte.
   step-alone : (b : ℕ) (t : List ℕ) → encodeStep c 0 (b ∷ t) ≡ encodeStep c 0 (b ∷ [])
-  unfolding encodeStep
-  step-alone b t = ap (λ (o : Option Row). write o (keep (b ∷ []))) (row-alone (table c) bytewise b t)
+  step-alone b t = by-table c ruleless 0 (b ∷ t) ∙ ap (λ (o : Option Row). write o (keep (b ∷ []))) (row-alone (table c) bytewise b t) ∙ sym (by-table c ruleless 0 (b ∷ []))
 
   -- It takes the byte.
   step-takes : (b : ℕ) → length (takes (encodeStep c 0 (b ∷ []))) ≡ 1
-  unfolding encodeStep
-  step-takes b = go (rowAt key (table c) (b ∷ [])) refl
+  step-takes b = ap (λ (m : Move). length (takes m)) (by-table c ruleless 0 (b ∷ [])) ∙ go (rowAt key (table c) (b ∷ [])) refl
     where
       go : (o : Option Row) → rowAt key (table c) (b ∷ []) ≡ o → length (takes (write o (keep (b ∷ [])))) ≡ 1
       go none e = refl

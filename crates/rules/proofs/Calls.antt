@@ -16,10 +16,11 @@ use Rattle.rules.specs.Bytes.{over}
 use Rattle.rules.specs.Moves.{Move, through, result, replaced, growth, shrinkage, taken, place, firstLeft}
 use Rattle.rules.specs.Utf8.{IsText, validTo}
 use Rattle.rules.specs.Browsing.{kindOf}
+use Rattle.rules.specs.declared.Kind.the-variants.{InAttribute}
 use Rattle.rules.specs.Operations.{ruleOf, encodeOf}
 use Rattle.rules.specs.Refusals.{Call, Case, bad-context, too-long, not-utf8, cut-short, not-a-form, lone-surrogate, lent, no-room, written, Given, movesOf, movesIn, caseOf, success, answerAt, outAt, textLimit, call, answerOf, outOf, Allowed, viewOf}
 use Rattle.rules.specs.declared.Answer.{Answer}
-use Rattle.rules.specs.declared.Context.the-variants.{InHtml, InScript, InStyle, InJson}
+use Rattle.rules.specs.declared.Context.the-variants.{InHtml, InScript, InStyle, InJson, InAscii}
 use Rattle.rules.specs.declared.Operation.{Operation}
 use Rattle.rules.specs.declared.Operation.the-variants.{Encode, Decode, Read, Browse}
 use Rattle.rules.specs.declared.AnyContext.{AnyContext}
@@ -73,6 +74,7 @@ taken-all Browse (Units (InHtml k)) t h = browse-whole (kindOf k) t
 taken-all Browse (Units (InScript q)) t h = none-taken t h
 taken-all Browse (Units (InStyle q)) t h = none-taken t h
 taken-all Browse (Units InJson) t h = none-taken t h
+taken-all Browse (Units InAscii) t h = browse-whole InAttribute t
 taken-all Browse ScriptRaw t h = none-taken t h
 taken-all Browse Unknown t h = none-taken t h
 
@@ -259,6 +261,7 @@ result-text Browse (Units (InHtml k)) t h w = browse-text (kindOf k) t h
 result-text Browse (Units (InScript q)) t h w = ([], tt, refl)
 result-text Browse (Units (InStyle q)) t h w = ([], tt, refl)
 result-text Browse (Units InJson) t h w = ([], tt, refl)
+result-text Browse (Units InAscii) t h w = browse-text InAttribute t h
 result-text Browse ScriptRaw t h w = ([], tt, refl)
 result-text Browse Unknown t h w = ([], tt, refl)
 

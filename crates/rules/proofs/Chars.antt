@@ -19,7 +19,7 @@ use Rattle.rules.proofs.Machine.{Follows, singly}
 abbrev pub disjoint : Range → Range → Bool
 disjoint p q = ltb (p .1) (q .0) || ltb (q .1) (p .0)
 
-disjoint-law : (p q : Range) (x : ℕ) → T (disjoint p q) → T (inside p x) → T (inside q x) → ⊥
+pub disjoint-law : (p q : Range) (x : ℕ) → T (disjoint p q) → T (inside p x) → T (inside q x) → ⊥
 disjoint-law p q x d t u = go (or-cases (ltb (p .1) (q .0)) (ltb (q .1) (p .0)) d)
   where
     p0 : p .0 ≤ x

@@ -6,16 +6,18 @@ use mathlib.Core.Option.{Option, none, some, Option·none-ne-some}
 use mathlib.Core.Path.{_≡_, refl, sym, ap, _∙_, subst}
 use mathlib.Core.List.{List, [], _∷_, _++_, map, append-assoc}
 use Prim.Native.Nat.{ℕ, pred}
-use lib.Dec.{T, eqb, eqb→eq, eqb-refl, T-not}
+use lib.Dec.{T, eqb, eqb→eq, eqb-refl, lt→ltb, T-not}
 use lib.ListN.{length}
 use Rattle.rules.specs.Bytes.{ascii, In, All, all, any, fits, stands, sameBytes, oneOf}
 use Rattle.rules.specs.Moves.{Move, keep, swap, leave, stop, gives, taken, result, through}
 use Rattle.rules.specs.Tables.{Row, rowAt, key, value, htmlRows, rows, replacedChars}
 use Rattle.rules.specs.Units.{left, undecoded}
+use Rattle.rules.specs.declared.Html.the-variants.{Quoted}
 use Rattle.rules.specs.declared.Context.{Context}
-use Rattle.rules.specs.declared.Context.the-variants.{InHtml, InScript, InStyle, InJson}
+use Rattle.rules.specs.declared.Context.the-variants.{InHtml, InScript, InStyle, InJson, InAscii}
 use Rattle.rules.specs.Units.{IsUnit}
 use Rattle.rules.specs.Encoding.{closes, anyCase, terminators}
+use Rattle.rules.specs.Ascii.{byRule}
 use Rattle.rules.specs.Reading.{undo}
 use Rattle.rules.specs.Names.{names}
 use Rattle.rules.specs.References.{onto, bodyOf, meaning, refer, atAmp, referenceBy, decodeChar, referenceStep}
@@ -24,9 +26,11 @@ use Rattle.rules.specs.Json.{escapedOnly, jsonStep}
 use Rattle.rules.specs.Operations.{decodeStep, decodeOf}
 use Rattle.rules.proofs.Tests.{and-left, and-right, and-both, or-cases, or-left, or-false, is-false, all-in, any-in, first-none, same-bytes, same-in, in-append}
 use Rattle.rules.proofs.Machine.{Makes, Follows, singly, cut, cut-moves, result-cut}
-use Rattle.rules.proofs.Chars.{isTail, taken-singles, char-singly}
+use Rattle.rules.proofs.Chars.{isTail, taken-singles, char-singly, pred-of}
+use Rattle.rules.proofs.Ascii.{rule-refers, rule-long}
 use Rattle.rules.proofs.Tables.{bar-stops, row-length, row-first}
 use Rattle.rules.proofs.Every.{every, values-code}
+use Rattle.rules.proofs.Search.{reference-quiet}
 use Rattle.rules.proofs.Json.{element-keeps, json-row}
 
 -- ---- at any byte but a few the decoder of a family keeps the byte
@@ -37,6 +41,7 @@ halts (InHtml h) = 38 ∷ []
 halts (InScript q) = 92 ∷ []
 halts (InStyle q) = 92 ∷ []
 halts InJson = escapedOnly
+halts InAscii = 38 ∷ []
 
 abbrev begins : ℕ → List ℕ → Bool
 begins b [] = false
@@ -45,9 +50,6 @@ begins b (x ∷ v) = eqb x b
 begins-first : (b : ℕ) (v : List ℕ) (x : ℕ) (s : List ℕ) → T (begins b v) → T (stands v (x ∷ s)) → T (eqb x b)
 begins-first b [] x s t h = absurd t
 begins-first b (y ∷ v) x s t h = subst (λ (z : ℕ). T (eqb z b)) (eqb→eq y x (and-left (eqb y x) (stands v s) h)) t
-
-pub reference-quiet : (char : ℕ → Option (List ℕ)) (p x : ℕ) (s : List ℕ) → (T (eqb x 38) → ⊥) → referenceBy char p (x ∷ s) ≡ keep (x ∷ [])
-reference-quiet char p x s h = ap (λ (b : Bool). cond b (atAmp char (bodyOf s)) (keep (x ∷ []))) (is-false (eqb x 38) h)
 
 escape-quiet : (name : List ℕ) (rs : List Row) → T (all (λ (e : Row). begins 92 (value e)) rs) → (p x : ℕ) (s : List ℕ) → (T (eqb x 92) → ⊥)
     → escapeBy name rs p (x ∷ s) ≡ keep (x ∷ [])
@@ -67,6 +69,7 @@ slashed (InHtml h) = true
 slashed (InScript q) = all (λ (e : Row). begins 92 (value e)) (rows (InScript q))
 slashed (InStyle q) = all (λ (e : Row). begins 92 (value e)) (rows (InStyle q))
 slashed InJson = true
+slashed InAscii = true
 
 decode-quiet : (c : Context) (p x : ℕ) (s : List ℕ) → (T (oneOf (halts c) x) → ⊥) → decodeStep c p (x ∷ s) ≡ keep (x ∷ [])
 unfolding decodeStep referenceStep
@@ -74,6 +77,7 @@ decode-quiet (InHtml h) p x s n = reference-quiet decodeChar p x s (λ t. n (or-
 decode-quiet (InScript q) p x s n = escape-quiet (ascii "script") (rows (InScript q)) (every slashed tt (InScript q)) p x s (λ t. n (or-left (eqb x 92) false t))
 decode-quiet (InStyle q) p x s n = escape-quiet (ascii "style") (rows (InStyle q)) (every slashed tt (InStyle q)) p x s (λ t. n (or-left (eqb x 92) false t))
 decode-quiet InJson p x s n = element-keeps p x s n
+decode-quiet InAscii p x s n = reference-quiet decodeChar p x s (λ t. n (or-left (eqb x 38) false t))
 
 -- None of these bytes is a plain character of the context, or a byte 80 to BF.
 abbrev haltsBarred : Context → Bool
@@ -129,26 +133,46 @@ unfolding names referenceStep jsonStep
 refersIn (InHtml h) = all (refers (left h)) (htmlRows h)
 refersIn (InScript q) = true
 refersIn (InStyle q) = true
+refersIn InAscii = all (refers []) (htmlRows Quoted)
 refersIn InJson = all (λ (e : Row). undoes (jsonStep 0 (value e)) e) (rows InJson)
+
+-- A row of an HTML context is read as its key.
+row-refers : (bad : List (List ℕ)) (rs : List Row) → T (all (refers bad) rs) → (e : Row) → In e rs → (In (key e) bad → ⊥) → (r : List ℕ) (p : ℕ)
+    → referenceStep p (value e ++ r) ≡ swap (value e) (key e)
+row-refers bad rs ok e i n r p = go (or-cases (any (sameBytes (key e)) bad) (undoes (referenceStep 0 (value e)) e) (all-in (refers bad) rs ok e i))
+  where
+    go : T (any (sameBytes (key e)) bad) ⊎ T (undoes (referenceStep 0 (value e)) e) → referenceStep p (value e ++ r) ≡ swap (value e) (key e)
+    go (inl t) = absurd (n (same-in (key e) bad t))
+    go (inr t) = reference-append p (value e) r e t
+
+pub quoted-refers : (e : Row) → In e (rows InAscii) → (r : List ℕ) (p : ℕ) → referenceStep p (value e ++ r) ≡ swap (value e) (key e)
+unfolding names referenceStep jsonStep
+quoted-refers e i = row-refers [] (htmlRows Quoted) (every refersIn tt InAscii) e i (λ j. j)
 
 decode-row : (c : Context) (e : Row) → In e (rows c) → (In (key e) (undecoded c) → ⊥) → (r : List ℕ)
     → rowAt value (rows c) (value e ++ r) ≡ some e → (p : ℕ) → decodeStep c p (value e ++ r) ≡ swap (value e) (key e)
 unfolding decodeStep referenceStep names jsonStep
-decode-row (InHtml h) e i n r w p = go (or-cases (any (sameBytes (key e)) (left h)) (undoes (referenceStep 0 (value e)) e) (all-in (refers (left h)) (htmlRows h) (every refersIn tt (InHtml h)) e i))
-  where
-    go : T (any (sameBytes (key e)) (left h)) ⊎ T (undoes (referenceStep 0 (value e)) e) → referenceStep p (value e ++ r) ≡ swap (value e) (key e)
-    go (inl t) = absurd (n (same-in (key e) (left h) t))
-    go (inr t) = reference-append p (value e) r e t
+decode-row (InHtml h) e i n r w p = row-refers (left h) (htmlRows h) (every refersIn tt (InHtml h)) e i n r p
+decode-row InAscii e i n r w p = row-refers [] (htmlRows Quoted) (every refersIn tt InAscii) e i n r p
 decode-row (InScript q) e i n r w p = ap (λ (o : Option Row). undo o (afterLess (ascii "script") p (value e ++ r))) w
 decode-row (InStyle q) e i n r w p = ap (λ (o : Option Row). undo o (afterLess (ascii "style") p (value e ++ r))) w
 decode-row InJson e i n r w p =
     json-row (value e) (key e) r p (undoes-row (jsonStep 0 (value e)) e (all-in (λ (e : Row). undoes (jsonStep 0 (value e)) e) (rows InJson) (every refersIn tt InJson) e i))
 
+-- What a rule writes is a reference too.
+rule-decoded : (c : Context) (k v : List ℕ) → byRule c k ≡ some v → (r : List ℕ) (p : ℕ) → decodeStep c p (v ++ r) ≡ swap v k
+unfolding decodeStep
+rule-decoded InAscii k v e r p = rule-refers k v e p r
+rule-decoded (InHtml h) k v e r p = absurd (Option·none-ne-some v e)
+rule-decoded (InScript q) k v e r p = absurd (Option·none-ne-some v e)
+rule-decoded (InStyle q) k v e r p = absurd (Option·none-ne-some v e)
+rule-decoded InJson k v e r p = absurd (Option·none-ne-some v e)
+
 -- ---- through a form
 
 -- A unit that decode gives back.
 abbrev pub IsDecoded : Context → Move → Type 0
-IsDecoded c u = IsUnit (rows c) (replacedChars c) u × (In (gives u) (undecoded c) → ⊥)
+IsDecoded c u = IsUnit c (rows c) u × (In (gives u) (undecoded c) → ⊥)
 
 module _ (c : Context) where
   -- At any other byte than these a decoder keeps the byte.
@@ -167,16 +191,17 @@ module _ (c : Context) where
       no-halt : T (oneOf (halts c) x) → ⊥
       no-halt h =
           let (b, i, e) = any-in (eqb x) (halts c) h in
-          bar-stops value (rows c) (replacedChars c) (values-code c) (x ∷ a) r (u .0) (b ∷ [])
+          bar-stops value (rows c) (replacedChars c) (values-code c) (x ∷ a) r (u .0 .0, u .0 .1) (b ∷ [])
           (same-in (b ∷ []) (replacedChars c) (all-in (λ (b : ℕ). any (sameBytes (b ∷ [])) (replacedChars c)) (halts c) (every haltsBarred tt c) b i))
           (subst (λ (z : ℕ). T (stands (z ∷ []) (x ∷ (a ++ r)))) (eqb→eq x b e) (and-both (eqb x x) true (eqb-refl x) tt))
 
   decode-swaps : (v k : List ℕ) → IsDecoded c (swap v k) → (r : List ℕ) → Makes (decodeStep c) (swap v k) r
-  decode-swaps v k u r = (
+  decode-swaps v k (inl u, n) r = (
     pred (length v),
-    row-length value (rows c) (replacedChars c) (values-code c) (k, v) (u .0),
-    decode-row c (k, v) (u .0) (u .1) r (row-first value (rows c) (replacedChars c) (values-code c) (k, v) (u .0) r),
+    row-length value (rows c) (replacedChars c) (values-code c) (k, v) u,
+    decode-row c (k, v) u n r (row-first value (rows c) (replacedChars c) (values-code c) (k, v) u r),
   )
+  decode-swaps v k (inr u, n) r = (pred (length v), pred-of (length v) (lt→ltb 0 (length v) (rule-long c k v u)), rule-decoded c k v u r)
 
   -- Through such a run the decoder's moves are those of the run, byte by byte.
   pub decode-cut : (us : List Move) → All (IsDecoded c) us → through (decodeStep c) (taken us) ≡ cut us

@@ -10,7 +10,7 @@ use Rattle.rules.specs.Tables.{key, value, rows, table, replacedChars}
 use Rattle.rules.specs.declared.Html.the-variants.{TextMinimal, Text, DoubleQuoted, SingleQuoted, Quoted, Safe, Unquoted}
 use Rattle.rules.specs.declared.Quotes.the-variants.{Single, Double, Both}
 use Rattle.rules.specs.declared.Context.{Context}
-use Rattle.rules.specs.declared.Context.the-variants.{InHtml, InScript, InStyle, InJson}
+use Rattle.rules.specs.declared.Context.the-variants.{InHtml, InScript, InStyle, InJson, InAscii}
 use Rattle.rules.proofs.Tests.{all-in}
 use Rattle.rules.proofs.Tables.{isCode}
 
@@ -20,7 +20,7 @@ contexts =
     InHtml TextMinimal ∷ InHtml Text ∷ InHtml DoubleQuoted ∷ InHtml SingleQuoted ∷ InHtml Quoted ∷ InHtml Safe ∷ InHtml Unquoted
     ∷ InScript Single ∷ InScript Double ∷ InScript Both
     ∷ InStyle Single ∷ InStyle Double ∷ InStyle Both
-    ∷ InJson
+    ∷ InJson ∷ InAscii
     ∷ []
 
 listed : (c : Context) → In c contexts
@@ -38,6 +38,7 @@ listed (InStyle Single) = inr (inr (inr (inr (inr (inr (inr (inr (inr (inr (inl 
 listed (InStyle Double) = inr (inr (inr (inr (inr (inr (inr (inr (inr (inr (inr (inl refl)))))))))))
 listed (InStyle Both) = inr (inr (inr (inr (inr (inr (inr (inr (inr (inr (inr (inr (inl refl))))))))))))
 listed InJson = inr (inr (inr (inr (inr (inr (inr (inr (inr (inr (inr (inr (inr (inl refl)))))))))))))
+listed InAscii = inr (inr (inr (inr (inr (inr (inr (inr (inr (inr (inr (inr (inr (inr (inl refl))))))))))))))
 
 -- What is computed of the list holds of each context.
 pub every : (f : Context → Bool) → T (all f contexts) → (c : Context) → T (f c)

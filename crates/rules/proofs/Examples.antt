@@ -10,6 +10,7 @@ use Rattle.rules.specs.Contexts.{contextOf}
 use Rattle.rules.specs.Encoding.{encodeStep, rawStep}
 use Rattle.rules.specs.Reading.{readStep}
 use Rattle.rules.specs.Names.{names}
+use Rattle.rules.specs.Ascii.{nameOf}
 use Rattle.rules.specs.References.{renumbering, referenceStep}
 use Rattle.rules.specs.Bare.{bare}
 use Rattle.rules.specs.Browsing.{identifiers, browseStep}
@@ -22,12 +23,12 @@ use Rattle.rules.specs.Edges.{characters, validUpTo, longByOnes, encoder
 
 -- The starred examples, 1 to 12.
 pub starred-hold : T (all holds starred)
-unfolding charStep isCut encodeStep rawStep readStep names renumbering referenceStep bare identifiers browseStep decodeStep jsonStep caseBy contextOf entityOf
+unfolding charStep isCut encodeStep rawStep readStep names nameOf renumbering referenceStep bare identifiers browseStep decodeStep jsonStep caseBy contextOf entityOf
 starred-hold = tt
 
 -- The others, 13 to 18.
 pub rest-hold : T (all holds rest)
-unfolding charStep isCut encodeStep rawStep readStep names renumbering referenceStep bare identifiers browseStep decodeStep jsonStep caseBy contextOf entityOf
+unfolding charStep isCut encodeStep rawStep readStep names nameOf renumbering referenceStep bare identifiers browseStep decodeStep jsonStep caseBy contextOf entityOf
 rest-hold = tt
 
 -- The edges: characters, what each context writes, calls, calls of one kind only, check, the table of names, the programs.
@@ -39,22 +40,22 @@ pub ones-lead : T (all (λ (b : ℕ). all (longByOnes b) sequences) (count 0 256
 ones-lead = tt
 
 pub contexts-write : T (writeFrom 0 encoders)
-unfolding charStep isCut encodeStep rawStep readStep names renumbering referenceStep bare identifiers browseStep decodeStep jsonStep caseBy contextOf entityOf
+unfolding charStep isCut encodeStep rawStep readStep names nameOf renumbering referenceStep bare identifiers browseStep decodeStep jsonStep caseBy contextOf entityOf
 contexts-write = tt
 
 pub closers-close : T (all closesAt (count 0 256))
 closers-close = tt
 
 pub edges-hold : T (all holds edges)
-unfolding charStep isCut encodeStep rawStep readStep names renumbering referenceStep bare identifiers browseStep decodeStep jsonStep caseBy contextOf entityOf
+unfolding charStep isCut encodeStep rawStep readStep names nameOf renumbering referenceStep bare identifiers browseStep decodeStep jsonStep caseBy contextOf entityOf
 edges-hold = tt
 
 pub kinds-hold : T (all (holdsIn false) copying && all (holdsIn true) borrowing)
-unfolding charStep isCut encodeStep rawStep readStep names renumbering referenceStep bare identifiers browseStep decodeStep jsonStep caseBy contextOf entityOf
+unfolding charStep isCut encodeStep rawStep readStep names nameOf renumbering referenceStep bare identifiers browseStep decodeStep jsonStep caseBy contextOf entityOf
 kinds-hold = tt
 
 pub checks-hold : T (all checksAs checks)
-unfolding charStep isCut encodeStep rawStep readStep names referenceStep bare identifiers browseStep decodeStep jsonStep caseBy contextOf entityOf
+unfolding charStep isCut encodeStep rawStep readStep names nameOf referenceStep bare identifiers browseStep decodeStep jsonStep caseBy contextOf entityOf
 checks-hold = tt
 
 pub names-digest : T (eqb (digest names) namesDigest)
@@ -69,7 +70,7 @@ pub papers-read : T (all readsAs papers)
 papers-read = tt
 
 pub program-answers : T (all answers requests)
-unfolding charStep isCut encodeStep rawStep readStep names renumbering referenceStep bare identifiers browseStep decodeStep jsonStep caseBy contextOf entityOf
+unfolding charStep isCut encodeStep rawStep readStep names nameOf renumbering referenceStep bare identifiers browseStep decodeStep jsonStep caseBy contextOf entityOf
 program-answers = tt
 
 pub reasons-reported : T (all reports reported)

@@ -60,10 +60,10 @@ pub names-wordy : T (all wordy names)
 unfolding names
 names-wordy = tt
 
-word-no-amp : (n : List ℕ) → T (all letterOrDigit n) → Ampless n
+pub word-no-amp : (n : List ℕ) → T (all letterOrDigit n) → Ampless n
 word-no-amp n t x i e = subst (λ (b : ℕ). T (letterOrDigit b)) (eqb→eq x 38 e) (all-in letterOrDigit n t x i)
 
-word-no-end : (n : List ℕ) → T (all letterOrDigit n) → Endless n
+pub word-no-end : (n : List ℕ) → T (all letterOrDigit n) → Endless n
 word-no-end n t x i e = subst (λ (b : ℕ). T (letterOrDigit b)) (eqb→eq x 59 e) (all-in letterOrDigit n t x i)
 
 -- One with its `;` stands only where it is the body.
@@ -111,7 +111,7 @@ pub bare-in : (n : List ℕ) → In n bare → In (withoutEnd n) identifiers
 unfolding identifiers
 bare-in n i = in-right (withoutEnd n) (map withEnd names) (map withoutEnd bare) (map-in withoutEnd n bare i)
 
-name-wordy : (x : Row) → In x names → T (all letterOrDigit (key x))
+pub name-wordy : (x : Row) → In x names → T (all letterOrDigit (key x))
 name-wordy x i = all-in wordy names names-wordy x i
 
 bare-word : (n : List ℕ) → In n bare → T (all letterOrDigit n)

@@ -3,6 +3,7 @@
 -- Assumes nothing.
 use mathlib.Core.Bool.{Bool, not}
 use mathlib.Core.Logic.{inl, inr, ⊎-elim}
+use mathlib.Core.Option.{Option·none-ne-some}
 use mathlib.Core.Path.{sym, ap, _∙_, subst}
 use mathlib.Core.List.{List, [], _∷_, _++_}
 use Prim.Native.Nat.{ℕ}
@@ -54,13 +55,14 @@ noLess e = all (λ (b : ℕ). not (eqb b 0x3C)) (value e)
 less-barred : In (0x3C ∷ []) (replacedChars InJson)
 less-barred = same-in (0x3C ∷ []) (replacedChars InJson) tt
 
-unit-less : (u : Move) → IsUnit (rows InJson) (replacedChars InJson) u → In 0x3C (takes u) → ⊥
+unit-less : (u : Move) → IsUnit InJson (rows InJson) u → In 0x3C (takes u) → ⊥
 unit-less (keep []) g i = i
 unit-less (keep (x ∷ a)) g (inl e) =
-    bar-stops value (rows InJson) (replacedChars InJson) (values-code InJson) (x ∷ a) [] g (0x3C ∷ []) less-barred
+    bar-stops value (rows InJson) (replacedChars InJson) (values-code InJson) (x ∷ a) [] (g .0, g .1) (0x3C ∷ []) less-barred
     (subst (λ (y : ℕ). T (stands (0x3C ∷ []) (y ∷ (a ++ [])))) e tt)
 unit-less (keep (x ∷ a)) g (inr i) = all-in isTail a (char-tails x a (g .0)) 0x3C i
-unit-less (swap v k) g i = all-in (λ (b : ℕ). not (eqb b 0x3C)) v (all-in noLess (rows InJson) tt (k, v) g) 0x3C i
+unit-less (swap v k) (inl g) i = all-in (λ (b : ℕ). not (eqb b 0x3C)) v (all-in noLess (rows InJson) tt (k, v) g) 0x3C i
+unit-less (swap v k) (inr e) i = Option·none-ne-some v e
 unit-less (leave r a) g i = g
 unit-less (stop w) g i = g
 

@@ -1,7 +1,7 @@
 -- The laws of encode, decode, read and browse, each once over the context.
 -- Assumes nothing.
 use mathlib.Core.Bool.{Bool, not, _&&_}
-use mathlib.Core.Logic.{_↔_}
+use mathlib.Core.Logic.{inl, inr, _↔_}
 use mathlib.Core.Path.{_≡_, refl, sym, ap, _∙_, subst}
 use mathlib.Core.List.{List, [], _∷_, _++_}
 use Prim.Native.Nat.{ℕ, _≤_, _*_, _+_}
@@ -10,7 +10,7 @@ use lib.Dec.{T, leb, leb→le}
 use lib.ListN.{length, take, length-append}
 use Rattle.rules.specs.Bytes.{ascii, In, All, all, any, sameBytes}
 use Rattle.rules.specs.Moves.{Move, keep, swap, leave, stop, gives, taken, result, replaced, growth, place, through}
-use Rattle.rules.specs.Utf8.{IsText, IsFree}
+use Rattle.rules.specs.Utf8.{IsText, IsFree, utf8}
 use Rattle.rules.specs.Tables.{Row, key, value, rows, replacedChars}
 use Rattle.rules.specs.Units.{IsUnit, IsRun, IsForm, unread, undecoded}
 use Rattle.rules.specs.Encoding.{encodeStep, rawStep}
@@ -23,15 +23,17 @@ use Rattle.rules.specs.Operations.{decodeStep, encodeOf, decodeOf, readO
 use Rattle.rules.specs.declared.Kind.{Kind}
 use Rattle.rules.specs.declared.Html.the-variants.{Text, Quoted}
 use Rattle.rules.specs.declared.Context.{Context}
-use Rattle.rules.specs.declared.Context.the-variants.{InHtml}
+use Rattle.rules.specs.declared.Context.the-variants.{InHtml, InAscii}
+use Rattle.rules.specs.Ascii.{nameOf}
 use Rattle.rules.proofs.Tests.{all-in, same-in}
 use Rattle.rules.proofs.Machine.{moves-fair, same-result, place-within, whole-if, cut, result-cut}
 use Rattle.rules.proofs.Codes.{Reads, units-read, units-unique, place-written, place-longest, written-iff}
-use Rattle.rules.proofs.Tables.{table-reads}
-use Rattle.rules.proofs.Every.{every, values-code}
+use Rattle.rules.proofs.Every.{every}
+use Rattle.rules.proofs.Reader.{context-reads}
 use Rattle.rules.proofs.Encoder.{encode-run, run-of, run-free, wide, table-run, plain-run, run-text}
 use Rattle.rules.proofs.Decoder.{IsDecoded, decode-cut, decode-run}
-use Rattle.rules.proofs.Growth.{encode-whole, encode-none, encode-six, encode-sum, raw-whole, raw-none, raw-six, raw-sum}
+use Rattle.rules.proofs.Ascii.{rule-longer}
+use Rattle.rules.proofs.Growth.{forThree, encode-whole, encode-none, encode-most, encode-sum, raw-whole, raw-none, raw-six, raw-sum}
 use Rattle.rules.proofs.Whole.{decode-whole-if, decode-fifth}
 use Rattle.rules.proofs.Browsing.{browse-whole, browse-fifth}
 
@@ -42,9 +44,8 @@ noLonger e = leb (length (key e)) (length (value e))
 -- ---- forms, and the texts that they stand for
 
 module _ (c : Context) where
-  units-reads : Reads (IsUnit (rows c) (replacedChars c)) (readStep c)
-  unfolding readStep
-  units-reads = table-reads (rows c) (replacedChars c) (values-code c)
+  units-reads : Reads (IsUnit c (rows c)) (readStep c)
+  units-reads = context-reads c
 
   -- A text is a form exactly if the strict reader takes all of it.
   pub form-iff : (s : List ℕ) → IsForm c s ↔ (readTo c s ≡ length s)
@@ -60,11 +61,11 @@ module _ (c : Context) where
 
   -- It is a prefix.
   pub form-within : (s : List ℕ) → readTo c s ≤ length s
-  form-within = place-within (IsUnit (rows c) (replacedChars c)) (readStep c) (units-reads .fair)
+  form-within = place-within (IsUnit c (rows c)) (readStep c) (units-reads .fair)
 
   -- Where it takes as many bytes as the text has, it takes the text.
   pub read-whole : (s : List ℕ) → length s ≤ readTo c s → taken (through (readStep c) s) ≡ s
-  read-whole = whole-if (IsUnit (rows c) (replacedChars c)) (readStep c) (units-reads .fair)
+  read-whole = whole-if (IsUnit c (rows c)) (readStep c) (units-reads .fair)
 
   -- A form is one run of units only.
   pub form-unique : (us vs : List Move) → IsRun c us → IsRun c vs → taken us ≡ taken vs → us ≡ vs
@@ -168,9 +169,9 @@ module _ (c : Context) where
   pub encode-growth : (s : List ℕ) → length (encodeOf c s) ≡ length s + growth (through (encodeStep c) s)
   encode-growth = encode-sum c
 
-  -- It is at most six times the text's.
-  pub encode-length : (s : List ℕ) → length (encodeOf c s) ≤ 6 * length s
-  encode-length = encode-six c
+  -- It is at most 18 bytes for 3 of the text, six times as long; in ascii_quoted 22 for 3.
+  pub encode-length : (s : List ℕ) → 3 * length (encodeOf c s) ≤ forThree c * length s
+  encode-length = encode-most c
 
   -- What decode gives is at most a fifth longer than the text.
   pub decode-length : (s : List ℕ) → 5 * length (decodeOf c s) ≤ 6 * length s
@@ -179,15 +180,16 @@ module _ (c : Context) where
   shorter : (us : List Move) → IsRun c us → length (result us) ≤ length (taken us)
   shorter [] g = omega arith
   shorter (keep a ∷ us) g = rw (length-append a (result us), length-append a (taken us)) (omega (arith, shorter us (g .1)))
-  shorter (swap v k ∷ us) g =
+  shorter (swap v k ∷ us) (inl u, g) =
       rw (length-append k (result us), length-append v (taken us))
-      (omega (arith, shorter us (g .1), leb→le (length k) (length v) (all-in noLonger (rows c) (every (λ (c : Context). all noLonger (rows c)) tt c) (k, v) (g .0))))
+      (omega (arith, shorter us g, leb→le (length k) (length v) (all-in noLonger (rows c) (every (λ (c : Context). all noLonger (rows c)) tt c) (k, v) u)))
+  shorter (swap v k ∷ us) (inr u, g) = rw (length-append k (result us), length-append v (taken us)) (omega (arith, shorter us g, rule-longer c k v u))
   shorter (leave r a ∷ us) g = absurd (g .0)
   shorter (stop w ∷ us) g = absurd (g .0)
 
   -- What read gives is no longer than what it takes.
   pub read-length : (s : List ℕ) → length (readOf c s) ≤ readTo c s
-  read-length s = shorter (through (readStep c) s) (moves-fair (IsUnit (rows c) (replacedChars c)) (readStep c) (units-reads .fair) 0 0 s .0)
+  read-length s = shorter (through (readStep c) s) (moves-fair (IsUnit c (rows c)) (readStep c) (units-reads .fair) 0 0 s .0)
 
   -- Where decode takes the text and replaces nothing, its result is the text.
   pub decode-same : (s : List ℕ) → length s ≤ place (through (decodeStep c) s) → replaced (through (decodeStep c) s) ≡ 0 → decodeOf c s ≡ s
@@ -234,3 +236,8 @@ six-reached = refl
 pub fifth-reached : 5 * length (decodeOf (InHtml Text) (ascii "&nGt;")) ≡ 6 * length (ascii "&nGt;")
 unfolding decodeStep referenceStep names
 fifth-reached = refl
+
+-- U+25AB, three bytes, is written as `&EmptyVerySmallSquare;` in ascii_quoted, 22 bytes.
+pub most-reached : 3 * length (encodeOf InAscii (utf8 0x25AB)) ≡ forThree InAscii * length (utf8 0x25AB)
+unfolding encodeStep names nameOf
+most-reached = refl

@@ -2,6 +2,7 @@ pub mod Tests
 pub mod Machine
 pub mod Codes
 pub mod Chars
+pub mod CharNumbers
 pub mod Tables
 pub mod Valid
 pub mod Cut
@@ -10,6 +11,7 @@ pub mod EveryByte
 pub mod Encoder
 pub mod Json
 pub mod Decoder
+pub mod Reader
 pub mod Search
 pub mod Reasons
 pub mod Growth
@@ -20,10 +22,14 @@ pub mod Characters
 pub mod Texts
 pub mod Best
 pub mod Order
+pub mod CharNames
 pub mod Identifiers
+pub mod Ascii
 pub mod Browsing
 pub mod Laws
 pub mod JsonWritten
+pub mod AsciiWritten
+pub mod AsciiBrowsed
 pub mod Refused
 pub mod Calls
 pub mod Back
@@ -31,6 +37,7 @@ pub mod Check
 pub mod Entity
 pub mod Examples
 pub mod BrowsingEdges
+pub mod AsciiEdges
 pub mod Loops
 pub mod Bytewise
 pub mod Quiet

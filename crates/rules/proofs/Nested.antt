@@ -1,18 +1,20 @@
 -- Two contexts, one inside the other: outer decode gives back what the inner one wrote, since nothing in it is lost outside.
 -- Assumes nothing.
 use mathlib.Core.Bool.{Bool, true, not, _&&_}
-use mathlib.Core.Logic.{_↔_, inl}
+use mathlib.Core.Logic.{_↔_, inl, inr}
+use mathlib.Core.Option.{some}
 use mathlib.Core.Path.{_≡_, refl, sym, ap, _∙_, subst}
 use mathlib.Core.List.{List, [], _∷_, _++_}
 use Prim.Native.Nat.{ℕ, _<_}
 use native.Mathlib.Omega.{arith}
 use borrow.Author.Tests.{le-leb}
-use lib.Dec.{T, ltb, eqb, ltb→lt, T-not}
+use lib.Dec.{T, leb, ltb, eqb, leb→le, ltb→lt, T-not}
 use lib.ListN.{length}
-use Rattle.rules.specs.Bytes.{ascii, In, All, all, any, only, join, sameBytes}
+use Rattle.rules.specs.Bytes.{ascii, bytes, In, All, all, any, only, join, sameBytes}
 use Rattle.rules.specs.Moves.{Move, keep, swap, leave, stop, taken}
 use Rattle.rules.specs.Utf8.{IsChar, IsText, IsFree}
 use Rattle.rules.specs.Tables.{Row, value, rows, replacedChars}
+use Rattle.rules.specs.Ascii.{byRule}
 use Rattle.rules.specs.Units.{IsRun, IsForm, unread, undecoded}
 use Rattle.rules.specs.Operations.{decodeStep, encodeOf, decodeOf, readOf, readTo}
 use Rattle.rules.specs.Encoding.{encodeStep}
@@ -27,7 +29,9 @@ use Rattle.rules.specs.declared.Quotes.the-variants.{Single}
 use Rattle.rules.specs.declared.Context.{Context}
 use Rattle.rules.specs.declared.Context.the-variants.{InHtml, InScript}
 use Rattle.rules.proofs.Tests.{and-left, and-right, all-in, same-in, in-same}
-use Rattle.rules.proofs.Every.{contexts}
+use Rattle.rules.proofs.Every.{contexts, every}
+use Rattle.rules.proofs.Below.{count-in}
+use Rattle.rules.proofs.Ascii.{isPrinted, all-weaker, rule-printed}
 use Rattle.rules.proofs.Encoder.{text-append}
 use Rattle.rules.proofs.Laws.{encode-any, form-text, form-free, read-encode, encode-read, decode-encode, unread-undecoded}
 use Rattle.rules.proofs.Append.{free-append, encode-texts}
@@ -69,14 +73,29 @@ ascii-free bad (b ∷ v) t =
       ap (λ (s : List ℕ). b ∷ s) e,
     )
 
--- A context that replaces each of the bad characters and writes none of them.
-module _ (bad : List (List ℕ)) (i : Context) (hidden : (a : List ℕ) → In a bad → In a (replacedChars i)) (spared : (row : Row) → In row (rows i) → IsFree bad (value row)) where
+-- What a context writes by rule is of bytes from `#` to `z`: it has no bad character if none of these is one.
+pub rule-clear : (bad : List (List ℕ)) → T (all (λ (b : ℕ). ltb b 128 && not (any (sameBytes (b ∷ [])) bad)) (bytes 35 122))
+    → (i : Context) (k v : List ℕ) → byRule i k ≡ some v → IsFree bad v
+rule-clear bad none-bad i k v e = ascii-free bad v (all-weaker isPrinted good given v (rule-printed i k v e))
+  where
+    good : ℕ → Bool
+    good b = ltb b 128 && not (any (sameBytes (b ∷ [])) bad)
+
+    given : (b : ℕ) → T (isPrinted b) → T (good b)
+    given b t =
+        all-in good (bytes 35 122) none-bad b
+        (count-in 35 88 b (leb→le 35 b (and-left (leb 35 b) (leb b 122) t)) (let h = leb→le b 122 (and-right (leb 35 b) (leb b 122) t) in omega arith))
+
+-- A context that replaces each of the bad characters and writes none of them, by its rows or by rule.
+module _ (bad : List (List ℕ)) (i : Context) (hidden : (a : List ℕ) → In a bad → In a (replacedChars i)) (spared : (row : Row) → In row (rows i) → IsFree bad (value row))
+    (ruled : (k v : List ℕ) → byRule i k ≡ some v → IsFree bad v) where
   run-clear : (us : List Move) → IsRun i us → IsFree bad (taken us)
   run-clear [] g = ([], tt, tt, refl)
   run-clear (keep a ∷ us) g =
       let (cs, h, f, e) = run-clear us (g .1) in
       (a ∷ cs, (g .0 .0, h), ((λ j. g .0 .1 (hidden a j)), f), ap (λ (s : List ℕ). a ++ s) e)
-  run-clear (swap v k ∷ us) g = free-append bad v (taken us) (spared (k, v) (g .0)) (run-clear us (g .1))
+  run-clear (swap v k ∷ us) (inl u, g) = free-append bad v (taken us) (spared (k, v) u) (run-clear us g)
+  run-clear (swap v k ∷ us) (inr u, g) = free-append bad v (taken us) (ruled k v u) (run-clear us g)
   run-clear (leave r a ∷ us) g = absurd (g .0)
   run-clear (stop w ∷ us) g = absurd (g .0)
 
@@ -93,9 +112,13 @@ module _ (o i : Context) (fits : T (carries o i)) where
   spared : (row : Row) → In row (rows i) → IsFree (undecoded o) (value row)
   spared row j = ascii-free (undecoded o) (value row) (all-in (λ (row : Row). all (givesBack o) (value row)) (rows i) (and-right (hides o i) (spares o i) fits) row j)
 
+  -- Nor has what the inner context writes by rule: it is of bytes that every context gives back.
+  ruled : (k v : List ℕ) → byRule i k ≡ some v → IsFree (undecoded o) v
+  ruled = rule-clear (undecoded o) (every (λ (o : Context). all (givesBack o) (bytes 35 122)) tt o) i
+
   -- What the inner context writes has no character that outer decode does not give back.
   pub inner-carried : (t : List ℕ) → IsText t → IsFree (undecoded o) (encodeOf i t)
-  inner-carried = form-clear (undecoded o) i hidden spared
+  inner-carried = form-clear (undecoded o) i hidden spared ruled
 
   -- Nor one that no outer form stands for.
   pub inner-read : (t : List ℕ) → IsText t → IsFree (unread o) (encodeOf i t)
@@ -157,8 +180,8 @@ abbrev carried : List Context → List (List Context)
 carried [] = []
 carried (o ∷ os) = only (carries o) contexts ∷ carried os
 
--- Of the 196 pairs 172 carry. The other 24 have an HTML context other than `unquoted`, which copies controls, inside `unquoted` or a style string.
-pub pairs-carry : T (eqb 172 (length (join (carried contexts))))
+-- Of the 225 pairs 197 carry. The other 28 have an HTML context other than `unquoted`, which copies controls, inside `unquoted` or a style string.
+pub pairs-carry : T (eqb 197 (length (join (carried contexts))))
 pairs-carry = tt
 
 -- The table of the twelve pairs holds, of the very text that it names.

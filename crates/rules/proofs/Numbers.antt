@@ -51,7 +51,7 @@ pub stands-beyond : (n : ℕ) → (T (inside (0x80, 0x9F) n) → ⊥) → stands
 stands-beyond n h = stands-out renumbering n (λ i. h (all-in (inside (0x80, 0x9F)) renumbered renumbering-in n i))
 
 -- A test that n and every number to the right pass, the number that n stands for passes too.
-stands-good : (good : ℕ → Bool) (pairs : List (ℕ × ℕ)) (n : ℕ) → T (all (λ (pair : ℕ × ℕ). good (pair .1)) pairs) → T (good n) → T (good (standsFor pairs n))
+pub stands-good : (good : ℕ → Bool) (pairs : List (ℕ × ℕ)) (n : ℕ) → T (all (λ (pair : ℕ × ℕ). good (pair .1)) pairs) → T (good n) → T (good (standsFor pairs n))
 stands-good good [] n t g = g
 stands-good good (pair ∷ pairs) n t g =
     let rest = all (λ (pair : ℕ × ℕ). good (pair .1)) pairs in

@@ -14,21 +14,23 @@ use lib.ListN.{length, take, drop}
 use lib.Seq.{take-at}
 use Rattle.rules.specs.Bytes.{ascii, is, In, any, only, first, fits, stands, sameBytes, Range}
 use Rattle.rules.specs.Moves.{Move, keep, swap, leave, stop, takes, Rule, andThen, moves, replaced, leftsAt, lefts, reasonNumber, firstOf, firstLeft, through}
-use Rattle.rules.specs.Utf8.{sequenceAt, keepChar}
+use Rattle.rules.specs.Utf8.{sequenceAt, charAt, keepChar}
 use Rattle.rules.specs.Tables.{Row, rowAt, key, value, rows, table, replacedChars}
 use Rattle.rules.specs.Encoding.{keepByte, write, encodeStep, rawStep, closes, parted}
-use Rattle.rules.specs.Reading.{undo, unless, readStep}
+use Rattle.rules.specs.Ascii.{byRule}
+use Rattle.rules.specs.Reading.{undo, unless, readBy, ruleBack, readStep}
 use Rattle.rules.specs.Names.{names}
 use Rattle.rules.specs.References.{onto, bodyOf, digit, hexDigitAt, digits, number, numberOf, valueOf, lookup, meaning, whyDigits, why, refer, atAmp, referenceBy}
 use Rattle.rules.specs.Browsing.{kindOf, referenceAt, atAmp as browseAmp, browseStep}
 use Rattle.rules.specs.declared.Kind.{Kind}
+use Rattle.rules.specs.declared.Kind.the-variants.{InAttribute}
 use Rattle.rules.specs.Reasons.{Ampless, Endless, Closed, Body, Undigit, Hexed, Because, Stays, StaysAt, reasonIn, leftHere, leftsIn}
 use Rattle.rules.specs.Escapes.{escapeBy}
 use Rattle.rules.specs.Json.{IsElement, jsonStep}
 use Rattle.rules.specs.Operations.{decodeStep, ruleOf}
 use Rattle.rules.specs.Refusals.{movesOf}
 use Rattle.rules.specs.declared.Context.{Context}
-use Rattle.rules.specs.declared.Context.the-variants.{InHtml, InScript, InStyle, InJson}
+use Rattle.rules.specs.declared.Context.the-variants.{InHtml, InScript, InStyle, InJson, InAscii}
 use Rattle.rules.specs.declared.AnyContext.{AnyContext}
 use Rattle.rules.specs.declared.AnyContext.the-variants.{Units, ScriptRaw, Unknown}
 use Rattle.rules.specs.declared.Operation.{Operation}
@@ -458,11 +460,12 @@ byte-none (x ∷ s) = refl
 
 pub encode-leaveless : (c : Context) → Leaveless (encodeStep c)
 unfolding encodeStep
-encode-leaveless c p s = go (rowAt key (table c) s)
+encode-leaveless c p s = go (byRule c (charAt s)) (rowAt key (table c) s)
   where
-    go : (o : Option Row) → reasonIn (write o (keepByte s)) ≡ none
-    go none = byte-none s
-    go (some row) = refl
+    go : (w : Option (List ℕ)) (o : Option Row) → reasonIn (write (elim w [ none ↦ none | some v ↦ some (charAt s, v) ]) (write o (keepByte s))) ≡ none
+    go (some v) o = refl
+    go none none = byte-none s
+    go none (some row) = refl
 
 pub raw-leaveless : Leaveless rawStep
 unfolding rawStep
@@ -475,13 +478,18 @@ raw-leaveless p (x ∷ s) = go (eqb x 60 && parted s)
 
 pub read-leaveless : (c : Context) → Leaveless (readStep c)
 unfolding readStep
-read-leaveless c p s = go (rowAt value (rows c) s) (any (λ (k : List ℕ). stands k s) (replacedChars c)) (sequenceAt s)
+read-leaveless c p s = ruled (ruleBack c s) (byRule c (charAt s))
   where
     go : (o : Option Row) (b : Bool) (q : Option (List Range)) → reasonIn (undo o (unless b (keepChar q s))) ≡ none
     go (some row) b q = refl
     go none true q = refl
     go none false none = refl
     go none false (some q) = refl
+
+    ruled : (o : Option Row) (w : Option (List ℕ)) → reasonIn (undo o (unless (elim w [ none ↦ false | some v ↦ true ]) (readBy (rows c) (replacedChars c) p s))) ≡ none
+    ruled (some row) w = refl
+    ruled none (some v) = refl
+    ruled none none = go (rowAt value (rows c) s) (any (λ (k : List ℕ). stands k s) (replacedChars c)) (sequenceAt s)
 
 -- decode in a string.
 pub escape-leaveless : (name : List ℕ) (rs : List Row) → Leaveless (escapeBy name rs)
@@ -521,13 +529,14 @@ browse-leaveless kind p (x ∷ s) = go (eqb x 38) (referenceAt kind s)
 pub browse-left : (kind : Kind) (t : List ℕ) → firstLeft (through (browseStep kind) t) ≡ (0, 0)
 browse-left kind t = ap firstOf (no-lefts (browseStep kind) (browse-leaveless kind) 0 0 0 t)
 
--- Not decode in one of the HTML seven.
+-- Not decode in an HTML context.
 abbrev pub Outside : Operation → AnyContext → Type 0
 Outside Encode n = Unit {0}
 Outside Decode (Units (InHtml h)) = ⊥
 Outside Decode (Units (InScript q)) = Unit {0}
 Outside Decode (Units (InStyle q)) = Unit {0}
 Outside Decode (Units InJson) = Unit {0}
+Outside Decode (Units InAscii) = ⊥
 Outside Decode ScriptRaw = Unit {0}
 Outside Decode Unknown = Unit {0}
 Outside Read n = Unit {0}
@@ -543,6 +552,7 @@ outside Decode (Units (InHtml k)) t h = absurd h
 outside Decode (Units (InScript q)) t h = ap firstOf (no-lefts (decodeStep (InScript q)) (escape-leaveless (ascii "script") (rows (InScript q))) 0 0 0 t)
 outside Decode (Units (InStyle q)) t h = ap firstOf (no-lefts (decodeStep (InStyle q)) (escape-leaveless (ascii "style") (rows (InStyle q))) 0 0 0 t)
 outside Decode (Units InJson) t h = json-left t
+outside Decode (Units InAscii) t h = absurd h
 outside Decode ScriptRaw t h = refl
 outside Decode Unknown t h = refl
 outside Read (Units c) t h = ap firstOf (no-lefts (readStep c) (read-leaveless c) 0 0 0 t)
@@ -552,5 +562,6 @@ outside Browse (Units (InHtml k)) t h = browse-left (kindOf k) t
 outside Browse (Units (InScript q)) t h = refl
 outside Browse (Units (InStyle q)) t h = refl
 outside Browse (Units InJson) t h = refl
+outside Browse (Units InAscii) t h = browse-left InAttribute t
 outside Browse ScriptRaw t h = refl
 outside Browse Unknown t h = refl

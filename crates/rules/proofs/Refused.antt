@@ -13,15 +13,17 @@ use lib.Dec.{T, ltb, eqb}
 use lib.ListN.{length as size, drop}
 use Rattle.rules.specs.Bytes.{All, any, stands, Range}
 use Rattle.rules.specs.Moves.{Move, Rule, result, replaced, place, taken, through, before, why, whyAt}
-use Rattle.rules.specs.Utf8.{IsText, IsCut, sequenceAt, keepChar, validTo, isCut}
+use Rattle.rules.specs.Utf8.{IsText, IsCut, sequenceAt, charAt, keepChar, validTo, isCut}
 use Rattle.rules.specs.Tables.{Row, rowAt, value, rows, replacedChars}
 use Rattle.rules.specs.Encoding.{encodeStep, rawStep}
-use Rattle.rules.specs.Reading.{undo, unless, readStep}
+use Rattle.rules.specs.Ascii.{byRule}
+use Rattle.rules.specs.Reading.{undo, unless, readBy, ruleBack, readStep}
 use Rattle.rules.specs.Json.{IsLone, jsonStep, contentTo}
 use Rattle.rules.specs.Browsing.{kindOf, browseStep}
+use Rattle.rules.specs.declared.Kind.the-variants.{InAttribute}
 use Rattle.rules.specs.Operations.{decodeStep, ruleOf, readTo}
 use Rattle.rules.specs.Refusals.{Call, Case, bad-context, too-long, not-utf8, cut-short, not-a-form, lone-surrogate, lent, no-room, written, earlier, Lone, NoForm, Says, Given, movesOf, movesIn, whyOf, judge, caseBy, caseOf}
-use Rattle.rules.specs.declared.Context.the-variants.{InHtml, InScript, InStyle, InJson}
+use Rattle.rules.specs.declared.Context.the-variants.{InHtml, InScript, InStyle, InJson, InAscii}
 use Rattle.rules.specs.declared.Context.{Context}
 use Rattle.rules.specs.declared.Operation.{Operation}
 use Rattle.rules.specs.declared.Operation.the-variants.{Encode, Decode, Read, Browse}
@@ -177,7 +179,7 @@ never rule t w = nothing (ltb (place (through rule t)) (size t)) (eqb (whyAt rul
 -- read stops for its form only.
 read-four : (c : Context) (p : ℕ) (s : List ℕ) → why (readStep c p s) ≡ 10 → ⊥
 unfolding readStep
-read-four c p s = go (rowAt value (rows c) s) (any (λ (k : List ℕ). stands k s) (replacedChars c)) (sequenceAt s)
+read-four c p s = ruled (ruleBack c s) (byRule c (charAt s))
   where
     nought : _≡_ {A = ℕ} 0 10 → ⊥
     nought e = omega arith
@@ -190,6 +192,11 @@ read-four c p s = go (rowAt value (rows c) s) (any (λ (k : List ℕ). stands k 
     go none true q e = four e
     go none false (some z) e = nought e
     go none false none e = four e
+
+    ruled : (o : Option Row) (w : Option (List ℕ)) → why (undo o (unless (elim w [ none ↦ false | some v ↦ true ]) (readBy (rows c) (replacedChars c) p s))) ≡ 10 → ⊥
+    ruled (some row) w e = nought e
+    ruled none (some v) e = four e
+    ruled none none e = go (rowAt value (rows c) s) (any (λ (k : List ℕ). stands k s) (replacedChars c)) (sequenceAt s) e
 
 read-stops : (c : Context) (t : List ℕ) → Stops Read (Units c) t
 read-stops c t =
@@ -235,6 +242,7 @@ stop-says Decode (Units (InHtml h)) t k = never (decodeStep (InHtml h)) t (decod
 stop-says Decode (Units (InScript q)) t k = never (decodeStep (InScript q)) t (decode-whole (InScript q) tt t)
 stop-says Decode (Units (InStyle q)) t k = never (decodeStep (InStyle q)) t (decode-whole (InStyle q) tt t)
 stop-says Decode (Units InJson) t k = json-stops t
+stop-says Decode (Units InAscii) t k = never (decodeStep InAscii) t (decode-whole InAscii tt t)
 stop-says Decode ScriptRaw t k = absurd (k refl)
 stop-says Decode Unknown t k = absurd (k refl)
 stop-says Read (Units c) t k = read-stops c t
@@ -244,6 +252,7 @@ stop-says Browse (Units (InHtml h)) t k = never (browseStep (kindOf h)) t (brows
 stop-says Browse (Units (InScript q)) t k = absurd (k refl)
 stop-says Browse (Units (InStyle q)) t k = absurd (k refl)
 stop-says Browse (Units InJson) t k = absurd (k refl)
+stop-says Browse (Units InAscii) t k = never (browseStep InAttribute) t (browse-whole InAttribute t)
 stop-says Browse ScriptRaw t k = absurd (k refl)
 stop-says Browse Unknown t k = absurd (k refl)
 

@@ -9,15 +9,18 @@ use Prim.Native.Nat.{ℕ}
 use lib.Dec.{T, eqb}
 use lib.ListN.{length}
 use Rattle.rules.specs.Bytes.{ascii, is, In}
-use Rattle.rules.specs.Moves.{Move, swap, leave, moves, taken}
+use Rattle.rules.specs.Moves.{Move, keep, swap, leave, moves, taken}
 use Rattle.rules.specs.References.{onto, bodyOf, meaning, why, refer, atAmp, referenceBy}
 use Rattle.rules.specs.Reasons.{Ampless, Endless}
 use Rattle.rules.specs.declared.Reason.{Reason}
 use Rattle.rules.specs.declared.Reason.the-variants.{NoEnd}
-use Rattle.rules.proofs.Tests.{in-append}
+use Rattle.rules.proofs.Tests.{is-false, in-append}
 use Rattle.rules.proofs.Machine.{Makes, Follows, one-move, retrace, singly}
 use Rattle.rules.proofs.Chars.{taken-singles}
-use Rattle.rules.proofs.Decoder.{reference-quiet}
+
+-- Any byte but an `&` is kept.
+pub reference-quiet : (char : ℕ → Option (List ℕ)) (p x : ℕ) (s : List ℕ) → (T (eqb x 38) → ⊥) → referenceBy char p (x ∷ s) ≡ keep (x ∷ [])
+reference-quiet char p x s h = ap (λ (b : Bool). cond b (atAmp char (bodyOf s)) (keep (x ∷ []))) (is-false (eqb x 38) h)
 
 -- Bytes with no `;` have no body before an `&` or the end of the text.
 pub body-none : (a r : List ℕ) → Endless a → bodyOf r ≡ none → bodyOf (a ++ r) ≡ none

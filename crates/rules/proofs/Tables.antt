@@ -10,14 +10,20 @@ use lib.ListN.{length, take, drop, take-append-drop}
 use lib.Seq.{take-at}
 use Rattle.rules.specs.Bytes.{In, all, any, fits, stands, Range, inside}
 use Rattle.rules.specs.Moves.{Move, keep, swap, leave, stop}
-use Rattle.rules.specs.Utf8.{sequences, sequenceAt, keepChar}
+use Rattle.rules.specs.Utf8.{sequences, sequenceAt, IsChar, keepChar}
 use Rattle.rules.specs.Tables.{Row, rowAt, value}
-use Rattle.rules.specs.Units.{IsUnit}
 use Rattle.rules.specs.Reading.{undo, unless, readBy}
 use Rattle.rules.proofs.Tests.{and-left, and-right, is-false, all-in, any-in, any-intro, first-in, first-none, first-sound, distinct, differ, differ-law, fits-take, fits-length, stands-self, stands-split}
 use Rattle.rules.proofs.Chars.{sequence-of-char, sequence-pos, char-unique, isChar, is-char, pred-of}
 use Rattle.rules.proofs.Machine.{Makes, Fair}
 use Rattle.rules.proofs.Codes.{Reads}
+
+-- A unit of a table alone: a plain character that is not among the barred ones, or the value of a row, standing for its key.
+abbrev pub IsEntry : List Row → List (List ℕ) → Move → Type 0
+IsEntry rows bars (keep a) = IsChar a × (In a bars → ⊥)
+IsEntry rows bars (swap v k) = In (k, v) rows
+IsEntry rows bars (leave r a) = ⊥
+IsEntry rows bars (stop w) = ⊥
 
 -- One of the barred characters stands at the head of s.
 abbrev pub barred : List (List ℕ) → List ℕ → Bool
@@ -44,13 +50,13 @@ module _ (side : Row → List ℕ) (rows : List Row) (bars : List (List ℕ)) (o
   code-chars = and-right (all (begun side bars) rows) (all isChar bars) (and-right (distinct (unlike side) rows) (all (begun side bars) rows && all isChar bars) ok)
 
   -- No barred character stands where a plain one does.
-  pub bar-stops : (a r : List ℕ) → IsUnit rows bars (keep a) → (k : List ℕ) → In k bars → T (stands k (a ++ r)) → ⊥
+  pub bar-stops : (a r : List ℕ) → IsEntry rows bars (keep a) → (k : List ℕ) → In k bars → T (stands k (a ++ r)) → ⊥
   bar-stops a r u k i t =
       let (r′, e) = stands-split k (a ++ r) t in
       u .1 (subst (λ (b : List ℕ). In b bars) (sym (char-unique a k r r′ (u .0) (is-char k (all-in isChar bars code-chars k i)) e)) i)
 
   -- Nor does a row.
-  pub row-stops : (a r : List ℕ) → IsUnit rows bars (keep a) → (e : Row) → In e rows → T (stands (side e) (a ++ r)) → ⊥
+  pub row-stops : (a r : List ℕ) → IsEntry rows bars (keep a) → (e : Row) → In e rows → T (stands (side e) (a ++ r)) → ⊥
   row-stops a r u e i t =
       let v = side e in
       let (k, j, h) = any-in (λ (k : List ℕ). stands k v) bars (and-right (ltb 0 (length v)) (barred bars v) (all-in (begun side bars) rows code-begun e i)) in
@@ -72,7 +78,7 @@ module _ (side : Row → List ℕ) (rows : List Row) (bars : List (List ℕ)) (o
 
 module _ (rows : List Row) (bars : List (List ℕ)) (ok : T (isCode value rows bars)) where
   -- At a unit the reader makes that unit's move.
-  read-finds : (u : Move) → IsUnit rows bars u → (r : List ℕ) → Makes (readBy rows bars) u r
+  pub read-finds : (u : Move) → IsEntry rows bars u → (r : List ℕ) → Makes (readBy rows bars) u r
   read-finds (swap v k) i r = (
     pred (length v),
     row-length value rows bars ok (k, v) i,
@@ -96,11 +102,11 @@ module _ (rows : List Row) (bars : List (List ℕ)) (ok : T (isCode value rows b
       stopped x = bar-stops value rows bars ok a r u (x .0) (x .1) (x .2)
 
   -- Every move that the reader makes is a unit that stands there, or a stop.
-  read-fair : (p : ℕ) (s : List ℕ) → Fair (IsUnit rows bars) (readBy rows bars p s) s
+  pub read-fair : (p : ℕ) (s : List ℕ) → Fair (IsEntry rows bars) (readBy rows bars p s) s
   read-fair p s = go (rowAt value rows s) refl (barred bars s) refl (sequenceAt s) refl
     where
       go : (o : Option Row) → rowAt value rows s ≡ o → (b : Bool) → barred bars s ≡ b → (q : Option (List Range)) → sequenceAt s ≡ q
-          → Fair (IsUnit rows bars) (undo o (unless b (keepChar q s))) s
+          → Fair (IsEntry rows bars) (undo o (unless b (keepChar q s))) s
       go (some e) f b g q h =
           let (i, t) = first-sound (λ (row : Row). stands (value row)) rows s e f in
           let (r, w) = stands-split (value e) s t in
@@ -121,5 +127,5 @@ module _ (rows : List Row) (bars : List (List ℕ)) (ok : T (isCode value rows b
             fits-length inside q s t ∙ pred-of (length q) (sequence-pos q i),
           )
 
-  pub table-reads : Reads (IsUnit rows bars) (readBy rows bars)
+  pub table-reads : Reads (IsEntry rows bars) (readBy rows bars)
   table-reads = record { finds = read-finds; fair = read-fair }

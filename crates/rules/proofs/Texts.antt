@@ -23,7 +23,7 @@ use Rattle.rules.specs.References.{scalar, decodeChar, renumbering, stan
 use Rattle.rules.specs.Json.{shortEscapes, Spells, highs, lows, pairOf, IsElement, jsonStep}
 use Rattle.rules.specs.Operations.{decodeStep, decodeOf, rawOf}
 use Rattle.rules.specs.declared.Context.{Context}
-use Rattle.rules.specs.declared.Context.the-variants.{InHtml, InScript, InStyle, InJson}
+use Rattle.rules.specs.declared.Context.the-variants.{InHtml, InScript, InStyle, InJson, InAscii}
 use Rattle.rules.proofs.Tests.{and-left, and-right, and-both, all-in}
 use Rattle.rules.proofs.Machine.{Fair, fair-map, moves-fair}
 use Rattle.rules.proofs.Chars.{isChar, is-char, isTail, char-tails, sequence-pos}
@@ -290,6 +290,7 @@ unfolding decodeStep referenceStep
 decode-regroups (InHtml h) = reference-fair Regroups (λ x. tt) left-regroups decodeChar (reference-regroups decodeChar decode-char)
 decode-regroups (InScript q) = escape-fair Regroups (λ x. tt) bang slash (InScript q) (row-regroups (InScript q)) (ascii "script")
 decode-regroups (InStyle q) = escape-fair Regroups (λ x. tt) bang slash (InStyle q) (row-regroups (InStyle q)) (ascii "style")
+decode-regroups InAscii = reference-fair Regroups (λ x. tt) left-regroups decodeChar (reference-regroups decodeChar decode-char)
 decode-regroups InJson = λ p s. fair-map element-regroups (jsonStep p s) s (json-fair p s)
 
 pub raw-regroups : (p : ℕ) (s : List ℕ) → Fair Regroups (rawStep p s) s

@@ -15,7 +15,7 @@ use Rattle.rules.specs.Utf8.{utf8}
 use Rattle.rules.specs.Tables.{Row, rowAt, key, value, rows, replacedChars}
 use Rattle.rules.specs.Names.{names}
 use Rattle.rules.specs.declared.Context.{Context}
-use Rattle.rules.specs.declared.Context.the-variants.{InHtml, InScript, InStyle, InJson}
+use Rattle.rules.specs.declared.Context.the-variants.{InHtml, InScript, InStyle, InJson, InAscii}
 use Rattle.rules.specs.declared.Reason.{Reason}
 use Rattle.rules.specs.declared.Reason.the-variants.{NoEnd}
 use Rattle.rules.specs.Encoding.{keepByte, closes, anyCase, terminators}
@@ -254,6 +254,7 @@ unfolding decodeStep referenceStep
 decode-fair (InHtml h) = reference-fair Fifth kept-fifth left-fifth decodeChar (reference-fifth decodeChar decode-short)
 decode-fair (InScript q) = escape-fair Fifth kept-fifth (leb→le 5 12 tt) (leb→le 5 12 tt) (InScript q) (row-fifth (InScript q)) (ascii "script")
 decode-fair (InStyle q) = escape-fair Fifth kept-fifth (leb→le 5 12 tt) (leb→le 5 12 tt) (InStyle q) (row-fifth (InStyle q)) (ascii "style")
+decode-fair InAscii = reference-fair Fifth kept-fifth left-fifth decodeChar (reference-fifth decodeChar decode-short)
 decode-fair InJson = λ p s. fair-map element-fifth (jsonStep p s) s (json-fair p s)
 
 -- The contexts whose decoder goes on to the end of every text: all but json.
@@ -262,12 +263,14 @@ Endless (InHtml h) = Unit {0}
 Endless (InScript q) = Unit {0}
 Endless (InStyle q) = Unit {0}
 Endless InJson = ⊥
+Endless InAscii = Unit {0}
 
 decode-goes : (c : Context) → Endless c → (p x : ℕ) (xs : List ℕ) → Goes (decodeStep c p (x ∷ xs))
 unfolding decodeStep referenceStep
 decode-goes (InHtml h) w p x xs = reference-goes decodeChar p x xs
 decode-goes (InScript q) w p x xs = escape-goes (rows (InScript q)) (ascii "script") p x xs
 decode-goes (InStyle q) w p x xs = escape-goes (rows (InStyle q)) (ascii "style") p x xs
+decode-goes InAscii w p x xs = reference-goes decodeChar p x xs
 decode-goes InJson w p x xs = absurd w
 
 pub decode-whole : (c : Context) → Endless c → (s : List ℕ) → taken (through (decodeStep c) s) ≡ s

@@ -1,5 +1,5 @@
 -- RULES 4. The contexts with their names and numbers, and the operations with their names.
--- The types are those of the code: fourteen contexts have units, script_raw has none. view is with the refusal table.
+-- The types are those of the code: fifteen contexts have units, script_raw has none. view is with the refusal table.
 -- Assumes nothing.
 use mathlib.Core.List.{List, [], _∷_}
 use Prim.Native.Nat.{ℕ}
@@ -13,7 +13,7 @@ use Rattle.rules.specs.declared.Language.the-variants.{Script, Style}
 use Rattle.rules.specs.declared.Notation.{Notation}
 use Rattle.rules.specs.declared.Notation.the-variants.{Script as ScriptString, Style as StyleString, Json as JsonString}
 use Rattle.rules.specs.declared.Context.{Context}
-use Rattle.rules.specs.declared.Context.the-variants.{InHtml, InScript, InStyle, InJson}
+use Rattle.rules.specs.declared.Context.the-variants.{InHtml, InScript, InStyle, InJson, InAscii}
 use Rattle.rules.specs.declared.AnyContext.{AnyContext}
 use Rattle.rules.specs.declared.AnyContext.the-variants.{Units, ScriptRaw, Unknown}
 use Rattle.rules.specs.declared.Operation.{Operation}
@@ -28,7 +28,7 @@ pub record Label (A : Type 0) : Type 0 where
 abbrev pub label : {A : Type 0} → List ℕ → A → Label A
 label n a = record { name = n; names = a }
 
--- The fifteen contexts in the order of their numbers: the HTML seven, the script strings, the style strings, script_raw, json.
+-- The sixteen contexts in the order of their numbers: the HTML seven, the script strings, the style strings, script_raw, json, ascii_quoted.
 abbrev pub contextNames : List (Label AnyContext)
 contextNames =
     label (ascii "text_minimal") (Units (InHtml TextMinimal))
@@ -46,6 +46,7 @@ contextNames =
     ∷ label (ascii "style_quoted") (Units (InStyle Both))
     ∷ label (ascii "script_raw") ScriptRaw
     ∷ label (ascii "json") (Units InJson)
+    ∷ label (ascii "ascii_quoted") (Units InAscii)
     ∷ []
 
 -- The context of a number: its place in that list, from 0; any other number names none.

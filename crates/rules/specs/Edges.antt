@@ -20,7 +20,7 @@ use Rattle.rules.specs.Examples.{Example, passesIn, example, stays, leav
 use Rattle.rules.specs.declared.Html.{Html}
 use Rattle.rules.specs.declared.Html.the-variants.{TextMinimal, Text, DoubleQuoted, SingleQuoted, Quoted, Safe, Unquoted}
 use Rattle.rules.specs.declared.Quotes.the-variants.{Single, Double, Both}
-use Rattle.rules.specs.declared.Context.the-variants.{InHtml, InScript, InStyle, InJson}
+use Rattle.rules.specs.declared.Context.the-variants.{InHtml, InScript, InStyle, InJson, InAscii}
 use Rattle.rules.specs.declared.AnyContext.{AnyContext}
 use Rattle.rules.specs.declared.AnyContext.the-variants.{Units, ScriptRaw, Unknown}
 use Rattle.rules.specs.declared.Operation.{Operation}
@@ -174,12 +174,15 @@ controlsInJson =
     ascii "\\u0000\\u0001\\u0002\\u0003\\u0004\\u0005\\u0006\\u0007\\u0008\\u0009\\u000A\\u000B\\u000C\\u000D\\u000E\\u000F"
     ++ ascii "\\u0010\\u0011\\u0012\\u0013\\u0014\\u0015\\u0016\\u0017\\u0018\\u0019\\u001A\\u001B\\u001C\\u001D\\u001E\\u001F"
 
--- DEL and the four as they are, and with the separators escaped.
+-- DEL and the four as they are, with the separators escaped, and with all four as references.
 abbrev pub delKept : List ℕ
 delKept = 0x7F ∷ aroundSeparators
 
 abbrev pub delInScript : List ℕ
 delInScript = 0x7F ∷ utf8 0x2027 ++ ascii "\\u2028\\u2029" ++ utf8 0x202A
+
+abbrev pub delInAscii : List ℕ
+delInAscii = 0x7F ∷ ascii "&#x2027;&#x2028;&#x2029;&#x202A;"
 
 -- What is written of every byte: of the controls, of the signs before the digits, between digits and letters, between the letters, and after them,
 -- and of the rest. Letters and digits are always copied.
@@ -211,6 +214,7 @@ encoders =
     ∷ (ascii "style_quoted", 36, written controlsInStyle " !\\\"#$%&\\'()*+,-./" ":;\\3C =>?@" "[\\\\]^_`" "{|}~" delKept)
     ∷ (ascii "script_raw", 0, written (bytes 0 31) " !\"#$%&'()*+,-./" ":;<=>?@" "[\\]^_`" "{|}~" delKept)
     ∷ (ascii "json", 37, written controlsInJson " !\\\"#$%&'()*+,-./" ":;\\u003C=>?@" "[\\\\]^_`" "{|}~" delInScript)
+    ∷ (ascii "ascii_quoted", 9, written (bytes 0 31) " !&quot;#$%&amp;&#x27;()*+,-./" ":;&lt;=&gt;?@" "[\\]^_`" "{|}~" delInAscii)
     ∷ []
 
 -- The lines of a request, and its text.
@@ -223,7 +227,7 @@ writes n name k r = holds (example Encode (contextOf n) everyByte r k) && sameBy
 
 -- The contexts from number n on do so.
 abbrev pub writeFrom : ℕ → List (List ℕ × ℕ × List ℕ) → Bool
-writeFrom n [] = eqb n 15
+writeFrom n [] = eqb n 16
 writeFrom n ((name, k, r) ∷ es) = writes n name k r && writeFrom (suc n) es
 
 -- ---- closing tags
@@ -652,15 +656,15 @@ readings =
 
 -- ---- refusals
 
--- Of the numbers 0 to 16 an operation passes the empty text in the contexts of these, and has no other context.
+-- Of the numbers 0 to 17 an operation passes the empty text in the contexts of these, and has no other context.
 abbrev pub inContexts : Operation → List ℕ → List Example
 inContexts o ns =
-    map (λ (k : ℕ). passesIn 0 o (contextOf k) [] [] 0) ns ++ map (λ (k : ℕ). refused o (contextOf k) [] 5 0) (only (λ (k : ℕ). not (oneOf ns k)) (bytes 0 16))
+    map (λ (k : ℕ). passesIn 0 o (contextOf k) [] [] 0) ns ++ map (λ (k : ℕ). refused o (contextOf k) [] 5 0) (only (λ (k : ℕ). not (oneOf ns k)) (bytes 0 17))
 
 -- Which contexts each operation has; and of any two rows of the table the earlier.
 abbrev pub refusals : List Example
 refusals =
-    inContexts Encode (bytes 0 14) ++ inContexts Decode (bytes 0 12 ++ 14 ∷ []) ++ inContexts Read (bytes 0 12 ++ 14 ∷ []) ++ inContexts Browse (bytes 0 6)
+    inContexts Encode (bytes 0 15) ++ inContexts Decode (bytes 0 12 ++ 14 ∷ 15 ∷ []) ++ inContexts Read (bytes 0 12 ++ 14 ∷ 15 ∷ []) ++ inContexts Browse (bytes 0 6 ++ 15 ∷ [])
     ++ refused Decode ScriptRaw (map (λ (b : ℕ). 0x80) (count 0 65537)) 5 0
     ∷ refused Read (Units (InHtml Text)) (0x26 ∷ 0x80 ∷ []) 2 1
     ∷ refusedIn 0 Read (Units (InHtml Text)) (ascii "a&") 4 0 1

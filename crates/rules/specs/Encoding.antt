@@ -8,7 +8,9 @@ use lib.Dec.{eqb}
 use lib.ListN.{length}
 use Rattle.rules.specs.Bytes.{ascii, is, bytes, fits, stands, between, oneOf}
 use Rattle.rules.specs.Moves.{Move, keep, swap, stop, Rule}
+use Rattle.rules.specs.Utf8.{charAt}
 use Rattle.rules.specs.Tables.{Row, rowAt, key, value, table}
+use Rattle.rules.specs.Ascii.{byRule}
 use Rattle.rules.specs.declared.Context.{Context}
 
 -- One byte is kept.
@@ -25,9 +27,13 @@ write none other = other
 abbrev pub encodeBy : List Row → Rule
 encodeBy rows prev s = write (rowAt key rows s) (keepByte s)
 
--- encode in a context: by all that it replaces.
+-- The character at the head of s and what the context's rule writes for it, if it writes something.
+abbrev pub ruleAt : Context → List ℕ → Option Row
+ruleAt c s = elim (byRule c (charAt s)) [ none ↦ none | some v ↦ some (charAt s, v) ]
+
+-- encode in a context: by its rule, and else by all that its table replaces.
 unfoldable pub encodeStep : Context → Rule
-encodeStep c = encodeBy (table c)
+encodeStep c prev s = write (ruleAt c s) (encodeBy (table c) prev s)
 
 -- ---- script_raw
 

@@ -9,6 +9,7 @@ pub mod Encoding
 pub mod Reading
 pub mod Names
 pub mod References
+pub mod Ascii
 pub mod Bare
 pub mod Browsing
 pub mod Reasons
@@ -21,6 +22,7 @@ pub mod Program
 pub mod Examples
 pub mod Edges
 pub mod BrowsingEdges
+pub mod AsciiEdges
 pub mod ScriptData
 pub mod ScriptEdges
 pub mod Closings

@@ -13,27 +13,30 @@ use Rattle.rules.specs.Browsing.{kindOf, browseStep}
 use Rattle.rules.specs.Escapes.{escapeBy}
 use Rattle.rules.specs.Json.{jsonStep}
 use Rattle.rules.specs.declared.Kind.{Kind}
+use Rattle.rules.specs.declared.Kind.the-variants.{InAttribute}
 use Rattle.rules.specs.declared.Context.{Context}
-use Rattle.rules.specs.declared.Context.the-variants.{InHtml, InScript, InStyle, InJson}
+use Rattle.rules.specs.declared.Context.the-variants.{InHtml, InScript, InStyle, InJson, InAscii}
 use Rattle.rules.specs.declared.AnyContext.{AnyContext}
 use Rattle.rules.specs.declared.AnyContext.the-variants.{Units, ScriptRaw, Unknown}
 use Rattle.rules.specs.declared.Operation.{Operation}
 use Rattle.rules.specs.declared.Operation.the-variants.{Encode, Decode, Read, Browse}
 
--- decode: the HTML seven share one decoder; a string's escapes are those that its context writes; a JSON string has those of
+-- decode: the HTML contexts, the seven and ascii_quoted, share one decoder; a string's escapes are those that its context writes; a JSON string has those of
 -- the RFC.
 unfoldable pub decodeStep : Context → Rule
 decodeStep (InHtml h) = referenceStep
 decodeStep (InScript q) = escapeBy (ascii "script") (rows (InScript q))
 decodeStep (InStyle q) = escapeBy (ascii "style") (rows (InStyle q))
 decodeStep InJson = jsonStep
+decodeStep InAscii = referenceStep
 
--- browse: the HTML seven only, as text or as the value of an attribute.
+-- browse: the HTML contexts only, as text or as the value of an attribute.
 abbrev pub browseIn : Context → Option Rule
 browseIn (InHtml h) = some (browseStep (kindOf h))
 browseIn (InScript q) = none
 browseIn (InStyle q) = none
 browseIn InJson = none
+browseIn InAscii = some (browseStep InAttribute)
 
 -- The rule of each operation in a context that has units.
 abbrev pub ruleIn : Operation → Context → Option Rule

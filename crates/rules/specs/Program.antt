@@ -3,11 +3,12 @@
 use mathlib.Core.Bool.{false, cond}
 use mathlib.Core.Option.{Option, none, some}
 use mathlib.Core.List.{List, [], _∷_, _++_, map}
-use Prim.Native.Nat.{ℕ, zero, suc, _+_, _*_, _/_, _%_}
-use lib.Dec.{ltb, eqb}
+use Prim.Native.Nat.{ℕ, _+_}
+use lib.Dec.{eqb}
 use lib.ListN.{length as size, drop}
 use Rattle.rules.specs.Bytes.{ascii, join, first, stands}
 use Rattle.rules.specs.Moves.{result, lefts, reasonNumber}
+use Rattle.rules.specs.Tables.{numeral}
 use Rattle.rules.specs.Contexts.{Label, contextNames, operationNames}
 use Rattle.rules.specs.Refusals.{Call, caseOf, movesIn, refusal, answerAt}
 use Rattle.rules.specs.declared.Answer.{Answer}
@@ -23,14 +24,18 @@ use Rattle.rules.specs.declared.Reason.{Reason}
 abbrev pub line : {A : Type 0} → List ℕ → Label A → List ℕ
 line field l = field ++ l .name ++ ascii "\n"
 
+-- Room for the result of any 8,192 bytes: no operation gives more than 22 bytes for 3 of its text.
+abbrev pub resultRoom : ℕ
+resultRoom = 60074
+
 -- The text of a request.
 abbrev pub textOf : Operation → AnyContext → List ℕ → Option Call
 textOf op n s =
     cond (stands (ascii "text=") s)
-    (some (record { operation = op; context = n; borrows = false; limit = 8192; text = drop 5 s; room = 6 * 8192 }))
+    (some (record { operation = op; context = n; borrows = false; limit = 8192; text = drop 5 s; room = resultRoom }))
     none
 
--- After `op=`: the line `context=` with one of the fourteen names.
+-- After `op=`: the line `context=` with one of the sixteen names.
 abbrev pub contextLine : Operation → List ℕ → Option Call
 contextLine op s =
     elim (first (λ (l : Label AnyContext). stands (line (ascii "context=") l)) contextNames s) [
@@ -38,7 +43,7 @@ contextLine op s =
       | some l ↦ textOf op (l .names) (drop (size (line (ascii "context=") l)) s)
     ]
 
--- The request: the line `op=` first. Its text has at most 8,192 bytes, its call copies, and its output holds every result (`roomy`).
+-- The request: the line `op=` first. Its text has at most 8,192 bytes, its call copies, and its output holds every result.
 abbrev pub requestOf : List ℕ → Option Call
 requestOf s =
     elim (first (λ (l : Label Operation). stands (line (ascii "op=") l)) operationNames s) [
@@ -46,10 +51,9 @@ requestOf s =
       | some l ↦ contextLine (l .names) (drop (size (line (ascii "op=") l)) s)
     ]
 
--- The last k digits of a number, without leading zeros.
+-- The last k decimal digits of a number, without leading zeros.
 abbrev pub lastDigits : ℕ → ℕ → List ℕ
-lastDigits zero n = []
-lastDigits (suc k) n = cond (ltb n 10) ((48 + n) ∷ []) (lastDigits k (n / 10) ++ (48 + n % 10) ∷ [])
+lastDigits k n = numeral (λ (d : ℕ). 48 + d) 10 k n
 
 -- A number in decimal, of at most twenty digits.
 abbrev pub decimal : ℕ → List ℕ
@@ -77,7 +81,7 @@ entityOf s = elim (requestOf s) [ none ↦ printed (refusal 6 0 0) [] | some k �
 
 -- The call that `reasons` makes of a text: decode in `text`, of at most 8,192 bytes, with room for every result.
 abbrev pub decoding : List ℕ → Call
-decoding t = record { operation = Decode; context = Units (InHtml Text); borrows = false; limit = 8192; text = t; room = 6 * 8192 }
+decoding t = record { operation = Decode; context = Units (InHtml Text); borrows = false; limit = 8192; text = t; room = resultRoom }
 
 -- The line of a reference that stays.
 abbrev pub leftLine : ℕ × Reason → List ℕ

@@ -15,7 +15,7 @@ use Rattle.rules.specs.Json.{IsContent, IsLone}
 use Rattle.rules.specs.Operations.{ruleOf}
 use Rattle.rules.specs.declared.Answer.{Answer}
 use Rattle.rules.specs.declared.Checked.{Checked}
-use Rattle.rules.specs.declared.Context.the-variants.{InHtml, InScript, InStyle, InJson}
+use Rattle.rules.specs.declared.Context.the-variants.{InHtml, InScript, InStyle, InJson, InAscii}
 use Rattle.rules.specs.declared.AnyContext.{AnyContext}
 use Rattle.rules.specs.declared.AnyContext.the-variants.{Units, ScriptRaw, Unknown}
 use Rattle.rules.specs.declared.Operation.{Operation}
@@ -92,6 +92,7 @@ Lone Decode (Units (InHtml h)) t = ⊥
 Lone Decode (Units (InScript q)) t = ⊥
 Lone Decode (Units (InStyle q)) t = ⊥
 Lone Decode (Units InJson) t = IsLone t
+Lone Decode (Units InAscii) t = ⊥
 Lone Decode ScriptRaw t = ⊥
 Lone Decode Unknown t = ⊥
 Lone Read n t = ⊥
@@ -104,6 +105,7 @@ NoForm Decode (Units (InHtml h)) t = ⊥
 NoForm Decode (Units (InScript q)) t = ⊥
 NoForm Decode (Units (InStyle q)) t = ⊥
 NoForm Decode (Units InJson) t = (IsContent t → ⊥) × (IsLone t → ⊥)
+NoForm Decode (Units InAscii) t = ⊥
 NoForm Decode ScriptRaw t = ⊥
 NoForm Decode Unknown t = ⊥
 NoForm Read (Units c) t = IsForm c t → ⊥

@@ -4,7 +4,7 @@ use mathlib.Core.Bool.{Bool, not, _||_, cond}
 use mathlib.Core.Option.{Option}
 use mathlib.Core.List.{List, [], _∷_, _++_, map}
 use Prim.Native.Char.{code}
-use Prim.Native.Nat.{ℕ, _+_, _/_, _%_}
+use Prim.Native.Nat.{ℕ, zero, suc, _+_, _/_, _%_}
 use lib.Dec.{ltb}
 use Rattle.rules.specs.Bytes.{ascii, bytes, only, first, stands, between, oneOf}
 use Rattle.rules.specs.Utf8.{utf8, substitute}
@@ -15,7 +15,7 @@ use Rattle.rules.specs.declared.Quotes.the-variants.{Single, Double, Bot
 use Rattle.rules.specs.declared.Notation.{Notation}
 use Rattle.rules.specs.declared.Notation.the-variants.{Script, Style, Json}
 use Rattle.rules.specs.declared.Context.{Context}
-use Rattle.rules.specs.declared.Context.the-variants.{InHtml, InScript, InStyle, InJson}
+use Rattle.rules.specs.declared.Context.the-variants.{InHtml, InScript, InStyle, InJson, InAscii}
 
 -- A row: the key gives way to the value.
 abbrev pub Row : Type 0
@@ -36,6 +36,11 @@ rowAt side rows s = first (λ (row : Row). stands (side row)) rows s
 -- An upper-case hex digit.
 abbrev pub hexDigit : ℕ → ℕ
 hexDigit n = cond (ltb n 10) (48 + n) (55 + n)
+
+-- The last k digits of a number in some base, without leading zeros.
+abbrev pub numeral : (ℕ → ℕ) → ℕ → ℕ → ℕ → List ℕ
+numeral digit base zero n = []
+numeral digit base (suc k) n = cond (ltb n base) (digit n ∷ []) (numeral digit base k (n / base) ++ digit (n % base) ∷ [])
 
 -- A byte as two of them.
 abbrev pub hexPair : ℕ → List ℕ
@@ -143,12 +148,14 @@ jsonRows = map jsonHex (bytes 0 31 ++ ascii "<") ++ lineSeparator ∷ paragraphS
 
 -- ---- every context
 
--- The replacements of each context that can be read back: its units beside the plain characters.
+-- The replacements of each context that can be read back: its units beside the plain characters. ascii_quoted has the rows of `quoted`, and a rule
+-- for the characters above 7F (RULES 27).
 abbrev pub rows : Context → List Row
 rows (InHtml h) = htmlRows h
 rows (InScript q) = quoteRows q ++ scriptRows
 rows (InStyle q) = quoteRows q ++ styleRows
 rows InJson = quoteRows Double ++ jsonRows
+rows InAscii = htmlRows Quoted
 
 -- The one replacement that cannot: NUL becomes U+FFFD in a style string.
 abbrev pub lossy : Context → List Row
@@ -156,6 +163,7 @@ lossy (InHtml h) = []
 lossy (InScript q) = []
 lossy (InStyle q) = (0x00 ∷ [], substitute) ∷ []
 lossy InJson = []
+lossy InAscii = []
 
 -- All that the encoder of the context replaces; the rest is copied.
 abbrev pub table : Context → List Row

@@ -4,7 +4,7 @@ use mathlib.Core.Bool.{Bool, true, false, _&&_, cond}
 use mathlib.Core.Option.{Option, none, some}
 use mathlib.Core.Path.{_≡_}
 use mathlib.Core.List.{List, [], _∷_, _++_}
-use Prim.Native.Nat.{ℕ, _+_, _/_, _%_, _<_}
+use Prim.Native.Nat.{ℕ, _+_, _-_, _*_, _/_, _%_, _<_}
 use lib.Dec.{T, ltb}
 use lib.ListN.{length, take}
 use Rattle.rules.specs.Bytes.{join, In, All, any, first, fits, opens, Range, inside}
@@ -48,6 +48,10 @@ IsFree bad s = (cs : List (List ℕ)) × All IsChar cs × All (λ (a : List ℕ)
 abbrev pub sequenceAt : List ℕ → Option (List Range)
 sequenceAt s = first (fits inside) sequences s
 
+-- The character at the head of s; no bytes where none stands.
+abbrev pub charAt : List ℕ → List ℕ
+charAt s = elim (sequenceAt s) [ none ↦ [] | some q ↦ take (length q) s ]
+
 -- The character at the head of s is kept; where none stands, stop.
 abbrev pub keepChar : Option (List Range) → List ℕ → Move
 keepChar (some q) s = keep (take (length q) s)
@@ -72,6 +76,14 @@ utf8 n =
     (cond (ltb n 0x800) ((0xC0 + n / 64) ∷ (0x80 + n % 64) ∷ [])
     (cond (ltb n 0x10000) ((0xE0 + n / 4096) ∷ (0x80 + n / 64 % 64) ∷ (0x80 + n % 64) ∷ [])
     ((0xF0 + n / 262144) ∷ (0x80 + n / 4096 % 64) ∷ (0x80 + n / 64 % 64) ∷ (0x80 + n % 64) ∷ [])))
+
+-- The number of a character's bytes.
+abbrev pub codeOf : List ℕ → ℕ
+codeOf [] = 0
+codeOf (a ∷ []) = a
+codeOf (a ∷ b ∷ []) = (a - 0xC0) * 64 + (b - 0x80)
+codeOf (a ∷ b ∷ c ∷ []) = (a - 0xE0) * 4096 + (b - 0x80) * 64 + (c - 0x80)
+codeOf (a ∷ b ∷ c ∷ d ∷ r) = (a - 0xF0) * 262144 + (b - 0x80) * 4096 + (c - 0x80) * 64 + (d - 0x80)
 
 -- U+FFFD, written where a character has no other form.
 abbrev pub substitute : List ℕ

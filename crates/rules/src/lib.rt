@@ -5,7 +5,7 @@ ghost use Rattle.rules.specs.Contexts.{contextOf};
 // The longest text that a call takes, in bytes.
 pub const TEXT_LIMIT: usize = 65536;
 
-// The contexts: the HTML seven, the script strings, the style strings, text inside a script element, and JSON strings.
+// The contexts: the HTML seven, the script strings, the style strings, text inside a script element, JSON strings, and quoted attributes in ASCII.
 pub const TEXT_MINIMAL: u32 = 0;
 
 pub const TEXT: u32 = 1;
@@ -35,6 +35,8 @@ pub const STYLE_QUOTED: u32 = 12;
 pub const SCRIPT_RAW: u32 = 13;
 
 pub const JSON: u32 = 14;
+
+pub const ASCII_QUOTED: u32 = 15;
 
 // The statuses of an answer.
 pub const PASSED: usize = 0;
@@ -99,15 +101,16 @@ pub enum Notation {
     Json,
 }
 
-// The fourteen contexts that have units.
+// The fifteen contexts that have units.
 pub enum Context {
     InHtml(Html),
     InScript(Quotes),
     InStyle(Quotes),
     InJson,
+    InAscii,
 }
 
-// The context that a call names: one of the fourteen, script_raw, or none.
+// The context that a call names: one of the fifteen, script_raw, or none.
 pub enum AnyContext {
     Units(Context),
     ScriptRaw,
@@ -261,7 +264,7 @@ pub struct Closing {
     pub place: usize,
 }
 
-// Returns the context of a number, 0 to 14; any other number has none.
+// Returns the context of a number, 0 to 15; any other number has none.
 pub fn context_of(number: u32) -> AnyContext
     ensures { λ r. ⌜ r ≡ contextOf number ⌝ }
 {
@@ -281,6 +284,7 @@ pub fn context_of(number: u32) -> AnyContext
         STYLE_QUOTED => AnyContext::Units(Context::InStyle(Quotes::Both)),
         SCRIPT_RAW => AnyContext::ScriptRaw,
         JSON => AnyContext::Units(Context::InJson),
+        ASCII_QUOTED => AnyContext::Units(Context::InAscii),
         _ => AnyContext::Unknown,
     }
 }

@@ -12,7 +12,7 @@ use Rattle.rules.specs.Contexts.{writtenIn}
 use Rattle.rules.specs.Encoding.{encodeStep}
 use Rattle.rules.specs.Moves.{through, replaced}
 use Rattle.rules.specs.Operations.{encodeOf}
-use Rattle.rules.proofs.Growth.{encode-whole, encode-six}
+use Rattle.rules.proofs.Growth.{strings-sixfold, encode-whole, encode-six}
 use Rattle.rules.proofs.Laws.{encode-same}
 use Rattle.encode_strings.specs.Strings.{separates, hexGrowth, placesBy}
 use Rattle.encode_strings.proofs.Parts.{none-left}
@@ -72,7 +72,7 @@ sub-places c =
 places-requires : tie.Need-places-requires
 places-requires c κs =
     let s = c .before .before .before .before .before .before .before .before .before in
-    (tells c .0, omega (arith, c .before .before .write-bytes .ensures .0, s .pre .0, encode-six (writtenIn (s .args .notation) (s .args .quotes)) (s .args .part .now)))
+    (tells c .0, omega (arith, c .before .before .write-bytes .ensures .0, s .pre .0, encode-six (writtenIn (s .args .notation) (s .args .quotes)) (strings-sixfold (s .args .notation) (s .args .quotes)) (s .args .part .now)))
 
 same-length-2 : tie.Need-same-length-2
 same-length-2 c = search needs

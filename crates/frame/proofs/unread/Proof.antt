@@ -20,7 +20,7 @@ returns : tie.Need-returns
 returns c =
     let s = c .before .before .before in
     c .refusal .ensures ∙ ap (λ (b : Bool). refusal (cond b 10 4) 0 (s .args .place))
-    (sym (four-only (s .args .job) (s .args .text .now) (λ e. miss (0 ∷ 1 ∷ 2 ∷ 3 ∷ 4 ∷ 5 ∷ 6 ∷ 7 ∷ 8 ∷ 9 ∷ []) 10 tt (rw e at (c .before .match .keys2))) (rw (s .pre .0) at (s .pre .1))))
+    (sym (four-only (s .args .job) (s .args .text .now) (λ e. miss (0 ∷ 1 ∷ 2 ∷ 3 ∷ 4 ∷ 5 ∷ 6 ∷ 7 ∷ 8 ∷ 9 ∷ 11 ∷ []) 10 tt (rw e at (c .before .match .keys2))) (rw (s .pre .0) at (s .pre .1))))
 
 sub-is-lone : tie.Need-sub-is-lone
 sub-is-lone c = search needs

@@ -104,7 +104,7 @@ returns c =
     let a = c .before .before .before .before .before .before .before .before .before .before .before .before .args in
     let l = c .before .before .before .before .before .before .before .loop in
     let pre = c .before .before .before .before .before .before .before .before .before .before .before .before .pre in
-    read-measures (a .c) (a .text .now) (l .i) _ _ (pre .1) (l .inv) (stopped c)
+    read-measures (a .c) (pre .2) (a .text .now) (l .i) _ _ (pre .1) (l .inv) (stopped c)
 
 sub-length : tie.Need-sub-length Inv-loop μ-loop
 sub-length c = search needs
@@ -140,7 +140,7 @@ returns-2 c =
     let a = c .before .before .before .before .before .before .before .before .before .before .before .before .before .args in
     let l = c .before .before .before .before .before .before .before .before .loop in
     let pre = c .before .before .before .before .before .before .before .before .before .before .before .before .before .pre in
-    read-measures (a .c) (a .text .now) (l .i) _ _ (pre .1) (l .inv) (unread c)
+    read-measures (a .c) (pre .2) (a .text .now) (l .i) _ _ (pre .1) (l .inv) (unread c)
 
 char-length-requires : tie.Need-char-length-requires Inv-loop μ-loop
 char-length-requires c κs = search needs
@@ -169,7 +169,7 @@ returns-3 c =
     let a = c .before .before .before .before .before .before .args in
     let l = c .before .loop in
     let pre = c .before .before .before .before .before .before .pre in
-    read-measures (a .c) (a .text .now) (l .i) _ _ (pre .1) (l .inv) (from-end (byteStep (a .c)) (a .text .now) (l .i) (omega arith))
+    read-measures (a .c) (pre .2) (a .text .now) (l .i) _ _ (pre .1) (l .inv) (from-end (byteStep (a .c)) (a .text .now) (l .i) (omega arith))
 
 pub measure-spec : {M : Type 1} → statement M
 measure-spec =

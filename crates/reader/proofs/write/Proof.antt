@@ -115,7 +115,7 @@ loop-holds : tie.Need-loop-holds Inv-loop μ-loop
 loop-holds c =
     let a = c .before .before .before .before .before .args in
     let pre = c .before .before .before .before .before .pre in
-    (counted-start (byteStep (a .c)) (a .text .now), rw (byte-result (a .c) (a .text .now) (pre .0)) (filled-start _ _ (pre .1)))
+    (counted-start (byteStep (a .c)) (a .text .now), rw (byte-result (a .c) (pre .2) (a .text .now) (pre .0)) (filled-start _ _ (pre .1)))
 
 shared-slice-read-if1 : tie.Need-shared-slice-read-if1 Inv-loop μ-loop
 shared-slice-read-if1 c = search needs
@@ -131,7 +131,7 @@ returns : tie.Need-returns Inv-loop μ-loop
 returns c =
     let s = c .before .before .before .before .before .before .before .before .before .before .before .before .before in
     let l = c .before .before .before .before .before .before .before .loop in
-    (read-measures (s .args .c) (s .args .text .now) (l .i) _ _ (s .pre .0) (l .inv .0) (stopped c), filled-all (l .inv .1) (ap result (stopped c)) .1)
+    (read-measures (s .args .c) (s .pre .2) (s .args .text .now) (l .i) _ _ (s .pre .0) (l .inv .0) (stopped c), filled-all (l .inv .1) (ap result (stopped c)) .1)
 
 sub-put : tie.Need-sub-put Inv-loop μ-loop
 sub-put c = search needs
@@ -190,7 +190,7 @@ returns-2 : tie.Need-returns-2 Inv-loop μ-loop
 returns-2 c =
     let s = c .before .before .before .before .before .before .before .before .before .before .before .before .before in
     let l = c .before .before .before .before .before .before .before .loop in
-    (read-measures (s .args .c) (s .args .text .now) (l .i) _ _ (s .pre .0) (l .inv .0) (unread c), filled-all (l .inv .1) (ap result (unread c)) .1)
+    (read-measures (s .args .c) (s .pre .2) (s .args .text .now) (l .i) _ _ (s .pre .0) (l .inv .0) (unread c), filled-all (l .inv .1) (ap result (unread c)) .1)
 
 sub-put-char : tie.Need-sub-put-char Inv-loop μ-loop
 sub-put-char c = filled-within (c .before .before .before .before .before .before .before .before .loop .inv .1)
@@ -234,7 +234,7 @@ returns-3 c =
     let l = c .before .loop in
     let s = c .before .before .before .before .before .before .before in
     let none = from-end (byteStep (s .args .c)) (s .args .text .now) (l .i) (omega arith) in
-    (read-measures (s .args .c) (s .args .text .now) (l .i) _ _ (s .pre .0) (l .inv .0) none, filled-all (l .inv .1) (ap result none) .1)
+    (read-measures (s .args .c) (s .pre .2) (s .args .text .now) (l .i) _ _ (s .pre .0) (l .inv .0) none, filled-all (l .inv .1) (ap result none) .1)
 
 pub write-spec : {M : Type 1} → statement M
 write-spec =

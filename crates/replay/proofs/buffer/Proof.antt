@@ -7,7 +7,7 @@ use Rattle.replay.proofs.buffer.Statement.{statement}
 use Rattle.replay.proofs.buffer.Tie as tie
 
 returns : tie.Need-returns
-returns c = sym (length-replicate {0} {A = ℕ} 1572864 0)
+returns c = sym (length-replicate {0} {A = ℕ} 2097152 0)
 
 pub buffer-spec : {M : Type 1} → statement M
 buffer-spec = tie.close (tie.spec returns)

@@ -7,14 +7,14 @@ use Rattle.replay.proofs.main.Tie as tie
 buffer-requires : tie.Need-buffer-requires
 buffer-requires c κs = tt
 
-buffer-requires-2 : tie.Need-buffer-requires-2
-buffer-requires-2 c κs = tt
+room-requires : tie.Need-room-requires
+room-requires c κs = tt
 
-buffer-requires-3 : tie.Need-buffer-requires-3
-buffer-requires-3 c κs = tt
+room-requires-2 : tie.Need-room-requires-2
+room-requires-2 c κs = tt
 
-buffer-requires-4 : tie.Need-buffer-requires-4
-buffer-requires-4 c κs = tt
+room-requires-3 : tie.Need-room-requires-3
+room-requires-3 c κs = tt
 
 slice-aggregate-read-full : tie.Need-slice-aggregate-read-full
 slice-aggregate-read-full c = search needs
@@ -54,9 +54,9 @@ main-spec =
     tie.close
     (tie.spec
     buffer-requires
-    buffer-requires-2
-    buffer-requires-3
-    buffer-requires-4
+    room-requires
+    room-requires-2
+    room-requires-3
     slice-aggregate-read-full
     read-full-requires
     array-share-prefix-list

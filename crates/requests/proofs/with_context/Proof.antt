@@ -60,7 +60,7 @@ returns-2 c =
     let w = c .before .before .converse in
     subst (λ (k : Option Call). Prints (printedBy k) (w .result) (a .output .now) (w .last .1 .1 .1 .0))
     (sym (ap (callAt (a .operation) (a .rest .now)) (k .1)) ∙ f .ensures .0 (a .operation))
-    (subst (λ (t : List ℕ). Prints (printedCall (asked (a .operation) (k .0 .0) t 49152)) (w .result) (a .output .now) (w .last .1 .1 .1 .0)) (lent-rest (k .0 .1 .0) (a .rest .now)) (w .ensures))
+    (subst (λ (t : List ℕ). Prints (printedCall (asked (a .operation) (k .0 .0) t 60074)) (w .result) (a .output .now) (w .last .1 .1 .1 .0)) (lent-rest (k .0 .1 .0) (a .rest .now)) (w .ensures))
 
 pub with-context-spec : {M : Type 1} → statement M
 with-context-spec =

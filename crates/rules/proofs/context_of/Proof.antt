@@ -1,4 +1,4 @@
--- `context_of` meets its contract: each number below fifteen is one arm, and any other lies past the list.
+-- `context_of` meets its contract: each number below sixteen is one arm, and any other lies past the list.
 -- Assumes nothing.
 use native.Mathlib.Omega.{arith}
 use mathlib.Core.Path.{_≡_, ap, sym}
@@ -76,7 +76,11 @@ returns-15 c = rw (c .match .keys15)
 
 returns-16 : tie.Need-returns-16
 unfolding contextOf
-returns-16 c = sym (ap (λ (l : Label AnyContext). l .names) (List·getD-eq-default contextNames (label [] Unknown) {n = c .before .args .number} (past (c .before .args .number) 14 (past (c .before .args .number) 13 (past (c .before .args .number) 12 (past (c .before .args .number) 11 (past (c .before .args .number) 10 (past (c .before .args .number) 9 (past (c .before .args .number) 8 (past (c .before .args .number) 7 (past (c .before .args .number) 6 (past (c .before .args .number) 5 (past (c .before .args .number) 4 (past (c .before .args .number) 3 (past (c .before .args .number) 2 (past (c .before .args .number) 1 (past (c .before .args .number) 0 (omega arith) (c .match .rest .0 .0 .0 .0 .0 .0 .0 .0 .0 .0 .0 .0 .0 .0 .1)) (c .match .rest .0 .0 .0 .0 .0 .0 .0 .0 .0 .0 .0 .0 .0 .1)) (c .match .rest .0 .0 .0 .0 .0 .0 .0 .0 .0 .0 .0 .0 .1)) (c .match .rest .0 .0 .0 .0 .0 .0 .0 .0 .0 .0 .0 .1)) (c .match .rest .0 .0 .0 .0 .0 .0 .0 .0 .0 .0 .1)) (c .match .rest .0 .0 .0 .0 .0 .0 .0 .0 .0 .1)) (c .match .rest .0 .0 .0 .0 .0 .0 .0 .0 .1)) (c .match .rest .0 .0 .0 .0 .0 .0 .0 .1)) (c .match .rest .0 .0 .0 .0 .0 .0 .1)) (c .match .rest .0 .0 .0 .0 .0 .1)) (c .match .rest .0 .0 .0 .0 .1)) (c .match .rest .0 .0 .0 .1)) (c .match .rest .0 .0 .1)) (c .match .rest .0 .1)) (c .match .rest .1))))
+returns-16 c = rw (c .match .keys16)
+
+returns-17 : tie.Need-returns-17
+unfolding contextOf
+returns-17 c = sym (ap (λ (l : Label AnyContext). l .names) (List·getD-eq-default contextNames (label [] Unknown) {n = c .before .args .number} (past (c .before .args .number) 15 (past (c .before .args .number) 14 (past (c .before .args .number) 13 (past (c .before .args .number) 12 (past (c .before .args .number) 11 (past (c .before .args .number) 10 (past (c .before .args .number) 9 (past (c .before .args .number) 8 (past (c .before .args .number) 7 (past (c .before .args .number) 6 (past (c .before .args .number) 5 (past (c .before .args .number) 4 (past (c .before .args .number) 3 (past (c .before .args .number) 2 (past (c .before .args .number) 1 (past (c .before .args .number) 0 (omega arith) (c .match .rest .0 .0 .0 .0 .0 .0 .0 .0 .0 .0 .0 .0 .0 .0 .0 .1)) (c .match .rest .0 .0 .0 .0 .0 .0 .0 .0 .0 .0 .0 .0 .0 .0 .1)) (c .match .rest .0 .0 .0 .0 .0 .0 .0 .0 .0 .0 .0 .0 .0 .1)) (c .match .rest .0 .0 .0 .0 .0 .0 .0 .0 .0 .0 .0 .0 .1)) (c .match .rest .0 .0 .0 .0 .0 .0 .0 .0 .0 .0 .0 .1)) (c .match .rest .0 .0 .0 .0 .0 .0 .0 .0 .0 .0 .1)) (c .match .rest .0 .0 .0 .0 .0 .0 .0 .0 .0 .1)) (c .match .rest .0 .0 .0 .0 .0 .0 .0 .0 .1)) (c .match .rest .0 .0 .0 .0 .0 .0 .0 .1)) (c .match .rest .0 .0 .0 .0 .0 .0 .1)) (c .match .rest .0 .0 .0 .0 .0 .1)) (c .match .rest .0 .0 .0 .0 .1)) (c .match .rest .0 .0 .0 .1)) (c .match .rest .0 .0 .1)) (c .match .rest .0 .1)) (c .match .rest .1))))
 
 pub context-of-spec : {M : Type 1} → statement M
 context-of-spec =
@@ -97,4 +101,5 @@ context-of-spec =
     returns-13
     returns-14
     returns-15
-    returns-16)
+    returns-16
+    returns-17)

@@ -15,13 +15,13 @@ slice-aggregate-write-bytes c = search needs
 write-bytes-requires : tie.Need-write-bytes-requires
 write-bytes-requires c κs =
     let s = c .before .before .before in
-    (s .pre .0 .0, omega (arith, encode-six (InHtml (s .args .h)) (s .args .text .now), s .pre .0 .1))
+    (s .pre .0 .0, omega (arith, encode-six (InHtml (s .args .h)) tt (s .args .text .now), s .pre .0 .1))
 
 array-share-prefix-buffer : tie.Need-array-share-prefix-buffer
 array-share-prefix-buffer c =
     let s = c .before .before .before .before .before in
     let p = c .before .write-bytes in
-    omega (arith, p .ensures .0, p .kept .1 .1 .1 .0, encode-six (InHtml (s .args .h)) (s .args .text .now), s .pre .0 .1)
+    omega (arith, p .ensures .0, p .kept .1 .1 .1 .0, encode-six (InHtml (s .args .h)) tt (s .args .text .now), s .pre .0 .1)
 
 slice-aggregate-put : tie.Need-slice-aggregate-put
 slice-aggregate-put c =

@@ -37,6 +37,12 @@ enum-told c = search needs
 string-leads-requires-3 : tie.Need-string-leads-requires-3
 string-leads-requires-3 c κs = search needs
 
+enum-told-2 : tie.Need-enum-told-2
+enum-told-2 c = search needs
+
+html-leads-requires-2 : tie.Need-html-leads-requires-2
+html-leads-requires-2 c κs = search needs
+
 -- src/replaced.rt:55:1
 returns : tie.Need-returns
 returns c = rw (c .before .before .c .given .1) (c .html-leads .ensures)
@@ -54,6 +60,10 @@ returns-4 : tie.Need-returns-4
 unfolding begins
 returns-4 c = rw (c .before .enum-told .given .1) (c .string-leads3 .ensures)
 
+returns-5 : tie.Need-returns-5
+unfolding begins
+returns-5 c = rw (c .before .enum-told2 .given .1) (c .html-leads2 .ensures)
+
 pub leads-of-spec : {M : Type 1} → statement M
 leads-of-spec =
     tie.close
@@ -66,7 +76,10 @@ leads-of-spec =
     string-leads-requires-2
     enum-told
     string-leads-requires-3
+    enum-told-2
+    html-leads-requires-2
     returns
     returns-2
     returns-3
-    returns-4)
+    returns-4
+    returns-5)

@@ -1,6 +1,7 @@
 -- `unit` meets its contract: each context by its kind.
 -- Assumes nothing.
 use borrow.Author.Needs.{needs}
+use Rattle.reader.specs.Replaced.{begins}
 use Rattle.reader.proofs.units.unit.Statement.{statement}
 use Rattle.reader.proofs.units.unit.Tie as tie
 
@@ -38,6 +39,15 @@ enum-told c = search needs
 json-unit-requires : tie.Need-json-unit-requires
 json-unit-requires c κs = search needs
 
+enum-told-2 : tie.Need-enum-told-2
+enum-told-2 c = search needs
+
+html-unit-requires-2 : tie.Need-html-unit-requires-2
+unfolding begins
+html-unit-requires-2 c κs =
+    let pre = c .before .before .before .pre in
+    (rw (c .enum-told2 .given .1) at (pre .0), pre .1)
+
 -- src/units.rt:179:1
 returns : tie.Need-returns
 returns c = rw (c .before .before .c .given .1) (c .html-unit .ensures)
@@ -54,6 +64,9 @@ returns-3 c = rw (c .before .before .c3 .given .1) (c .string-unit2 .ensures)
 returns-4 : tie.Need-returns-4
 returns-4 c = rw (c .before .enum-told .given .1) (c .json-unit .ensures)
 
+returns-5 : tie.Need-returns-5
+returns-5 c = rw (c .before .enum-told2 .given .1) (c .html-unit2 .ensures)
+
 pub unit-spec : {M : Type 1} → statement M
 unit-spec =
     tie.close
@@ -66,7 +79,10 @@ unit-spec =
     string-unit-requires-2
     enum-told
     json-unit-requires
+    enum-told-2
+    html-unit-requires-2
     returns
     returns-2
     returns-3
-    returns-4)
+    returns-4
+    returns-5)

@@ -1,0 +1,156 @@
+-- `put_middle` meets its contract: the name is in the table of the range that the character is in, and there is none outside of all ranges.
+-- Assumes nothing.
+use borrow.Author.Needs.{needs}
+use mathlib.Core.Bool.{false}
+use mathlib.Core.Path.{_≡_, refl, sym, _∙_}
+use native.Mathlib.Omega.{arith}
+use Rattle.rules.specs.Bytes.{inside}
+use Rattle.names_written.proofs.Named.{among, none-outside, not-below, not-above}
+use Rattle.names_written.proofs.put_middle.Statement.{statement}
+use Rattle.names_written.proofs.put_middle.Tie as tie
+use Rattle.names_written.proofs.put_middle.Reads as reads
+use Rattle.names_written.proofs.put_middle.Lts as lts
+use Rattle.names_written.proofs.is_among.Reads as is-among-reads
+use Rattle.names_written.proofs.table.from_2200.Reads as from-2200-reads
+use Rattle.names_written.proofs.table.from_2305.Reads as from-2305-reads
+use Rattle.names_written.proofs.table.from_2500.Reads as from-2500-reads
+use Rattle.names_written.proofs.table.from_2605.Reads as from-2605-reads
+use Rattle.names_written.proofs.table.from_2902.Reads as from-2902-reads
+
+-- src/lib.rt:49:8
+is-among-requires : tie.Need-is-among-requires
+is-among-requires c κs = search needs
+
+-- src/lib.rt:50:9
+from-2200-requires : tie.Need-from-2200-requires
+from-2200-requires c κs =
+    let (l, h) = among (c .before .before .is-among .result) 0x2200 0x22FE (c .before .before .before .before .args .code) (c .before .before .is-among .ensures) (c .before .if1 .taken) in
+    (l, h, c .before .before .before .before .pre .2)
+
+-- src/lib.rt:50:9
+same-length : tie.Need-same-length
+same-length c = search needs
+
+-- src/lib.rt:50:9
+returns : tie.Need-returns
+returns c = search needs
+
+-- src/lib.rt:52:8
+is-among-requires-2 : tie.Need-is-among-requires-2
+is-among-requires-2 c κs = search needs
+
+-- src/lib.rt:53:9
+from-2305-requires : tie.Need-from-2305-requires
+from-2305-requires c κs =
+    let (l, h) = among (c .before .before .is-among2 .result) 0x2305 0x24C8 (c .before .before .before .before .before .before .args .code) (c .before .before .is-among2 .ensures) (c .before .if2 .taken) in
+    (l, h, c .before .before .before .before .before .before .pre .2)
+
+-- src/lib.rt:53:9
+same-length-2 : tie.Need-same-length-2
+same-length-2 c = search needs
+
+-- src/lib.rt:53:9
+returns-2 : tie.Need-returns-2
+returns-2 c = search needs
+
+-- src/lib.rt:55:8
+is-among-requires-3 : tie.Need-is-among-requires-3
+is-among-requires-3 c κs = search needs
+
+-- src/lib.rt:56:9
+from-2500-requires : tie.Need-from-2500-requires
+from-2500-requires c κs =
+    let (l, h) = among (c .before .before .is-among3 .result) 0x2500 0x25FC (c .before .before .before .before .before .before .before .before .args .code) (c .before .before .is-among3 .ensures) (c .before .if3 .taken) in
+    (l, h, c .before .before .before .before .before .before .before .before .pre .2)
+
+-- src/lib.rt:56:9
+same-length-3 : tie.Need-same-length-3
+same-length-3 c = search needs
+
+-- src/lib.rt:56:9
+returns-3 : tie.Need-returns-3
+returns-3 c = search needs
+
+-- src/lib.rt:58:8
+is-among-requires-4 : tie.Need-is-among-requires-4
+is-among-requires-4 c κs = search needs
+
+-- src/lib.rt:59:9
+from-2605-requires : tie.Need-from-2605-requires
+from-2605-requires c κs =
+    let (l, h) = among (c .before .before .is-among4 .result) 0x2605 0x27FF (c .before .before .before .before .before .before .before .before .before .before .args .code) (c .before .before .is-among4 .ensures) (c .before .if4 .taken) in
+    (l, h, c .before .before .before .before .before .before .before .before .before .before .pre .2)
+
+-- src/lib.rt:59:9
+same-length-4 : tie.Need-same-length-4
+same-length-4 c = search needs
+
+-- src/lib.rt:59:9
+returns-4 : tie.Need-returns-4
+returns-4 c = search needs
+
+-- src/lib.rt:61:8
+is-among-requires-5 : tie.Need-is-among-requires-5
+is-among-requires-5 c κs = search needs
+
+-- src/lib.rt:62:9
+from-2902-requires : tie.Need-from-2902-requires
+from-2902-requires c κs =
+    let (l, h) = among (c .before .before .is-among5 .result) 0x2902 0x29F6 (c .before .before .before .before .before .before .before .before .before .before .before .before .args .code) (c .before .before .is-among5 .ensures) (c .before .if5 .taken) in
+    (l, h, c .before .before .before .before .before .before .before .before .before .before .before .before .pre .2)
+
+-- src/lib.rt:62:9
+same-length-5 : tie.Need-same-length-5
+same-length-5 c = search needs
+
+-- src/lib.rt:62:9
+returns-5 : tie.Need-returns-5
+returns-5 c = search needs
+
+-- src/lib.rt:45:1
+returns-6 : tie.Need-returns-6
+returns-6 c =
+    let code = c .before .before .before .before .before .before .before .before .before .before .before .args .code in
+    let l = c .before .before .before .before .before .before .before .before .before .before .before .pre .0 in
+    let h = c .before .before .before .before .before .before .before .before .before .before .before .pre .1 in
+    let e1 : inside (0xA0, 0x17E) code ≡ false = not-above 0xA0 0x17E code (omega arith) in
+    let e2 : inside (0x192, 0x2DD) code ≡ false = not-above 0x192 0x2DD code (omega arith) in
+    let e3 : inside (0x311, 0x45F) code ≡ false = not-above 0x311 0x45F code (omega arith) in
+    let e4 : inside (0x2002, 0x20DC) code ≡ false = not-above 0x2002 0x20DC code (omega arith) in
+    let e5 : inside (0x2102, 0x21FF) code ≡ false = not-above 0x2102 0x21FF code (omega arith) in
+    let e6 : inside (0x2200, 0x22FE) code ≡ false = sym (c .before .before .before .before .before .before .before .before .before .is-among .ensures) ∙ c .before .before .before .before .before .before .before .before .if1 .left in
+    let e7 : inside (0x2305, 0x24C8) code ≡ false = sym (c .before .before .before .before .before .before .before .is-among2 .ensures) ∙ c .before .before .before .before .before .before .if2 .left in
+    let e8 : inside (0x2500, 0x25FC) code ≡ false = sym (c .before .before .before .before .before .is-among3 .ensures) ∙ c .before .before .before .before .if3 .left in
+    let e9 : inside (0x2605, 0x27FF) code ≡ false = sym (c .before .before .before .is-among4 .ensures) ∙ c .before .before .if4 .left in
+    let e10 : inside (0x2902, 0x29F6) code ≡ false = sym (c .before .is-among5 .ensures) ∙ c .if5 .left in
+    let e11 : inside (0x2A00, 0x2AFD) code ≡ false = not-below 0x2A00 0x2AFD code (omega arith) in
+    let e12 : inside (0xFB00, 0xFB04) code ≡ false = not-below 0xFB00 0xFB04 code (omega arith) in
+    let e13 : inside (0x1D49C, 0x1D56B) code ≡ false = not-below 0x1D49C 0x1D56B code (omega arith) in
+    let none = none-outside code (omega arith) (omega arith) (rw (e1, e2, e3, e4, e5, e6, e7, e8, e9, e10, e11, e12, e13) refl) in
+    (rw none (refl, refl), omega arith)
+
+pub put-middle-spec : {M : Type 1} → statement M
+put-middle-spec =
+    tie.close
+    (tie.spec
+    is-among-requires
+    from-2200-requires
+    same-length
+    returns
+    is-among-requires-2
+    from-2305-requires
+    same-length-2
+    returns-2
+    is-among-requires-3
+    from-2500-requires
+    same-length-3
+    returns-3
+    is-among-requires-4
+    from-2605-requires
+    same-length-4
+    returns-4
+    is-among-requires-5
+    from-2902-requires
+    same-length-5
+    returns-5
+    returns-6)
