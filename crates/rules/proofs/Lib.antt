@@ -36,8 +36,7 @@ pub mod Back
 pub mod Check
 pub mod Entity
 pub mod Examples
-pub mod BrowsingEdges
-pub mod AsciiEdges
+pub mod Data
 pub mod Loops
 pub mod Bytewise
 pub mod Quiet
@@ -46,14 +45,11 @@ pub mod Below
 pub mod ScriptModes
 pub mod RawAgain
 pub mod RawCloses
-pub mod ScriptEdges
 pub mod Closings
 pub mod Stream
 pub mod Released
 pub mod Quarter
 pub mod Parts
-pub mod StreamEdges
 pub mod Pages
-pub mod PageEdges
 pub mod Append
 pub mod Nested

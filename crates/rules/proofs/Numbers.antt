@@ -13,7 +13,7 @@ use Rattle.rules.specs.Bytes.{In, all, only, bytes, inside, oneOf}
 use Rattle.rules.specs.Utf8.{utf8, substitute}
 use Rattle.rules.specs.Names.{rising}
 use Rattle.rules.specs.References.{scalar, decodeChar, renumbering, renumbered, standsFor, browseChar}
-use Rattle.rules.specs.Edges.{asRow}
+use Rattle.rules.specs.Data.{asRow}
 use Rattle.rules.proofs.Tests.{and-left, and-right, all-in}
 
 pub renumbering-size : length renumbering ≡ 27

@@ -20,14 +20,9 @@ pub mod Refusals
 pub mod Answers
 pub mod Program
 pub mod Examples
-pub mod Edges
-pub mod BrowsingEdges
-pub mod AsciiEdges
+pub mod Data
 pub mod ScriptData
-pub mod ScriptEdges
 pub mod Closings
 pub mod Stream
-pub mod StreamEdges
 pub mod Pages
-pub mod PageEdges
 pub mod Nested

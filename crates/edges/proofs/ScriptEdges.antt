@@ -2,9 +2,9 @@
 -- Assumes nothing.
 use Prim.Native.Nat.{ℕ}
 use lib.Dec.{T}
 use Rattle.rules.specs.Bytes.{count, all}
 use Rattle.rules.specs.ScriptData.{closingTag}
-use Rattle.rules.specs.ScriptEdges.{states, leftAs, endsAs, places, placedAs}
+use Rattle.edges.specs.ScriptEdges.{states, leftAs, endsAs, places, placedAs}
 
 pub states-left : T (all leftAs states)
 states-left = tt

@@ -1,11 +1,11 @@
 -- The cuts and the calls of raw script by parts hold, by computing.
 -- Assumes nothing.
 use lib.Dec.{T}
 use Rattle.rules.specs.Bytes.{all}
 use Rattle.rules.specs.Utf8.{charStep, isCut}
 use Rattle.rules.specs.Encoding.{rawStep}
 use Rattle.rules.specs.Stream.{partCase}
-use Rattle.rules.specs.StreamEdges.{patterns, sequenceCuts, cutAs, calls, calledAs}
+use Rattle.edges.specs.StreamEdges.{patterns, sequenceCuts, cutAs, calls, calledAs}
 
 pub patterns-cut : T (all cutAs patterns)
 unfolding charStep isCut rawStep partCase
