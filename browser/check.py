@@ -77,7 +77,7 @@ def check_references(tally, library, work):
     every = references.references()
     places = [Place('text', 'element text', '<div id=a{i}>{e}</div>', "textAt('a', i)", []),
               Place('double_quoted', 'attribute', '<div id=d{i} title="{e}"></div>', "titleAt('d', i)", [])]
-    contexts = {'browse': {'element text': ['text', 'text_minimal', 'safe'], 'attribute': ['double_quoted', 'single_quoted', 'quoted', 'unquoted']},
+    contexts = {'browse': {'element text': ['text', 'text_minimal', 'safe'], 'attribute': ['double_quoted', 'single_quoted', 'quoted', 'unquoted', 'ascii_quoted']},
                 'decode': {'element text': ['text'], 'attribute': ['double_quoted']}}
     typed = [text.encode() for text in every]
     body = b''.join(place.write(i, text) for i, text in enumerate(typed) for place in places)
