@@ -9,11 +9,13 @@ use mathlib.Core.Logic.{_⊎_, inl, inr}
 use native.Mathlib.Nat.{suc-ne-zero, eq-or-lt-of-le}
 use native.Mathlib.Numerals.{add-one}
 use native.Mathlib.Omega.{arith}
-use borrow.Author.Tests.{lt-ltb, le-ltb}
+use borrow.Author.Tests.{lt-ltb, le-ltb, ltb-true, ltb-false, ne-eqb}
+use lib.Dec.{ltb}
 use lib.ListN.{length, drop, getD, set, length-append}
 use lib.Seq.{drop-cons, set-at, drop-drop}
 use Rattle.rules.specs.Bytes.{ascii, over}
 use Rattle.rules.specs.Tables.{hexDigit, numeral}
+use Rattle.encode_ascii.specs.Wide.{digits}
 use Rattle.rules.specs.Utf8.{codeOf, utf8}
 use Rattle.rules.specs.Names.{names}
 use Rattle.rules.specs.Ascii.{nameOf, bodyFor, referTo}
@@ -56,6 +58,28 @@ more-digits (suc k) n h l =
     let e : k ≡ suc k - 1 = omega arith in
     ap (λ (b : Bool). cond b (hexDigit n ∷ []) (numeral hexDigit 16 k (n / 16) ++ hexDigit (n % 16) ∷ [])) (le-ltb n 16 l)
     ∙ ap (λ (m : ℕ). numeral hexDigit 16 m (n / 16) ++ hexDigit (n % 16) ∷ []) e
+
+-- Of 0 no digit is left when leading zeros are.
+pub some-digits : (k n : ℕ) → (n ≡ 0 → ⊥) → digits k n ≡ numeral hexDigit 16 k n
+some-digits k n z = ap (λ (b : Bool). cond b [] (numeral hexDigit 16 k n)) (ne-eqb n 0 z)
+
+-- So it is with leading zeros left out.
+pub next-digit : (most n : ℕ) → 0 < most → (n ≡ 0 → ⊥) → digits most n ≡ digits (most - 1) (n / 16) ++ hexDigit (n % 16) ∷ []
+next-digit most n h z = some-digits most n z ∙ go (ltb n 16) refl
+  where
+    go : (b : Bool) → ltb n 16 ≡ b → numeral hexDigit 16 most n ≡ digits (most - 1) (n / 16) ++ hexDigit (n % 16) ∷ []
+    go true e =
+        let l = ltb-true n 16 e in
+        let q : 0 ≡ n / 16 = omega (arith, l) in
+        let r : n ≡ n % 16 = omega (arith, l) in
+        last-digit most n h l ∙ (λ i. digits (most - 1) (q i) ++ hexDigit (r i) ∷ [])
+    go false e =
+        let l = ltb-false n 16 e in
+        more-digits most n h l ∙ ap (λ (w : List ℕ). w ++ hexDigit (n % 16) ∷ []) (sym (some-digits (most - 1) (n / 16) (λ q. let f : ⊥ = omega (arith, l, q) in f)))
+
+-- The number up to a digit is a sixteenth of that up to the next.
+pub sixteenths : (n : ℕ) → (n / 1048576 ≡ n / 65536 / 16) × (n / 65536 ≡ n / 4096 / 16) × (n / 4096 ≡ n / 256 / 16) × (n / 256 ≡ n / 16 / 16)
+sixteenths n = (omega arith, omega arith, omega arith, omega arith)
 
 -- One more byte after those that are written.
 pub over-more : (w out : List ℕ) (x : ℕ) → length w < length out → set (over w out) (length w) x ≡ over (w ++ x ∷ []) out

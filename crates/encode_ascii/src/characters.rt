@@ -1,7 +1,7 @@
 // One character above 7F: its number, and the reference that is written for it.
-ghost use mathlib.Core.List.{_++_};
+ghost use mathlib.Core.List.{List, _++_};
 ghost use mathlib.Core.Path.{_≡_};
-ghost use Prim.Native.Nat.{_+_, _≤_, _<_};
+ghost use Prim.Native.Nat.{ℕ, _+_, _-_, _/_, _≤_, _<_};
 ghost use lib.ListN.{length, drop, getD};
 ghost use Rattle.rules.specs.Tables.{hexDigit, numeral};
 ghost use Rattle.rules.specs.Bytes.{ascii, over};
@@ -9,7 +9,7 @@ ghost use Rattle.rules.specs.Utf8.{IsText, utf8};
 ghost use Rattle.rules.specs.Ascii.{nameOf, referTo};
 ghost use Rattle.rules.specs.Browsing.{given};
 ghost use Rattle.names_written.specs.Ties.{Puts};
-ghost use Rattle.encode_ascii.specs.Wide.{Reads};
+ghost use Rattle.encode_ascii.specs.Wide.{Reads, digits};
 
 // The number of a character and how many bytes it has.
 pub struct Character {
@@ -60,35 +60,44 @@ fn digit(n: u32) -> u8
     base::hex_digit(n as u8)
 }
 
-// Writes the last `most` hex digits of a number, without leading zeros, to the start of `room` and returns how many; the rest keeps its values.
-fn put_digits(most: usize, n: u32, room: &mut [u8]) -> usize
-    requires { ⌜ most ≤ length (now room) ⌝ }
-    ensures { λ r. ⌜ (r ≡ length (numeral hexDigit 16 most n)) × (now (room .exit) ≡ over (numeral hexDigit 16 most n) (now (room .entry))) × (r ≤ most) ⌝ }
+// Writes the last digit of a number whose digits before it are the `at` bytes at the start of `room`, unless the number is 0; returns how many digits there are
+// then. `most` is how many there can be.
+fn put_digit(most: usize, n: u32, at: usize, room: &mut [u8]) -> usize
+    requires { ⌜ (1 ≤ most) × (most ≤ 6) × (at < most) × (at ≡ length (digits (most - 1) (n / 16))) × (6 ≤ length (now room)) ⌝ }
+    ensures { λ r. ⌜ (r ≡ length (digits most n)) × (r ≤ most) × ((out : List ℕ) → 6 ≤ length out → now (room .entry) ≡ over (digits (most - 1) (n / 16)) out → now (room .exit) ≡ over (digits most n) out) ⌝ }
 {
-    if most == 0 {
-        return 0;
+    if n == 0 {
+        return at;
     }
-    if n < 16 {
-        room[0] = digit(n);
-        return 1;
-    }
-    let at = put_digits(most - 1, n / 16, room);
     room[at] = digit(n % 16);
     at + 1
 }
 
-// Writes `&#x` and the digits of a number to the start of `room` and returns how many bytes they are; the rest keeps its values.
+// Writes the hex digits of the number of a character, without leading zeros, to the start of `room` and returns how many; the rest keeps its values.
+fn put_digits(n: u32, room: &mut [u8]) -> usize
+    requires { ⌜ (1 ≤ n) × (n ≤ 0x10FFFF) × (6 ≤ length (now room)) ⌝ }
+    ensures { λ r. ⌜ (r ≡ length (numeral hexDigit 16 6 n)) × (now (room .exit) ≡ over (numeral hexDigit 16 6 n) (now (room .entry))) × (r ≤ 6) ⌝ }
+{
+    let first = put_digit(1, n / 1048576, 0, room);
+    let second = put_digit(2, n / 65536, first, room);
+    let third = put_digit(3, n / 4096, second, room);
+    let fourth = put_digit(4, n / 256, third, room);
+    let fifth = put_digit(5, n / 16, fourth, room);
+    put_digit(6, n, fifth, room)
+}
+
+// Writes `&#x` and the digits of the number of a character to the start of `room` and returns how many bytes they are; the rest keeps its values.
 fn put_hex(code: u32, room: &mut [u8]) -> usize
-    requires { ⌜ 32 ≤ length (now room) ⌝ }
+    requires { ⌜ (1 ≤ code) × (code ≤ 0x10FFFF) × (32 ≤ length (now room)) ⌝ }
     ensures { λ r. ⌜ Puts (ascii "&#x" ++ numeral hexDigit 16 6 code) r (now (room .entry)) (now (room .exit)) × (r ≤ 9) ⌝ }
 {
     let at = base::put(b"&#x", room);
-    at + put_digits(6, code, &mut room[at..])
+    at + put_digits(code, &mut room[at..])
 }
 
-// Writes the reference to a number.
+// Writes the reference to a character by its number.
 fn put_number(code: u32, room: &mut [u8]) -> usize
-    requires { ⌜ 32 ≤ length (now room) ⌝ }
+    requires { ⌜ (1 ≤ code) × (code ≤ 0x10FFFF) × (32 ≤ length (now room)) ⌝ }
     ensures { λ r. ⌜ Puts ((ascii "&#x" ++ numeral hexDigit 16 6 code) ++ ascii ";") r (now (room .entry)) (now (room .exit)) × (r ≤ 22) ⌝ }
 {
     let at = put_hex(code, room);

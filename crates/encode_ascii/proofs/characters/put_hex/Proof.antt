@@ -52,8 +52,8 @@ same-length c = search needs
 returns : tie.Need-returns
 returns c = let w = ascii "&#x" in
     let d = numeral hexDigit 16 6 (c .before .before .before .before .before .before .before .before .before .before .args .code) in
-    let f = first-part w d (c .before .before .before .before .before .before .before .before .before .before .args .room .now) (c .before .before .before .before .before .before .put .last .1 .0) (c .before .before .before .before .before .before .put .result) (omega (arith, c .before .before .before .before .before .before .before .before .before .before .pre, length-append w d, c .before .before .before .before .before .before .put .ensures .0, c .before .before .put-digits .ensures .0, c .before .before .put-digits .ensures .2)) (c .before .before .before .before .before .before .put .ensures .0) (c .before .before .before .before .before .before .put .ensures .1) in
-    let g = filled-all (filled-put f (rest-part d) (c .before .before .put-digits .last .1 .1 .0) (c .before .before .put-digits .result) (c .before .before .put-digits .ensures .0) (c .before .before .put-digits .ensures .1)) refl in
+    let f = first-part w d (c .before .before .before .before .before .before .before .before .before .before .args .room .now) (c .before .before .before .before .before .before .put .last .1 .0) (c .before .before .before .before .before .before .put .result) (omega (arith, c .before .before .before .before .before .before .before .before .before .before .pre .2, length-append w d, c .before .before .before .before .before .before .put .ensures .0, c .before .before .put-digits .ensures .0, c .before .before .put-digits .ensures .2)) (c .before .before .before .before .before .before .put .ensures .0) (c .before .before .before .before .before .before .put .ensures .1) in
+    let g = filled-all (filled-put f (rest-part d) (c .before .before .put-digits .last .1 .0) (c .before .before .put-digits .result) (c .before .before .put-digits .ensures .0) (c .before .before .put-digits .ensures .1)) refl in
     ((g .0, g .1), omega (arith, c .before .before .before .before .before .before .put .ensures .0, c .before .before .put-digits .ensures .2))
 
 pub put-hex-spec : {M : Type 1} → statement M

@@ -53,7 +53,7 @@ same-length c = search needs
 returns : tie.Need-returns
 returns c = let w = ascii "&#x" ++ numeral hexDigit 16 6 (c .before .before .before .before .before .before .before .before .before .before .args .code) in
     let d = ascii ";" in
-    let f = first-part w d (c .before .before .before .before .before .before .before .before .before .before .args .room .now) (c .before .before .before .before .before .before .before .put-hex .last .1 .0) (c .before .before .before .before .before .before .before .put-hex .result) (omega (arith, c .before .before .before .before .before .before .before .before .before .before .pre, length-append w d, c .before .before .before .before .before .before .before .put-hex .ensures .0 .0, c .before .before .put .ensures .0, c .before .before .before .before .before .before .before .put-hex .ensures .1)) (c .before .before .before .before .before .before .before .put-hex .ensures .0 .0) (c .before .before .before .before .before .before .before .put-hex .ensures .0 .1) in
+    let f = first-part w d (c .before .before .before .before .before .before .before .before .before .before .args .room .now) (c .before .before .before .before .before .before .before .put-hex .last .1 .0) (c .before .before .before .before .before .before .before .put-hex .result) (omega (arith, c .before .before .before .before .before .before .before .before .before .before .pre .2, length-append w d, c .before .before .before .before .before .before .before .put-hex .ensures .0 .0, c .before .before .put .ensures .0, c .before .before .before .before .before .before .before .put-hex .ensures .1)) (c .before .before .before .before .before .before .before .put-hex .ensures .0 .0) (c .before .before .before .before .before .before .before .put-hex .ensures .0 .1) in
     let g = filled-all (filled-put f (rest-part d) (c .before .before .put .last .1 .0) (c .before .before .put .result) (c .before .before .put .ensures .0) (c .before .before .put .ensures .1)) refl in
     ((g .0, g .1), omega (arith, c .before .before .put .ensures .0, c .before .before .before .before .before .before .before .put-hex .ensures .1))
 
