@@ -1,8 +1,8 @@
 // A long text in which nothing is replaced since it has none of the one byte at which the job replaces anything: one look tells so, and that it is valid.
 ghost use mathlib.Core.Bool.{true};
 ghost use mathlib.Core.Path.{_≡_};
-ghost use Rattle.frame.specs.Jobs.{ruleBy, Same};
-use crate::job::Job;
+ghost use Rattle.jobs.specs.Jobs.{ruleBy, Same};
+use jobs::job::Job;
 
 // A text up to this length is not looked at: it is plain, or has something to replace.
 const SHORT: usize = 64;

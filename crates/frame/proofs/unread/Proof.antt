@@ -6,7 +6,7 @@ use mathlib.Core.Path.{_≡_, sym, ap, _∙_}
 use types.Run.{miss}
 use borrow.Author.Needs.{needs}
 use Rattle.rules.specs.Refusals.{refusal}
-use Rattle.frame.proofs.Found.{four-only, half-there}
+use Rattle.jobs.proofs.Found.{four-only, half-there}
 use Rattle.frame.proofs.unread.Statement.{statement}
 use Rattle.frame.proofs.unread.Tie as tie
 

@@ -2,7 +2,7 @@
 -- Assumes nothing.
 use mathlib.Core.Path.{sym, ap, _∙_}
 use borrow.Author.Needs.{needs}
-use Rattle.frame.specs.Jobs.{ruleAt}
+use Rattle.jobs.specs.Jobs.{ruleAt}
 use Rattle.page.specs.Turns.{outsideAt}
 use Rattle.page.proofs.outside.Statement.{statement}
 use Rattle.page.proofs.outside.Tie as tie

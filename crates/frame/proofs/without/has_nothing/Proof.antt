@@ -4,8 +4,8 @@ use mathlib.Core.Path.{_≡_, sym, subst}
 use Prim.Native.Nat.{ℕ}
 use native.Mathlib.Omega.{arith}
 use borrow.Author.Needs.{needs}
-use Rattle.frame.specs.Jobs.{ruleBy, Same}
-use Rattle.frame.specs.declared.job.Job.{Job}
+use Rattle.jobs.specs.Jobs.{ruleBy, Same}
+use Rattle.jobs.specs.declared.job.Job.{Job}
 use Rattle.frame.proofs.Plain.{decode-same, browse-same, raw-same}
 use Rattle.frame.proofs.without.has_nothing.Statement.{statement}
 use Rattle.frame.proofs.without.has_nothing.Tie as tie
