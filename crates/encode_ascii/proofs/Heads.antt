@@ -5,16 +5,15 @@ use mathlib.Core.Logic.{_⊎_, inl, inr}
 use mathlib.Core.Option.{Option, none, some}
 use mathlib.Core.Path.{_≡_, refl, sym, ap, _∙_, subst}
 use mathlib.Core.List.{List, [], _∷_, _++_, append-nil}
-use Prim.Native.Nat.{ℕ, suc, _+_, _-_, _*_, _≤_, _<_}
+use Prim.Native.Nat.{ℕ, _+_, _-_, _*_, _≤_, _<_}
 use native.Mathlib.Nat.{suc-inj, suc-ne-zero}
 use native.Mathlib.Omega.{arith}
 use borrow.Author.Tests.{eq-eqb, lt-ltb}
 use lib.Dec.{T, eqb, leb, ltb, eqb→eq, leb→le, ltb→lt}
 use lib.ListN.{length, getD, drop, length-append, length-drop}
 use lib.Seq.{drop-at, getD-drop}
-use Rattle.rules.specs.Bytes.{In, All, all, fits, join, Range, inside}
+use Rattle.rules.specs.Bytes.{all, fits, join, Range, inside}
 use Rattle.rules.specs.Utf8.{sequences, sequenceAt, charAt, IsChar, IsText, utf8, codeOf}
-use Rattle.rules.specs.References.{scalar}
 use Rattle.rules.specs.Ascii.{isHigh}
 use Rattle.rules.proofs.Tests.{and-left, and-right, or-cases, all-in}
 use Rattle.rules.proofs.Chars.{isTail, char-tails, sequence-of-char}

@@ -5,8 +5,7 @@ use mathlib.Core.Option.{Option, none, some, Option·none-ne-some}
 use mathlib.Core.Path.{_≡_, refl, sym, ap, _∙_, subst}
 use mathlib.Core.List.{List, [], _∷_, _++_, append-assoc, append-nil}
 use Prim.Native.Nat.{ℕ, zero, suc, _+_, _-_, _/_, _%_, _≤_, _<_}
-use mathlib.Core.Logic.{_⊎_, inl, inr}
-use native.Mathlib.Nat.{suc-ne-zero, eq-or-lt-of-le}
+use native.Mathlib.Nat.{suc-ne-zero}
 use native.Mathlib.Numerals.{add-one}
 use native.Mathlib.Omega.{arith}
 use borrow.Author.Tests.{lt-ltb, le-ltb, ltb-true, ltb-false, ne-eqb}
@@ -18,7 +17,7 @@ use Rattle.rules.specs.Tables.{hexDigit, numeral}
 use Rattle.encode_ascii.specs.Wide.{digits}
 use Rattle.rules.specs.Utf8.{codeOf, utf8}
 use Rattle.rules.specs.Names.{names}
-use Rattle.rules.specs.Ascii.{nameOf, bodyFor, referTo}
+use Rattle.rules.specs.Ascii.{nameOf, referTo}
 use Rattle.rules.specs.References.{lookup}
 use Rattle.rules.specs.Browsing.{given}
 use Rattle.rules.proofs.Names.{empty-unnamed}
@@ -119,14 +118,6 @@ by-name code h = go (nameOf (utf8 code)) refl h
     go (some n) e h = refl
 
 -- ---- ASCII bytes
-
--- One more ASCII byte.
-pub low-more : (t : List ℕ) (from i : ℕ) → ((k : ℕ) → from ≤ k → k < i → getD t k 0 < 128) → getD t i 0 < 128 → (k : ℕ) → from ≤ k → k < i + 1 → getD t k 0 < 128
-low-more t from i low b k l h = go (eq-or-lt-of-le (let z : k ≤ i = omega arith in z))
-  where
-    go : (k ≡ i) ⊎ (k < i) → getD t k 0 < 128
-    go (inl e) = subst (λ (n : ℕ). getD t n 0 < 128) (sym e) b
-    go (inr m) = low k l m
 
 -- ---- an opened reference
 

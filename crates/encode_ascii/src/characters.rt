@@ -1,7 +1,9 @@
-// One character above 7F: its number, and the reference that is written for it.
-ghost use mathlib.Core.List.{List, _++_};
+// One character: what is written for it, a reference above 7F, and what `quoted` writes below.
+ghost use mathlib.Core.Bool.{cond};
+ghost use mathlib.Core.List.{List, [], _∷_, _++_};
 ghost use mathlib.Core.Path.{_≡_};
 ghost use Prim.Native.Nat.{ℕ, _+_, _-_, _/_, _≤_, _<_};
+ghost use lib.Dec.{eqb};
 ghost use lib.ListN.{length, drop, getD};
 ghost use Rattle.rules.specs.Tables.{hexDigit, numeral};
 ghost use Rattle.rules.specs.Bytes.{ascii, over};
@@ -9,7 +11,11 @@ ghost use Rattle.rules.specs.Utf8.{IsText, utf8};
 ghost use Rattle.rules.specs.Ascii.{nameOf, referTo};
 ghost use Rattle.rules.specs.Browsing.{given};
 ghost use Rattle.names_written.specs.Ties.{Puts};
-ghost use Rattle.encode_ascii.specs.Wide.{Reads, digits};
+ghost use Rattle.rules.specs.Moves.{through, replaced};
+ghost use Rattle.rules.specs.Encoding.{encodeStep};
+ghost use Rattle.rules.specs.Operations.{encodeOf};
+ghost use Rattle.rules.specs.declared.Context.the-variants.{InAscii};
+ghost use Rattle.encode_ascii.specs.Wide.{Reads, digits, quotedUnit, PutsNext};
 
 // The number of a character and how many bytes it has.
 pub struct Character {
@@ -26,7 +32,7 @@ fn low_bits(byte: u8) -> u32
 }
 
 // Reads the character above 7F that stands at offset `at` of a text which is valid from there on.
-pub fn read(text: &[u8], at: usize) -> Character
+fn read(text: &[u8], at: usize) -> Character
     requires { ⌜ (at < length (now text)) × (0x80 ≤ getD (now text) at 0) × IsText (drop at (now text)) ⌝ }
     ensures { λ r. ⌜ Reads (drop at (now (text .entry))) r ⌝ }
 {
@@ -123,4 +129,67 @@ pub fn put_reference(code: u32, room: &mut [u8]) -> usize
         return put_number(code, room);
     }
     at + base::put(b";", &mut room[at..])
+}
+
+// Writes what stands for an ASCII character in `quoted` to the start of `room` and returns its length, 0 if it is copied.
+pub fn put_quoted(b: u32, room: &mut [u8]) -> usize
+    requires { ⌜ 32 ≤ length (now room) ⌝ }
+    ensures { λ r. ⌜ Puts (quotedUnit b) r (now (room .entry)) (now (room .exit)) × (r ≤ 22) ⌝ }
+{
+    match b {
+        38 => base::put(b"&amp;", room),
+        60 => base::put(b"&lt;", room),
+        62 => base::put(b"&gt;", room),
+        34 => base::put(b"&quot;", room),
+        39 => base::put(b"&#x27;", room),
+        _ => 0,
+    }
+}
+
+// Writes an ASCII character as `quoted` does to the start of `room` and returns how many bytes that is: one where it is copied.
+fn put_low(b: u8, room: &mut [u8]) -> usize
+    requires { ⌜ (b < 128) × (32 ≤ length (now room)) ⌝ }
+    ensures { λ r. ⌜ Puts (encodeOf InAscii (b ∷ [])) r (now (room .entry)) (now (room .exit)) × (r ≤ 22) × (replaced (through (encodeStep InAscii) (b ∷ [])) ≡ cond (eqb r 1) 0 1) ⌝ }
+{
+    let n = put_quoted(b as u32, room);
+    if n == 0 {
+        room[0] = b;
+        return 1;
+    }
+    n
+}
+
+// Returns 0 if a character is written as one byte, since it is copied then, else 1.
+fn changed(written: usize) -> usize
+    ensures { λ r. ⌜ r ≡ cond (eqb written 1) 0 1 ⌝ }
+{
+    if written == 1 { 0 } else { 1 }
+}
+
+// What is written for a character: how many bytes, how many the character has, and 1 if it is replaced.
+pub struct Put {
+    pub written: usize,
+    pub width: usize,
+    pub replaced: usize,
+}
+
+// Writes what stands for the character at offset `at` of a text which is valid from there on to the start of `room`.
+pub fn put_next(text: &[u8], at: usize, room: &mut [u8]) -> Put
+    requires { ⌜ (at < length (now text)) × IsText (drop at (now text)) × (32 ≤ length (now room)) ⌝ }
+    ensures { λ r. ⌜ PutsNext (drop at (now (text .entry))) r (now (room .entry)) (now (room .exit)) ⌝ }
+{
+    if text[at] < 128 {
+        let n = put_low(text[at], room);
+        return Put {
+            written: n,
+            width: 1,
+            replaced: changed(n),
+        };
+    }
+    let c = read(text, at);
+    Put {
+        written: put_reference(c.code, room),
+        width: c.width,
+        replaced: 1,
+    }
 }

@@ -1,24 +1,24 @@
 -- A reference is a unit exactly if it is what is written for the character that it stands for in decode: that character is the only one whose unit can
 -- stand there.
 -- Assumes nothing.
+use Rattle.decode_html.specs.Taking.{Reads as ReadsAt}
 use mathlib.Core.Bool.{Bool, true, false, not, _&&_, _||_, cond}
 use mathlib.Core.Logic.{_⊎_, inl, inr}
-use mathlib.Core.Option.{Option, none, some}
+use mathlib.Core.Option.{none, some}
 use mathlib.Core.Path.{_≡_, refl, sym, ap, _∙_, subst}
 use mathlib.Core.List.{List, [], _∷_, _++_, append-nil}
 use Prim.Native.Nat.{ℕ, zero, suc, _+_, _-_, _*_, _/_, _%_, _≤_, _<_}
 use native.Mathlib.Nat.{suc-ne-zero}
 use native.Mathlib.Omega.{arith}
 use borrow.Author.Tests.{le-leb, lt-leb, leb-false, lt-ltb, le-ltb}
-use lib.Dec.{T, eqb, leb, ltb, eqb→eq, leb→le, le→leb, ltb→lt}
+use lib.Dec.{T, eqb, leb, ltb, leb→le}
 use lib.ListN.{length, take, drop, getD, length-append}
 use lib.Seq.{take-at}
 use Rattle.rules.specs.Bytes.{ascii, count, In, all, any, sameBytes, stands, inside}
-use Rattle.rules.specs.Moves.{Move, keep, swap, leave, stop, takes, gives}
-use Rattle.rules.specs.Utf8.{IsChar, IsText, utf8, codeOf, charAt}
-use Rattle.rules.specs.Tables.{Row, key, value, rows, table, replacedChars}
-use Rattle.rules.specs.Ascii.{isHigh, byRule, referTo}
-use Rattle.rules.specs.Units.{IsUnit}
+use Rattle.rules.specs.Moves.{Move, keep, swap, leave, stop, gives}
+use Rattle.rules.specs.Utf8.{IsChar, utf8, codeOf, charAt}
+use Rattle.rules.specs.Tables.{Row, key, value, rows, replacedChars}
+use Rattle.rules.specs.Ascii.{isHigh, referTo}
 use Rattle.rules.specs.References.{scalar, referenceStep}
 use Rattle.rules.specs.Reading.{readStep}
 use Rattle.rules.specs.Answers.{unpackTo, valueBytes, referenceMove}
@@ -26,24 +26,24 @@ use Rattle.rules.specs.declared.DecodedEntityValue.{DecodedEntityValue}
 use Rattle.rules.specs.declared.DecodedEntityValue.the-variants.{Named, Character}
 use Rattle.rules.specs.declared.Escape.{Escape}
 use Rattle.rules.specs.declared.Escape.the-variants.{Taken, Nothing}
-use Rattle.decode_html.specs.Taking.{Reads as ReadsAt}
 use Rattle.decode_html.proofs.Turns.{Unfound}
 use Rattle.rules.proofs.Loops.{drop-next}
-use Rattle.rules.specs.declared.Reason.{Reason}
 use Rattle.rules.specs.declared.DecodedEntity.{DecodedEntity}
 use Rattle.rules.specs.declared.Reference.{Reference}
 use Rattle.rules.specs.declared.Reference.the-variants.{Found, Left, Nothing as NoReference}
 use Rattle.rules.specs.declared.Context.the-variants.{InAscii}
-use Rattle.rules.proofs.Tests.{and-left, and-right, and-both, all-in, any-in, or-cases, same-bytes, stands-self, stands-split}
+use Rattle.rules.proofs.Tests.{and-left, and-right, all-in, any-in, or-cases, same-bytes, stands-self, stands-split}
 use Rattle.rules.proofs.Below.{below}
 use Rattle.rules.proofs.Chars.{isChar, is-char, char-unique}
 use Rattle.rules.proofs.Characters.{utf8-char}
-use Rattle.rules.proofs.CharNumbers.{utf8-code, code-scalar, code-high, code-utf8, char-at}
+use Rattle.rules.proofs.CharNumbers.{utf8-code, code-scalar, code-high, char-at}
 use Rattle.rules.proofs.Ascii.{rule-high, rule-char, rule-refers, rule-longer}
 use Rattle.rules.proofs.Decoder.{quoted-refers}
 use Rattle.rules.proofs.Reader.{context-reads}
 use Rattle.encode_ascii.proofs.Heads.{Head, text-wide, high-char}
-use Rattle.read_ascii.specs.Units.{quotedUnit, unitFor, HasNumber, Exactly, Tells}
+use Rattle.encode_ascii.specs.Wide.{quotedUnit}
+use Rattle.encode_ascii.proofs.Next.{low-char}
+use Rattle.read_ascii.specs.Units.{unitFor, HasNumber, Exactly, Tells}
 use Rattle.read_ascii.proofs.Contents.{U, stops-where, unit-begins, no-char, bar-head}
 
 -- ---- the unit of a character
@@ -196,9 +196,6 @@ scalar-high code top low = rw (le-leb code 0x10FFFF top, le-leb 0xD800 code low)
     go : (b : Bool) → leb code 0xDFFF ≡ b → ltb 0xDFFF code ≡ not b
     go true e = le-ltb 0xDFFF code (leb→le code 0xDFFF (subst T (sym e) tt))
     go false e = lt-ltb 0xDFFF code (leb-false code 0xDFFF e)
-
-low-char : (b : ℕ) → b < 128 → IsChar (b ∷ [])
-low-char b h = ((0x00, 0x7F) ∷ [], inl refl, and-both (inside (0x00, 0x7F) b) true (and-both (leb 0 b) (leb b 0x7F) (le→leb 0 b (omega arith)) (le→leb b 0x7F (omega arith))) tt, refl)
 
 lead-of : (s a r : List ℕ) → IsChar a → s ≡ a ++ r → getD a 0 0 ≡ getD s 0 0
 lead-of s [] r c q = absurd (no-char c)

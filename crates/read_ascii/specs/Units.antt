@@ -5,25 +5,17 @@ use mathlib.Core.Logic.{_⊎_}
 use mathlib.Core.Path.{_≡_}
 use mathlib.Core.List.{List, [], _∷_, _++_}
 use Prim.Native.Nat.{ℕ, _≤_}
-use lib.Dec.{leb, eqb}
+use lib.Dec.{leb}
 use lib.ListN.{length, take, getD}
-use Rattle.rules.specs.Bytes.{ascii, any, stands, sameBytes}
+use Rattle.rules.specs.Bytes.{any, stands, sameBytes}
 use Rattle.rules.specs.Moves.{Move, swap, stop}
 use Rattle.rules.specs.Utf8.{IsChar, utf8, codeOf}
 use Rattle.rules.specs.Tables.{replacedChars}
 use Rattle.rules.specs.declared.Context.the-variants.{InAscii}
+use Rattle.encode_ascii.specs.Wide.{quotedUnit}
 use Rattle.rules.specs.Ascii.{referTo}
 use Rattle.rules.specs.declared.Escape.{Escape}
 use Rattle.rules.specs.declared.Escape.the-variants.{Taken, Nothing}
-
--- What is written for the ASCII characters that `quoted` replaces; nothing for any other.
-abbrev pub quotedUnit : ℕ → List ℕ
-quotedUnit b =
-    cond (eqb b 38) (ascii "&amp;")
-    (cond (eqb b 60) (ascii "&lt;")
-    (cond (eqb b 62) (ascii "&gt;")
-    (cond (eqb b 34) (ascii "&quot;")
-    (cond (eqb b 39) (ascii "&#x27;") []))))
 
 -- The unit of a character by its number; nothing where it is plain.
 abbrev pub unitFor : ℕ → List ℕ

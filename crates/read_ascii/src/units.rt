@@ -7,26 +7,11 @@ ghost use Rattle.rules.specs.Reading.{readStep};
 ghost use Rattle.rules.specs.declared.Context.the-variants.{InAscii};
 ghost use Rattle.names_written.specs.Ties.{Puts};
 ghost use Rattle.rules.specs.References.{scalar};
-ghost use Rattle.read_ascii.specs.Units.{quotedUnit, unitFor, HasNumber, Exactly, Tells};
+ghost use Rattle.read_ascii.specs.Units.{unitFor, HasNumber, Exactly, Tells};
 use decode_html::entity;
 use encode_ascii::characters;
 use rules::Escape;
 use rules::Reference;
-
-// Writes what stands for an ASCII character in `quoted` to the start of `room` and returns its length, 0 if it is copied.
-fn put_quoted(b: u32, room: &mut [u8]) -> usize
-    requires { ⌜ 32 ≤ length (now room) ⌝ }
-    ensures { λ r. ⌜ Puts (quotedUnit b) r (now (room .entry)) (now (room .exit)) × (r ≤ 22) ⌝ }
-{
-    match b {
-        38 => base::put(b"&amp;", room),
-        60 => base::put(b"&lt;", room),
-        62 => base::put(b"&gt;", room),
-        34 => base::put(b"&quot;", room),
-        39 => base::put(b"&#x27;", room),
-        _ => 0,
-    }
-}
 
 // Writes the unit of a character to the start of `room` and returns its length, 0 if it is copied.
 fn put_unit(code: u32, room: &mut [u8]) -> usize
@@ -36,7 +21,7 @@ fn put_unit(code: u32, room: &mut [u8]) -> usize
     if 0x80 <= code {
         return characters::put_reference(code, room);
     }
-    put_quoted(code, room)
+    characters::put_quoted(code, room)
 }
 
 // Returns the number of the character with which `bytes` begin; any number if they begin with none.

@@ -8,68 +8,49 @@ use Rattle.rules.specs.Bytes.{inside}
 use Rattle.names_written.proofs.Named.{among, none-outside, not-below, not-above}
 use Rattle.names_written.proofs.put_high.Statement.{statement}
 use Rattle.names_written.proofs.put_high.Tie as tie
-use Rattle.names_written.proofs.put_high.Reads as reads
-use Rattle.names_written.proofs.put_high.Lts as lts
-use Rattle.names_written.proofs.is_among.Reads as is-among-reads
-use Rattle.names_written.proofs.table.from_1d49c.Reads as from-1d49c-reads
-use Rattle.names_written.proofs.table.from_2a00.Reads as from-2a00-reads
-use Rattle.names_written.proofs.table.from_fb00.Reads as from-fb00-reads
 
--- src/lib.rt:72:8
 is-among-requires : tie.Need-is-among-requires
 is-among-requires c κs = search needs
 
--- src/lib.rt:73:9
 from-2a00-requires : tie.Need-from-2a00-requires
 from-2a00-requires c κs =
     let (l, h) = among (c .before .before .is-among .result) 0x2A00 0x2AFD (c .before .before .before .before .args .code) (c .before .before .is-among .ensures) (c .before .if1 .taken) in
     (l, h, c .before .before .before .before .pre .2)
 
--- src/lib.rt:73:9
 same-length : tie.Need-same-length
 same-length c = search needs
 
--- src/lib.rt:73:9
 returns : tie.Need-returns
 returns c = search needs
 
--- src/lib.rt:75:8
 is-among-requires-2 : tie.Need-is-among-requires-2
 is-among-requires-2 c κs = search needs
 
--- src/lib.rt:76:9
 from-fb00-requires : tie.Need-from-fb00-requires
 from-fb00-requires c κs =
     let (l, h) = among (c .before .before .is-among2 .result) 0xFB00 0xFB04 (c .before .before .before .before .before .before .args .code) (c .before .before .is-among2 .ensures) (c .before .if2 .taken) in
     (l, h, c .before .before .before .before .before .before .pre .2)
 
--- src/lib.rt:76:9
 same-length-2 : tie.Need-same-length-2
 same-length-2 c = search needs
 
--- src/lib.rt:76:9
 returns-2 : tie.Need-returns-2
 returns-2 c = search needs
 
--- src/lib.rt:78:8
 is-among-requires-3 : tie.Need-is-among-requires-3
 is-among-requires-3 c κs = search needs
 
--- src/lib.rt:79:9
 from-1d49c-requires : tie.Need-from-1d49c-requires
 from-1d49c-requires c κs =
     let (l, h) = among (c .before .before .is-among3 .result) 0x1D49C 0x1D56B (c .before .before .before .before .before .before .before .before .args .code) (c .before .before .is-among3 .ensures) (c .before .if3 .taken) in
     (l, h, c .before .before .before .before .before .before .before .before .pre .2)
 
--- src/lib.rt:79:9
 same-length-3 : tie.Need-same-length-3
 same-length-3 c = search needs
 
--- src/lib.rt:79:9
 returns-3 : tie.Need-returns-3
 returns-3 c = search needs
 
--- src/lib.rt:68:1
 returns-4 : tie.Need-returns-4
 returns-4 c =
     let code = c .before .before .before .before .before .before .before .args .code in

@@ -8,106 +8,77 @@ use Rattle.rules.specs.Bytes.{inside}
 use Rattle.names_written.proofs.Named.{among, none-outside, not-below, not-above}
 use Rattle.names_written.proofs.put_low.Statement.{statement}
 use Rattle.names_written.proofs.put_low.Tie as tie
-use Rattle.names_written.proofs.put_low.Reads as reads
-use Rattle.names_written.proofs.put_low.Lts as lts
-use Rattle.names_written.proofs.is_among.Reads as is-among-reads
-use Rattle.names_written.proofs.table.from_192.Reads as from-192-reads
-use Rattle.names_written.proofs.table.from_2002.Reads as from-2002-reads
-use Rattle.names_written.proofs.table.from_2102.Reads as from-2102-reads
-use Rattle.names_written.proofs.table.from_311.Reads as from-311-reads
-use Rattle.names_written.proofs.table.from_a0.Reads as from-a0-reads
 
--- src/lib.rt:26:8
 is-among-requires : tie.Need-is-among-requires
 is-among-requires c κs = search needs
 
--- src/lib.rt:27:9
 from-a0-requires : tie.Need-from-a0-requires
 from-a0-requires c κs =
     let (l, h) = among (c .before .before .is-among .result) 0xA0 0x17E (c .before .before .before .before .args .code) (c .before .before .is-among .ensures) (c .before .if1 .taken) in
     (l, h, c .before .before .before .before .pre .2)
 
--- src/lib.rt:27:9
 same-length : tie.Need-same-length
 same-length c = search needs
 
--- src/lib.rt:27:9
 returns : tie.Need-returns
 returns c = search needs
 
--- src/lib.rt:29:8
 is-among-requires-2 : tie.Need-is-among-requires-2
 is-among-requires-2 c κs = search needs
 
--- src/lib.rt:30:9
 from-192-requires : tie.Need-from-192-requires
 from-192-requires c κs =
     let (l, h) = among (c .before .before .is-among2 .result) 0x192 0x2DD (c .before .before .before .before .before .before .args .code) (c .before .before .is-among2 .ensures) (c .before .if2 .taken) in
     (l, h, c .before .before .before .before .before .before .pre .2)
 
--- src/lib.rt:30:9
 same-length-2 : tie.Need-same-length-2
 same-length-2 c = search needs
 
--- src/lib.rt:30:9
 returns-2 : tie.Need-returns-2
 returns-2 c = search needs
 
--- src/lib.rt:32:8
 is-among-requires-3 : tie.Need-is-among-requires-3
 is-among-requires-3 c κs = search needs
 
--- src/lib.rt:33:9
 from-311-requires : tie.Need-from-311-requires
 from-311-requires c κs =
     let (l, h) = among (c .before .before .is-among3 .result) 0x311 0x45F (c .before .before .before .before .before .before .before .before .args .code) (c .before .before .is-among3 .ensures) (c .before .if3 .taken) in
     (l, h, c .before .before .before .before .before .before .before .before .pre .2)
 
--- src/lib.rt:33:9
 same-length-3 : tie.Need-same-length-3
 same-length-3 c = search needs
 
--- src/lib.rt:33:9
 returns-3 : tie.Need-returns-3
 returns-3 c = search needs
 
--- src/lib.rt:35:8
 is-among-requires-4 : tie.Need-is-among-requires-4
 is-among-requires-4 c κs = search needs
 
--- src/lib.rt:36:9
 from-2002-requires : tie.Need-from-2002-requires
 from-2002-requires c κs =
     let (l, h) = among (c .before .before .is-among4 .result) 0x2002 0x20DC (c .before .before .before .before .before .before .before .before .before .before .args .code) (c .before .before .is-among4 .ensures) (c .before .if4 .taken) in
     (l, h, c .before .before .before .before .before .before .before .before .before .before .pre .2)
 
--- src/lib.rt:36:9
 same-length-4 : tie.Need-same-length-4
 same-length-4 c = search needs
 
--- src/lib.rt:36:9
 returns-4 : tie.Need-returns-4
 returns-4 c = search needs
 
--- src/lib.rt:38:8
 is-among-requires-5 : tie.Need-is-among-requires-5
 is-among-requires-5 c κs = search needs
 
--- src/lib.rt:39:9
 from-2102-requires : tie.Need-from-2102-requires
 from-2102-requires c κs =
     let (l, h) = among (c .before .before .is-among5 .result) 0x2102 0x21FF (c .before .before .before .before .before .before .before .before .before .before .before .before .args .code) (c .before .before .is-among5 .ensures) (c .before .if5 .taken) in
     (l, h, c .before .before .before .before .before .before .before .before .before .before .before .before .pre .2)
 
--- src/lib.rt:39:9
 same-length-5 : tie.Need-same-length-5
 same-length-5 c = search needs
 
--- src/lib.rt:39:9
 returns-5 : tie.Need-returns-5
 returns-5 c = search needs
 
--- src/lib.rt:22:1
 returns-6 : tie.Need-returns-6
 returns-6 c =
     let code = c .before .before .before .before .before .before .before .before .before .before .before .args .code in

@@ -8,106 +8,77 @@ use Rattle.rules.specs.Bytes.{inside}
 use Rattle.names_written.proofs.Named.{among, none-outside, not-below, not-above}
 use Rattle.names_written.proofs.put_middle.Statement.{statement}
 use Rattle.names_written.proofs.put_middle.Tie as tie
-use Rattle.names_written.proofs.put_middle.Reads as reads
-use Rattle.names_written.proofs.put_middle.Lts as lts
-use Rattle.names_written.proofs.is_among.Reads as is-among-reads
-use Rattle.names_written.proofs.table.from_2200.Reads as from-2200-reads
-use Rattle.names_written.proofs.table.from_2305.Reads as from-2305-reads
-use Rattle.names_written.proofs.table.from_2500.Reads as from-2500-reads
-use Rattle.names_written.proofs.table.from_2605.Reads as from-2605-reads
-use Rattle.names_written.proofs.table.from_2902.Reads as from-2902-reads
 
--- src/lib.rt:49:8
 is-among-requires : tie.Need-is-among-requires
 is-among-requires c κs = search needs
 
--- src/lib.rt:50:9
 from-2200-requires : tie.Need-from-2200-requires
 from-2200-requires c κs =
     let (l, h) = among (c .before .before .is-among .result) 0x2200 0x22FE (c .before .before .before .before .args .code) (c .before .before .is-among .ensures) (c .before .if1 .taken) in
     (l, h, c .before .before .before .before .pre .2)
 
--- src/lib.rt:50:9
 same-length : tie.Need-same-length
 same-length c = search needs
 
--- src/lib.rt:50:9
 returns : tie.Need-returns
 returns c = search needs
 
--- src/lib.rt:52:8
 is-among-requires-2 : tie.Need-is-among-requires-2
 is-among-requires-2 c κs = search needs
 
--- src/lib.rt:53:9
 from-2305-requires : tie.Need-from-2305-requires
 from-2305-requires c κs =
     let (l, h) = among (c .before .before .is-among2 .result) 0x2305 0x24C8 (c .before .before .before .before .before .before .args .code) (c .before .before .is-among2 .ensures) (c .before .if2 .taken) in
     (l, h, c .before .before .before .before .before .before .pre .2)
 
--- src/lib.rt:53:9
 same-length-2 : tie.Need-same-length-2
 same-length-2 c = search needs
 
--- src/lib.rt:53:9
 returns-2 : tie.Need-returns-2
 returns-2 c = search needs
 
--- src/lib.rt:55:8
 is-among-requires-3 : tie.Need-is-among-requires-3
 is-among-requires-3 c κs = search needs
 
--- src/lib.rt:56:9
 from-2500-requires : tie.Need-from-2500-requires
 from-2500-requires c κs =
     let (l, h) = among (c .before .before .is-among3 .result) 0x2500 0x25FC (c .before .before .before .before .before .before .before .before .args .code) (c .before .before .is-among3 .ensures) (c .before .if3 .taken) in
     (l, h, c .before .before .before .before .before .before .before .before .pre .2)
 
--- src/lib.rt:56:9
 same-length-3 : tie.Need-same-length-3
 same-length-3 c = search needs
 
--- src/lib.rt:56:9
 returns-3 : tie.Need-returns-3
 returns-3 c = search needs
 
--- src/lib.rt:58:8
 is-among-requires-4 : tie.Need-is-among-requires-4
 is-among-requires-4 c κs = search needs
 
--- src/lib.rt:59:9
 from-2605-requires : tie.Need-from-2605-requires
 from-2605-requires c κs =
     let (l, h) = among (c .before .before .is-among4 .result) 0x2605 0x27FF (c .before .before .before .before .before .before .before .before .before .before .args .code) (c .before .before .is-among4 .ensures) (c .before .if4 .taken) in
     (l, h, c .before .before .before .before .before .before .before .before .before .before .pre .2)
 
--- src/lib.rt:59:9
 same-length-4 : tie.Need-same-length-4
 same-length-4 c = search needs
 
--- src/lib.rt:59:9
 returns-4 : tie.Need-returns-4
 returns-4 c = search needs
 
--- src/lib.rt:61:8
 is-among-requires-5 : tie.Need-is-among-requires-5
 is-among-requires-5 c κs = search needs
 
--- src/lib.rt:62:9
 from-2902-requires : tie.Need-from-2902-requires
 from-2902-requires c κs =
     let (l, h) = among (c .before .before .is-among5 .result) 0x2902 0x29F6 (c .before .before .before .before .before .before .before .before .before .before .before .before .args .code) (c .before .before .is-among5 .ensures) (c .before .if5 .taken) in
     (l, h, c .before .before .before .before .before .before .before .before .before .before .before .before .pre .2)
 
--- src/lib.rt:62:9
 same-length-5 : tie.Need-same-length-5
 same-length-5 c = search needs
 
--- src/lib.rt:62:9
 returns-5 : tie.Need-returns-5
 returns-5 c = search needs
 
--- src/lib.rt:45:1
 returns-6 : tie.Need-returns-6
 returns-6 c =
     let code = c .before .before .before .before .before .before .before .before .before .before .before .args .code in

@@ -5,7 +5,6 @@ use Rattle.read_ascii.proofs.Contents.{halt-test}
 use Rattle.read_ascii.proofs.is_halt.Statement.{statement}
 use Rattle.read_ascii.proofs.is_halt.Tie as tie
 
--- src/halts.rt:13:1
 returns : tie.Need-returns
 returns c = halt-test (c .args .b) (search needs)
 

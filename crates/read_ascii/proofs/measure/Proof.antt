@@ -11,7 +11,6 @@ use Rattle.rules.specs.declared.Context.the-variants.{InAscii}
 use Rattle.rules.specs.Reading.{readStep}
 use Rattle.rules.specs.Utf8.{utf8}
 use Rattle.rules.specs.Moves.{result, through, from}
-use lib.ListN.{length as size}
 use Prim.Native.Nat.{ℕ, _+_, _-_, _≤_}
 use mathlib.Core.List.{List, [], _∷_}
 use native.Mathlib.Omega.{arith}
@@ -19,11 +18,6 @@ use mathlib.Core.Path.{_≡_, refl, sym, ap, _∙_, subst}
 use borrow.Author.Needs.{needs}
 use Rattle.read_ascii.proofs.measure.Statement.{statement}
 use Rattle.read_ascii.proofs.measure.Tie as tie
-use Rattle.read_ascii.proofs.measure.Reads as reads
-use Rattle.read_ascii.proofs.measure.Lts as lts
-use Rattle.base.proofs.chars.char_length.Reads as char-length-reads
-use Rattle.read_ascii.proofs.next_halt.Reads as next-halt-reads
-use Rattle.read_ascii.proofs.units.read_unit.Reads as read-unit-reads
 
 abbrev Inv-loop : tie.InvT-loop
 Inv-loop text length₀ read₀ i₀ length read i = Counted (readStep InAscii) text i length read
@@ -31,80 +25,61 @@ Inv-loop text length₀ read₀ i₀ length read i = Counted (readStep InAscii) 
 abbrev μ-loop : tie.MeasureT-loop
 μ-loop text length₀ read₀ i₀ length read i = size text - i
 
--- src/lib.rt:49:5
 loop-holds : tie.Need-loop-holds Inv-loop μ-loop
 loop-holds c = counted-start (readStep InAscii) (c .before .args .text .now)
 
--- src/lib.rt:50:12
 shared-slice-read-if1 : tie.Need-shared-slice-read-if1 Inv-loop μ-loop
 shared-slice-read-if1 c = search needs
 
--- src/lib.rt:51:17
 next-halt-requires : tie.Need-next-halt-requires Inv-loop μ-loop
 next-halt-requires c κs = search needs
 
--- src/lib.rt:53:17
 returns : tie.Need-returns Inv-loop μ-loop
 returns c = counted-measures (c .before .before .before .before .before .loop .inv) 0 0 (from-stop (readStep InAscii) (c .before .before .before .before .before .before .before .args .text .now) (c .before .before .before .before .before .loop .i) (omega arith) (halted-at (c .before .before .before .before .before .before .before .args .text .now) (λ k. omega (arith, c .before .before .before .before .before .before .shared-slice-known .given k)) (c .before .before .before .before .before .loop .i) (omega arith) ((rw (c .if2 .taken) at (c .before .next-halt .ensures)) .here (omega arith)) (c .before .before .if1 .taken) .1)) (read-left (c .before .before .before .before .before .before .before .args .text .now))
 
--- src/lib.rt:61:23
 sub-length : tie.Need-sub-length Inv-loop μ-loop
 sub-length c = c .before .next-halt .ensures .after
 
--- src/lib.rt:61:13
 add-length : tie.Need-add-length Inv-loop μ-loop
 add-length c = omega (arith, c .before .before .before .before .before .loop .inv .most, c .before .next-halt .ensures .within, c .before .before .before .before .before .before .before .pre)
 
--- src/lib.rt:49:5
 loop-less : tie.Need-loop-less Inv-loop μ-loop
 loop-less c = omega (arith, c .before .next-halt .ensures .after, c .before .next-halt .ensures .within, c .if2 .left)
 
--- src/lib.rt:49:5
 loop-again : tie.Need-loop-again Inv-loop μ-loop
 loop-again c = counted-quiet (c .before .before .before .before .before .loop .inv) (c .before .next-halt .result) (c .before .next-halt .ensures .after) (c .before .next-halt .ensures .within) (content-quiet (c .before .before .before .before .before .before .before .args .text .now) (λ k. omega (arith, c .before .before .before .before .before .before .shared-slice-known .given k)) (c .before .before .before .before .before .loop .i) (c .before .next-halt .result) (c .before .next-halt .ensures))
 
--- src/lib.rt:65:35
 read-unit-requires : tie.Need-read-unit-requires Inv-loop μ-loop
 read-unit-requires c κs = (omega arith, c .if1 .left)
 
--- src/lib.rt:65:27
 enum-known-n : tie.Need-enum-known-n Inv-loop μ-loop
 enum-known-n c = search needs
 
--- src/lib.rt:66:13
 enum-told : tie.Need-enum-told Inv-loop μ-loop
 enum-told c = search needs
 
--- src/lib.rt:66:13
 returns-2 : tie.Need-returns-2 Inv-loop μ-loop
 returns-2 c = counted-measures (c .before .before .before .before .before .before .loop .inv) 0 0 (from-stop (readStep InAscii) (c .before .before .before .before .before .before .before .before .args .text .now) (c .before .before .before .before .before .before .loop .i) (omega arith) (read-here (c .before .before .before .before .before .before .before .before .args .text .now) (c .before .before .before .before .before .before .loop .i) (c .before .before .read-unit .result) Nothing (c .before .before .read-unit .ensures) (c .enum-told .given .1) .1)) (read-left (c .before .before .before .before .before .before .before .before .args .text .now))
 
--- src/lib.rt:74:19
 char-length-requires : tie.Need-char-length-requires Inv-loop μ-loop
 char-length-requires c κs = search needs
 
--- src/lib.rt:74:9
 add-length-2 : tie.Need-add-length-2 Inv-loop μ-loop
 add-length-2 c = let w = read-within (c .before .before .before .before .before .before .before .before .before .before .args .text .now) (c .before .before .before .before .before .before .before .before .loop .i) (c .before .before .n .given .0 .0) (c .before .before .n .given .0 .1 .0) (omega arith) (read-here (c .before .before .before .before .before .before .before .before .before .before .args .text .now) (c .before .before .before .before .before .before .before .before .loop .i) (c .before .before .before .before .read-unit .result) (Taken (c .before .before .n .given .0 .0) (c .before .before .n .given .0 .1 .0)) (c .before .before .before .before .read-unit .ensures) (c .before .before .n .given .1)) in omega (arith, c .before .before .before .before .before .before .before .before .loop .inv .most, w .1, w .2, c .char-length .ensures .0, c .before .before .before .before .before .before .before .before .before .before .pre)
 
--- src/lib.rt:75:9
 add-read : tie.Need-add-read Inv-loop μ-loop
 add-read c = omega (arith, c .before .before .before .before .before .before .before .before .loop .inv .few, c .before .before .before .before .before .before .before .before .loop .inv .inside, c .before .before .before .before .before .before .before .before .before .before .pre)
 
--- src/lib.rt:76:9
 add-i : tie.Need-add-i Inv-loop μ-loop
 add-i c = let w = read-within (c .before .before .before .before .before .before .before .before .before .before .args .text .now) (c .before .before .before .before .before .before .before .before .loop .i) (c .before .before .n .given .0 .0) (c .before .before .n .given .0 .1 .0) (omega arith) (read-here (c .before .before .before .before .before .before .before .before .before .before .args .text .now) (c .before .before .before .before .before .before .before .before .loop .i) (c .before .before .before .before .read-unit .result) (Taken (c .before .before .n .given .0 .0) (c .before .before .n .given .0 .1 .0)) (c .before .before .before .before .read-unit .ensures) (c .before .before .n .given .1)) in omega (arith, w .1, c .before .before .before .before .before .before .before .before .before .before .pre)
 
--- src/lib.rt:49:5
 loop-less-2 : tie.Need-loop-less-2 Inv-loop μ-loop
 loop-less-2 c = let w = read-within (c .before .before .before .before .before .before .before .before .before .before .args .text .now) (c .before .before .before .before .before .before .before .before .loop .i) (c .before .before .n .given .0 .0) (c .before .before .n .given .0 .1 .0) (omega arith) (read-here (c .before .before .before .before .before .before .before .before .before .before .args .text .now) (c .before .before .before .before .before .before .before .before .loop .i) (c .before .before .before .before .read-unit .result) (Taken (c .before .before .n .given .0 .0) (c .before .before .n .given .0 .1 .0)) (c .before .before .before .before .read-unit .ensures) (c .before .before .n .given .1)) in omega (arith, w .0, w .1)
 
--- src/lib.rt:49:5
 loop-again-2 : tie.Need-loop-again-2 Inv-loop μ-loop
 loop-again-2 c = let w = read-within (c .before .before .before .before .before .before .before .before .before .before .args .text .now) (c .before .before .before .before .before .before .before .before .loop .i) (c .before .before .n .given .0 .0) (c .before .before .n .given .0 .1 .0) (omega arith) (read-here (c .before .before .before .before .before .before .before .before .before .before .args .text .now) (c .before .before .before .before .before .before .before .before .loop .i) (c .before .before .before .before .read-unit .result) (Taken (c .before .before .n .given .0 .0) (c .before .before .n .given .0 .1 .0)) (c .before .before .before .before .read-unit .ensures) (c .before .before .n .given .1)) in
     rw (c .char-length .ensures .0) (counted-swap (c .before .before .before .before .before .before .before .before .loop .inv) (c .before .before .n .given .0 .0) (utf8 (c .before .before .n .given .0 .1 .0)) (w .0) (w .1) (w .2) ((read-here (c .before .before .before .before .before .before .before .before .before .before .args .text .now) (c .before .before .before .before .before .before .before .before .loop .i) (c .before .before .before .before .read-unit .result) (Taken (c .before .before .n .given .0 .0) (c .before .before .n .given .0 .1 .0)) (c .before .before .before .before .read-unit .ensures) (c .before .before .n .given .1)) .0))
 
--- src/lib.rt:42:1
 returns-3 : tie.Need-returns-3 Inv-loop μ-loop
 returns-3 c = counted-measures (c .before .loop .inv) 0 0 (from-end (readStep InAscii) (c .before .before .before .args .text .now) (c .before .loop .i) (omega arith)) (read-left (c .before .before .before .args .text .now))
 

@@ -17,40 +17,32 @@ Inv-loop text from i₀ i = (from ≤ i) × (i ≤ length text) × Free (haltAt 
 abbrev μ-loop : tie.MeasureT-loop
 μ-loop text from i₀ i = length text - i
 
--- src/halts.rt:54:5
 loop-holds : tie.Need-loop-holds Inv-loop μ-loop
 loop-holds c = (search needs, search needs, free-start (haltAt (c .before .args .text .now)) (c .before .args .from))
 
--- src/halts.rt:55:20
 shared-slice-read-is-halt : tie.Need-shared-slice-read-is-halt Inv-loop μ-loop
 shared-slice-read-is-halt c = search needs
 
--- src/halts.rt:55:12
 is-halt-requires : tie.Need-is-halt-requires Inv-loop μ-loop
 is-halt-requires c κs = search needs
 
--- src/halts.rt:56:13
 returns : tie.Need-returns Inv-loop μ-loop
 returns c =
     let i = c .before .before .before .before .loop .inv in
     record { after = i .0; within = i .1; none = i .2; here = λ h. sym (c .before .is-halt .ensures) ∙ c .if1 .taken }
 
--- src/halts.rt:58:9
 add-i : tie.Need-add-i Inv-loop μ-loop
 add-i c = search needs
 
--- src/halts.rt:54:5
 loop-less : tie.Need-loop-less Inv-loop μ-loop
 loop-less c = search needs
 
--- src/halts.rt:54:5
 loop-again : tie.Need-loop-again Inv-loop μ-loop
 loop-again c =
     let a = c .before .before .before .before .before .before .args in
     let l = c .before .before .before .before .loop in
     (search needs, search needs, free-step (haltAt (a .text .now)) (a .from) (l .i) (l .inv .2) (sym (c .before .is-halt .ensures) ∙ c .if1 .left))
 
--- src/halts.rt:49:1
 returns-2 : tie.Need-returns-2 Inv-loop μ-loop
 returns-2 c =
     let i = c .before .loop .inv in

@@ -18,12 +18,6 @@ use mathlib.Core.Path.{_≡_, refl, sym, ap, _∙_, subst}
 use borrow.Author.Needs.{needs}
 use Rattle.read_ascii.proofs.write.Statement.{statement}
 use Rattle.read_ascii.proofs.write.Tie as tie
-use Rattle.read_ascii.proofs.write.Reads as reads
-use Rattle.read_ascii.proofs.write.Lts as lts
-use Rattle.base.proofs.chars.put_char.Reads as put-char-reads
-use Rattle.base.proofs.put.Reads as put-reads
-use Rattle.read_ascii.proofs.next_halt.Reads as next-halt-reads
-use Rattle.read_ascii.proofs.units.read_unit.Reads as read-unit-reads
 
 abbrev Inv-loop : tie.InvT-loop
 Inv-loop text output₀ at₀ read₀ i₀ output at read i =
@@ -32,129 +26,98 @@ Inv-loop text output₀ at₀ read₀ i₀ output at read i =
 abbrev μ-loop : tie.MeasureT-loop
 μ-loop text output₀ at₀ read₀ i₀ output at read i = size text - i
 
--- src/lib.rt:96:5
 loop-holds : tie.Need-loop-holds Inv-loop μ-loop
 loop-holds c = (counted-start (readStep InAscii) (c .before .before .args .text .now), filled-start _ _ (c .before .before .pre))
 
--- src/lib.rt:97:12
 shared-slice-read-if1 : tie.Need-shared-slice-read-if1 Inv-loop μ-loop
 shared-slice-read-if1 c = search needs
 
--- src/lib.rt:98:17
 next-halt-requires : tie.Need-next-halt-requires Inv-loop μ-loop
 next-halt-requires c κs = search needs
 
--- src/lib.rt:100:17
 same-length : tie.Need-same-length Inv-loop μ-loop
 same-length c = search needs
 
--- src/lib.rt:100:17
 returns : tie.Need-returns Inv-loop μ-loop
 returns c = let s = from-stop (readStep InAscii) (c .before .before .before .before .before .before .before .before .args .text .now) (c .before .before .before .before .before .loop .i) (omega arith) (halted-at (c .before .before .before .before .before .before .before .before .args .text .now) (λ k. omega (arith, c .before .before .before .before .before .before .before .shared-slice-known .given k)) (c .before .before .before .before .before .loop .i) (omega arith) ((rw (c .if2 .taken) at (c .before .next-halt .ensures)) .here (omega arith)) (c .before .before .if1 .taken) .1) in (counted-measures (c .before .before .before .before .before .loop .inv .0) 0 0 s (read-left (c .before .before .before .before .before .before .before .before .args .text .now)), filled-all (c .before .before .before .before .before .loop .inv .1) (ap result s) .1)
 
--- src/lib.rt:108:29
 sub-put : tie.Need-sub-put Inv-loop μ-loop
 sub-put c = c .before .next-halt .ensures .after
 
--- src/lib.rt:108:29
 part-put-start : tie.Need-part-put-start Inv-loop μ-loop
 part-put-start c = search needs
 
--- src/lib.rt:108:29
 part-put-end : tie.Need-part-put-end Inv-loop μ-loop
 part-put-end c = search needs
 
--- src/lib.rt:108:42
 sub-put-2 : tie.Need-sub-put-2 Inv-loop μ-loop
 sub-put-2 c = search needs
 
--- src/lib.rt:108:42
 part-put-start-2 : tie.Need-part-put-start-2 Inv-loop μ-loop
 part-put-start-2 c = search needs
 
--- src/lib.rt:108:42
 part-put-end-2 : tie.Need-part-put-end-2 Inv-loop μ-loop
 part-put-end-2 c = search needs
 
--- src/lib.rt:108:19
 put-requires : tie.Need-put-requires Inv-loop μ-loop
 put-requires c κs = filled-room (c .before .before .before .before .before .before .before .loop .inv .1) (next-quiet (readStep InAscii) (c .before .before .before .before .before .before .before .before .before .before .args .text .now) (c .before .before .before .before .before .before .before .loop .i) (c .before .before .before .next-halt .result) (c .before .before .before .next-halt .ensures .after) (c .before .before .before .next-halt .ensures .within) (content-quiet (c .before .before .before .before .before .before .before .before .before .before .args .text .now) (λ k. omega (arith, c .before .before .before .before .before .before .before .before .before .shared-slice-known .given k)) (c .before .before .before .before .before .before .before .loop .i) (c .before .before .before .next-halt .result) (c .before .before .before .next-halt .ensures)))
 
--- src/lib.rt:108:13
 add-at : tie.Need-add-at Inv-loop μ-loop
 add-at c = omega (arith, c .before .before .put .ensures .0, filled-next (c .before .before .before .before .before .before .before .before .before .before .loop .inv .1) (next-quiet (readStep InAscii) (c .before .before .before .before .before .before .before .before .before .before .before .before .before .args .text .now) (c .before .before .before .before .before .before .before .before .before .before .loop .i) (c .before .before .before .before .before .before .next-halt .result) (c .before .before .before .before .before .before .next-halt .ensures .after) (c .before .before .before .before .before .before .next-halt .ensures .within) (content-quiet (c .before .before .before .before .before .before .before .before .before .before .before .before .before .args .text .now) (λ k. omega (arith, c .before .before .before .before .before .before .before .before .before .before .before .before .shared-slice-known .given k)) (c .before .before .before .before .before .before .before .before .before .before .loop .i) (c .before .before .before .before .before .before .next-halt .result) (c .before .before .before .before .before .before .next-halt .ensures))))
 
--- src/lib.rt:96:5
 loop-less : tie.Need-loop-less Inv-loop μ-loop
 loop-less c = omega (arith, c .before .before .before .before .before .before .next-halt .ensures .after, c .before .before .before .before .before .before .next-halt .ensures .within, c .before .before .before .before .before .if2 .left)
 
--- src/lib.rt:96:5
 loop-again : tie.Need-loop-again Inv-loop μ-loop
 loop-again c = let z : c .before .before .put .result ≡ c .before .before .before .before .before .before .next-halt .result - c .before .before .before .before .before .before .before .before .before .before .loop .i = c .before .before .put .ensures .0 ∙ part-length (c .before .before .before .before .before .before .before .before .before .before .before .before .before .args .text .now) (c .before .before .before .before .before .before .before .before .before .before .loop .i) (c .before .before .before .before .before .before .next-halt .result) (c .before .before .before .before .before .before .next-halt .ensures .after) (c .before .before .before .before .before .before .next-halt .ensures .within) in
     (rw z (counted-quiet (c .before .before .before .before .before .before .before .before .before .before .loop .inv .0) (c .before .before .before .before .before .before .next-halt .result) (c .before .before .before .before .before .before .next-halt .ensures .after) (c .before .before .before .before .before .before .next-halt .ensures .within) (content-quiet (c .before .before .before .before .before .before .before .before .before .before .before .before .before .args .text .now) (λ k. omega (arith, c .before .before .before .before .before .before .before .before .before .before .before .before .shared-slice-known .given k)) (c .before .before .before .before .before .before .before .before .before .before .loop .i) (c .before .before .before .before .before .before .next-halt .result) (c .before .before .before .before .before .before .next-halt .ensures))), filled-put (c .before .before .before .before .before .before .before .before .before .before .loop .inv .1) (next-quiet (readStep InAscii) (c .before .before .before .before .before .before .before .before .before .before .before .before .before .args .text .now) (c .before .before .before .before .before .before .before .before .before .before .loop .i) (c .before .before .before .before .before .before .next-halt .result) (c .before .before .before .before .before .before .next-halt .ensures .after) (c .before .before .before .before .before .before .next-halt .ensures .within) (content-quiet (c .before .before .before .before .before .before .before .before .before .before .before .before .before .args .text .now) (λ k. omega (arith, c .before .before .before .before .before .before .before .before .before .before .before .before .shared-slice-known .given k)) (c .before .before .before .before .before .before .before .before .before .before .loop .i) (c .before .before .before .before .before .before .next-halt .result) (c .before .before .before .before .before .before .next-halt .ensures))) (c .before .before .put .last .1 .0) (c .before .before .put .result) (c .before .before .put .ensures .0) (c .before .before .put .ensures .1))
 
--- src/lib.rt:112:35
 read-unit-requires : tie.Need-read-unit-requires Inv-loop μ-loop
 read-unit-requires c κs = (omega arith, c .if1 .left)
 
--- src/lib.rt:112:27
 enum-known-n : tie.Need-enum-known-n Inv-loop μ-loop
 enum-known-n c = search needs
 
--- src/lib.rt:113:13
 enum-told : tie.Need-enum-told Inv-loop μ-loop
 enum-told c = search needs
 
--- src/lib.rt:113:13
 same-length-2 : tie.Need-same-length-2 Inv-loop μ-loop
 same-length-2 c = search needs
 
--- src/lib.rt:113:13
 returns-2 : tie.Need-returns-2 Inv-loop μ-loop
 returns-2 c = let s = from-stop (readStep InAscii) (c .before .before .before .before .before .before .before .before .before .args .text .now) (c .before .before .before .before .before .before .loop .i) (omega arith) (read-here (c .before .before .before .before .before .before .before .before .before .args .text .now) (c .before .before .before .before .before .before .loop .i) (c .before .before .read-unit .result) Nothing (c .before .before .read-unit .ensures) (c .enum-told .given .1) .1) in (counted-measures (c .before .before .before .before .before .before .loop .inv .0) 0 0 s (read-left (c .before .before .before .before .before .before .before .before .before .args .text .now)), filled-all (c .before .before .before .before .before .before .loop .inv .1) (ap result s) .1)
 
--- src/lib.rt:121:40
 sub-put-char : tie.Need-sub-put-char Inv-loop μ-loop
 sub-put-char c = search needs
 
--- src/lib.rt:121:40
 part-put-char-start : tie.Need-part-put-char-start Inv-loop μ-loop
 part-put-char-start c = search needs
 
--- src/lib.rt:121:40
 part-put-char-end : tie.Need-part-put-char-end Inv-loop μ-loop
 part-put-char-end c = search needs
 
--- src/lib.rt:121:15
 put-char-requires : tie.Need-put-char-requires Inv-loop μ-loop
 put-char-requires c κs = let w = read-within (c .before .before .before .before .before .before .before .before .before .before .before .args .text .now) (c .before .before .before .before .before .before .before .before .loop .i) (c .before .before .n .given .0 .0) (c .before .before .n .given .0 .1 .0) (omega arith) (read-here (c .before .before .before .before .before .before .before .before .before .before .before .args .text .now) (c .before .before .before .before .before .before .before .before .loop .i) (c .before .before .before .before .read-unit .result) (Taken (c .before .before .n .given .0 .0) (c .before .before .n .given .0 .1 .0)) (c .before .before .before .before .read-unit .ensures) (c .before .before .n .given .1)) in (w .3, filled-room (c .before .before .before .before .before .before .before .before .loop .inv .1) (next-swap (readStep InAscii) (c .before .before .before .before .before .before .before .before .before .before .before .args .text .now) (c .before .before .before .before .before .before .before .before .loop .i) (c .before .before .n .given .0 .0) (utf8 (c .before .before .n .given .0 .1 .0)) (w .0) (w .1) ((read-here (c .before .before .before .before .before .before .before .before .before .before .before .args .text .now) (c .before .before .before .before .before .before .before .before .loop .i) (c .before .before .before .before .read-unit .result) (Taken (c .before .before .n .given .0 .0) (c .before .before .n .given .0 .1 .0)) (c .before .before .before .before .read-unit .ensures) (c .before .before .n .given .1)) .0)))
 
--- src/lib.rt:121:9
 add-at-2 : tie.Need-add-at-2 Inv-loop μ-loop
 add-at-2 c = let w = read-within (c .before .before .before .before .before .before .before .before .before .before .before .before .before .before .args .text .now) (c .before .before .before .before .before .before .before .before .before .before .before .loop .i) (c .before .before .before .before .before .n .given .0 .0) (c .before .before .before .before .before .n .given .0 .1 .0) (omega arith) (read-here (c .before .before .before .before .before .before .before .before .before .before .before .before .before .before .args .text .now) (c .before .before .before .before .before .before .before .before .before .before .before .loop .i) (c .before .before .before .before .before .before .before .read-unit .result) (Taken (c .before .before .before .before .before .n .given .0 .0) (c .before .before .before .before .before .n .given .0 .1 .0)) (c .before .before .before .before .before .before .before .read-unit .ensures) (c .before .before .before .before .before .n .given .1)) in omega (arith, c .before .before .put-char .ensures .0, filled-next (c .before .before .before .before .before .before .before .before .before .before .before .loop .inv .1) (next-swap (readStep InAscii) (c .before .before .before .before .before .before .before .before .before .before .before .before .before .before .args .text .now) (c .before .before .before .before .before .before .before .before .before .before .before .loop .i) (c .before .before .before .before .before .n .given .0 .0) (utf8 (c .before .before .before .before .before .n .given .0 .1 .0)) (w .0) (w .1) ((read-here (c .before .before .before .before .before .before .before .before .before .before .before .before .before .before .args .text .now) (c .before .before .before .before .before .before .before .before .before .before .before .loop .i) (c .before .before .before .before .before .before .before .read-unit .result) (Taken (c .before .before .before .before .before .n .given .0 .0) (c .before .before .before .before .before .n .given .0 .1 .0)) (c .before .before .before .before .before .before .before .read-unit .ensures) (c .before .before .before .before .before .n .given .1)) .0)))
 
--- src/lib.rt:122:9
 add-read : tie.Need-add-read Inv-loop μ-loop
 add-read c = search needs
 
--- src/lib.rt:123:9
 add-i : tie.Need-add-i Inv-loop μ-loop
 add-i c = let w = read-within (c .before .before .before .before .before .before .before .before .before .before .before .before .before .before .args .text .now) (c .before .before .before .before .before .before .before .before .before .before .before .loop .i) (c .before .before .before .before .before .n .given .0 .0) (c .before .before .before .before .before .n .given .0 .1 .0) (omega arith) (read-here (c .before .before .before .before .before .before .before .before .before .before .before .before .before .before .args .text .now) (c .before .before .before .before .before .before .before .before .before .before .before .loop .i) (c .before .before .before .before .before .before .before .read-unit .result) (Taken (c .before .before .before .before .before .n .given .0 .0) (c .before .before .before .before .before .n .given .0 .1 .0)) (c .before .before .before .before .before .before .before .read-unit .ensures) (c .before .before .before .before .before .n .given .1)) in omega (arith, w .1)
 
--- src/lib.rt:96:5
 loop-less-2 : tie.Need-loop-less-2 Inv-loop μ-loop
 loop-less-2 c = let w = read-within (c .before .before .before .before .before .before .before .before .before .before .before .before .before .before .args .text .now) (c .before .before .before .before .before .before .before .before .before .before .before .loop .i) (c .before .before .before .before .before .n .given .0 .0) (c .before .before .before .before .before .n .given .0 .1 .0) (omega arith) (read-here (c .before .before .before .before .before .before .before .before .before .before .before .before .before .before .args .text .now) (c .before .before .before .before .before .before .before .before .before .before .before .loop .i) (c .before .before .before .before .before .before .before .read-unit .result) (Taken (c .before .before .before .before .before .n .given .0 .0) (c .before .before .before .before .before .n .given .0 .1 .0)) (c .before .before .before .before .before .before .before .read-unit .ensures) (c .before .before .before .before .before .n .given .1)) in omega (arith, w .0, w .1)
 
--- src/lib.rt:96:5
 loop-again-2 : tie.Need-loop-again-2 Inv-loop μ-loop
 loop-again-2 c = let w = read-within (c .before .before .before .before .before .before .before .before .before .before .before .before .before .before .args .text .now) (c .before .before .before .before .before .before .before .before .before .before .before .loop .i) (c .before .before .before .before .before .n .given .0 .0) (c .before .before .before .before .before .n .given .0 .1 .0) (omega arith) (read-here (c .before .before .before .before .before .before .before .before .before .before .before .before .before .before .args .text .now) (c .before .before .before .before .before .before .before .before .before .before .before .loop .i) (c .before .before .before .before .before .before .before .read-unit .result) (Taken (c .before .before .before .before .before .n .given .0 .0) (c .before .before .before .before .before .n .given .0 .1 .0)) (c .before .before .before .before .before .before .before .read-unit .ensures) (c .before .before .before .before .before .n .given .1)) in
     (rw (c .before .before .put-char .ensures .0) (counted-swap (c .before .before .before .before .before .before .before .before .before .before .before .loop .inv .0) (c .before .before .before .before .before .n .given .0 .0) (utf8 (c .before .before .before .before .before .n .given .0 .1 .0)) (w .0) (w .1) (w .2) ((read-here (c .before .before .before .before .before .before .before .before .before .before .before .before .before .before .args .text .now) (c .before .before .before .before .before .before .before .before .before .before .before .loop .i) (c .before .before .before .before .before .before .before .read-unit .result) (Taken (c .before .before .before .before .before .n .given .0 .0) (c .before .before .before .before .before .n .given .0 .1 .0)) (c .before .before .before .before .before .before .before .read-unit .ensures) (c .before .before .before .before .before .n .given .1)) .0)), filled-put (c .before .before .before .before .before .before .before .before .before .before .before .loop .inv .1) (next-swap (readStep InAscii) (c .before .before .before .before .before .before .before .before .before .before .before .before .before .before .args .text .now) (c .before .before .before .before .before .before .before .before .before .before .before .loop .i) (c .before .before .before .before .before .n .given .0 .0) (utf8 (c .before .before .before .before .before .n .given .0 .1 .0)) (w .0) (w .1) ((read-here (c .before .before .before .before .before .before .before .before .before .before .before .before .before .before .args .text .now) (c .before .before .before .before .before .before .before .before .before .before .before .loop .i) (c .before .before .before .before .before .before .before .read-unit .result) (Taken (c .before .before .before .before .before .n .given .0 .0) (c .before .before .before .before .before .n .given .0 .1 .0)) (c .before .before .before .before .before .before .before .read-unit .ensures) (c .before .before .before .before .before .n .given .1)) .0)) (c .before .before .put-char .last .1 .0) (c .before .before .put-char .result) (c .before .before .put-char .ensures .0) (c .before .before .put-char .ensures .1))
 
--- src/lib.rt:89:1
 same-length-3 : tie.Need-same-length-3 Inv-loop μ-loop
 same-length-3 c = search needs
 
--- src/lib.rt:89:1
 returns-3 : tie.Need-returns-3 Inv-loop μ-loop
 returns-3 c = let s = from-end (readStep InAscii) (c .before .before .before .before .args .text .now) (c .before .loop .i) (omega arith) in (counted-measures (c .before .loop .inv .0) 0 0 s (read-left (c .before .before .before .before .args .text .now)), filled-all (c .before .loop .inv .1) (ap result s) .1)
 

@@ -8,49 +8,36 @@ use Rattle.encode_ascii.proofs.Parts.{first-part, rest-part}
 use Rattle.base.proofs.Filled.{filled-put}
 use Rattle.base.proofs.Counted.{filled-all}
 use lib.ListN.{length-append}
-use mathlib.Core.Path.{_≡_, refl, sym, ap, _∙_, subst}
+use mathlib.Core.Path.{refl}
 use native.Mathlib.Omega.{arith}
 use borrow.Author.Needs.{needs}
 use Rattle.encode_ascii.proofs.characters.put_open.Statement.{statement}
 use Rattle.encode_ascii.proofs.characters.put_open.Tie as tie
-use Rattle.encode_ascii.proofs.characters.put_open.Reads as reads
-use Rattle.encode_ascii.proofs.characters.put_open.Lts as lts
-use Rattle.base.proofs.put.Reads as put-reads
-use Rattle.names_written.proofs.put_name.Reads as put-name-reads
 
--- src/characters.rt:103:24
 slice-aggregate-put : tie.Need-slice-aggregate-put
 slice-aggregate-put c = search needs
 
--- src/characters.rt:103:9
 put-requires : tie.Need-put-requires
 put-requires c κs = search needs
 
--- src/characters.rt:104:40
 sub-put-name : tie.Need-sub-put-name
 sub-put-name c = search needs
 
--- src/characters.rt:104:40
 part-put-name-start : tie.Need-part-put-name-start
 part-put-name-start c = search needs
 
--- src/characters.rt:104:40
 part-put-name-end : tie.Need-part-put-name-end
 part-put-name-end c = search needs
 
--- src/characters.rt:104:10
 put-name-requires : tie.Need-put-name-requires
 put-name-requires c κs = search needs
 
--- src/characters.rt:104:5
 add-result : tie.Need-add-result
 add-result c = search needs
 
--- src/characters.rt:99:1
 same-length : tie.Need-same-length
 same-length c = search needs
 
--- src/characters.rt:99:1
 returns : tie.Need-returns
 returns c = let w = ascii "&" in
     let d = given (nameOf (utf8 (c .before .before .before .before .before .before .before .before .before .before .args .code))) in

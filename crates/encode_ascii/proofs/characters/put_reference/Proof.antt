@@ -11,30 +11,21 @@ use Prim.Native.Nat.{ℕ}
 use Rattle.base.proofs.Filled.{filled-put}
 use Rattle.base.proofs.Counted.{filled-all}
 use lib.ListN.{length, length-append}
-use mathlib.Core.Path.{_≡_, refl, sym, ap, _∙_, subst}
+use mathlib.Core.Path.{_≡_, refl, ap, _∙_}
 use native.Mathlib.Omega.{arith}
 use borrow.Author.Needs.{needs}
 use Rattle.encode_ascii.proofs.characters.put_reference.Statement.{statement}
 use Rattle.encode_ascii.proofs.characters.put_reference.Tie as tie
-use Rattle.encode_ascii.proofs.characters.put_reference.Reads as reads
-use Rattle.encode_ascii.proofs.characters.put_reference.Lts as lts
-use Rattle.base.proofs.put.Reads as put-reads
-use Rattle.encode_ascii.proofs.characters.put_number.Reads as put-number-reads
-use Rattle.encode_ascii.proofs.characters.put_open.Reads as put-open-reads
 
--- src/characters.rt:112:9
 put-open-requires : tie.Need-put-open-requires
 put-open-requires c κs = search needs
 
--- src/characters.rt:114:9
 put-number-requires : tie.Need-put-number-requires
 put-number-requires c κs = search needs
 
--- src/characters.rt:114:9
 same-length : tie.Need-same-length
 same-length c = search needs
 
--- src/characters.rt:114:9
 returns : tie.Need-returns
 returns c = let code = c .before .before .before .before .before .before .before .before .before .before .args .code in
     let w = (ascii "&#x" ++ numeral hexDigit 16 6 code) ++ ascii ";" in
@@ -43,35 +34,27 @@ returns c = let code = c .before .before .before .before .before .before .before
     let p = c .before .before .put-number .ensures .0 in
     ((p .0 ∙ ap length e, p .1 ∙ ap (λ (out : List ℕ). over w out) (c .before .before .before .before .before .before .before .put-open .ensures .0 .1) ∙ over-empty w (given (nameOf (utf8 code))) (c .before .before .before .before .before .before .before .before .before .before .args .room .now) z (omega (arith, length-append (ascii "&#x" ++ numeral hexDigit 16 6 code) (ascii ";"))) ∙ ap (λ (v : List ℕ). over v (c .before .before .before .before .before .before .before .before .before .before .args .room .now)) e), c .before .before .put-number .ensures .1)
 
--- src/characters.rt:116:20
 slice-aggregate-put : tie.Need-slice-aggregate-put
 slice-aggregate-put c = search needs
 
--- src/characters.rt:116:26
 sub-put : tie.Need-sub-put
 sub-put c = search needs
 
--- src/characters.rt:116:26
 part-put-start : tie.Need-part-put-start
 part-put-start c = search needs
 
--- src/characters.rt:116:26
 part-put-end : tie.Need-part-put-end
 part-put-end c = search needs
 
--- src/characters.rt:116:10
 put-requires : tie.Need-put-requires
 put-requires c κs = search needs
 
--- src/characters.rt:116:5
 add-result : tie.Need-add-result
 add-result c = search needs
 
--- src/characters.rt:108:1
 same-length-2 : tie.Need-same-length-2
 same-length-2 c = search needs
 
--- src/characters.rt:108:1
 returns-2 : tie.Need-returns-2
 returns-2 c = let w = ascii "&" ++ given (nameOf (utf8 (c .before .before .before .before .before .before .before .before .before .before .before .args .code))) in
     let d = ascii ";" in

@@ -5,131 +5,97 @@ use native.Mathlib.Omega.{arith}
 use borrow.Author.Needs.{needs}
 use Rattle.encode_ascii.proofs.characters.read.Statement.{statement}
 use Rattle.encode_ascii.proofs.characters.read.Tie as tie
-use Rattle.encode_ascii.proofs.characters.read.Reads as reads
-use Rattle.encode_ascii.proofs.characters.read.Lts as lts
-use Rattle.encode_ascii.proofs.characters.low_bits.Reads as low-bits-reads
 
--- src/characters.rt:33:16
 shared-slice-read-lead : tie.Need-shared-slice-read-lead
 shared-slice-read-lead c = search needs
 
--- src/characters.rt:34:32
 add-low-bits : tie.Need-add-low-bits
 add-low-bits c = search needs
 
--- src/characters.rt:34:27
 shared-slice-read-low-bits : tie.Need-shared-slice-read-low-bits
 shared-slice-read-low-bits c = let h = text-at (c .before .before .before .args .text .now) (c .before .before .before .args .at) (c .before .before .before .pre .0) (c .before .before .before .pre .1) (c .before .before .before .pre .2) in h .second .0
 
--- src/characters.rt:34:9
 low-bits-requires : tie.Need-low-bits-requires
 low-bits-requires c κs = let h = text-at (c .before .before .before .args .text .now) (c .before .before .before .args .at) (c .before .before .before .pre .0) (c .before .before .before .pre .1) (c .before .before .before .pre .2) in h .second .1
 
--- src/characters.rt:37:20
 cast-t12 : tie.Need-cast-t12
 cast-t12 c = search needs
 
--- src/characters.rt:37:20
 sub-t13 : tie.Need-sub-t13
 sub-t13 c = let h = text-at (c .before .before .before .before .before .args .text .now) (c .before .before .before .before .before .args .at) (c .before .before .before .before .before .pre .0) (c .before .before .before .before .before .pre .1) (c .before .before .before .before .before .pre .2) in omega (arith, h .least (c .if1 .taken))
 
--- src/characters.rt:37:19
 mul-t14 : tie.Need-mul-t14
 mul-t14 c = search needs
 
--- src/characters.rt:37:19
 add-t15 : tie.Need-add-t15
 add-t15 c = let h = text-at (c .before .before .before .before .before .args .text .now) (c .before .before .before .before .before .args .at) (c .before .before .before .before .before .pre .0) (c .before .before .before .before .before .pre .1) (c .before .before .before .before .before .pre .2) in omega (arith, h .second .2, c .before .low-bits .ensures, c .if1 .taken)
 
--- src/characters.rt:36:9
 returns : tie.Need-returns
 returns c = let h = text-at (c .before .before .before .before .before .args .text .now) (c .before .before .before .before .before .args .at) (c .before .before .before .before .before .pre .0) (c .before .before .before .before .before .pre .1) (c .before .before .before .before .before .pre .2) in h .reads-two (c .if1 .taken) _ (omega (arith, c .before .low-bits .ensures, h .second .1))
 
--- src/characters.rt:41:31
 add-low-bits-2 : tie.Need-add-low-bits-2
 add-low-bits-2 c = search needs
 
--- src/characters.rt:41:26
 shared-slice-read-low-bits-2 : tie.Need-shared-slice-read-low-bits-2
 shared-slice-read-low-bits-2 c = let h = text-at (c .before .before .before .before .before .before .args .text .now) (c .before .before .before .before .before .before .args .at) (c .before .before .before .before .before .before .pre .0) (c .before .before .before .before .before .before .pre .1) (c .before .before .before .before .before .before .pre .2) in h .third (c .before .if1 .left) .0
 
--- src/characters.rt:41:9
 low-bits-requires-2 : tie.Need-low-bits-requires-2
 low-bits-requires-2 c κs = let h = text-at (c .before .before .before .before .before .before .args .text .now) (c .before .before .before .before .before .before .args .at) (c .before .before .before .before .before .before .pre .0) (c .before .before .before .before .before .before .pre .1) (c .before .before .before .before .before .before .pre .2) in h .third (c .before .if1 .left) .1
 
--- src/characters.rt:44:20
 cast-t17 : tie.Need-cast-t17
 cast-t17 c = search needs
 
--- src/characters.rt:44:20
 sub-t18 : tie.Need-sub-t18
 sub-t18 c = search needs
 
--- src/characters.rt:44:19
 mul-t19 : tie.Need-mul-t19
 mul-t19 c = search needs
 
--- src/characters.rt:44:49
 mul-t20 : tie.Need-mul-t20
 mul-t20 c = let h = text-at (c .before .before .before .before .before .before .before .before .args .text .now) (c .before .before .before .before .before .before .before .before .args .at) (c .before .before .before .before .before .before .before .before .pre .0) (c .before .before .before .before .before .before .before .before .pre .1) (c .before .before .before .before .before .before .before .before .pre .2) in omega (arith, h .second .2, c .before .before .before .before .low-bits .ensures)
 
--- src/characters.rt:44:19
 add-t21 : tie.Need-add-t21
 add-t21 c = let h = text-at (c .before .before .before .before .before .before .before .before .args .text .now) (c .before .before .before .before .before .before .before .before .args .at) (c .before .before .before .before .before .before .before .before .pre .0) (c .before .before .before .before .before .before .before .before .pre .1) (c .before .before .before .before .before .before .before .before .pre .2) in omega (arith, h .second .2, c .before .before .before .before .low-bits .ensures, c .if2 .taken)
 
--- src/characters.rt:44:19
 add-t22 : tie.Need-add-t22
 add-t22 c = let h = text-at (c .before .before .before .before .before .before .before .before .args .text .now) (c .before .before .before .before .before .before .before .before .args .at) (c .before .before .before .before .before .before .before .before .pre .0) (c .before .before .before .before .before .before .before .before .pre .1) (c .before .before .before .before .before .before .before .before .pre .2) in omega (arith, h .second .2, h .third (c .before .before .before .if1 .left) .2, c .before .before .before .before .low-bits .ensures, c .before .low-bits2 .ensures, c .if2 .taken)
 
--- src/characters.rt:43:9
 returns-2 : tie.Need-returns-2
 returns-2 c = let h = text-at (c .before .before .before .before .before .before .before .before .args .text .now) (c .before .before .before .before .before .before .before .before .args .at) (c .before .before .before .before .before .before .before .before .pre .0) (c .before .before .before .before .before .before .before .before .pre .1) (c .before .before .before .before .before .before .before .before .pre .2) in h .reads-three (c .before .before .before .if1 .left) (c .if2 .taken) _ (omega (arith, c .before .before .before .before .low-bits .ensures, c .before .low-bits2 .ensures, h .second .1, h .third (c .before .before .before .if1 .left) .1))
 
--- src/characters.rt:48:32
 add-low-bits-3 : tie.Need-add-low-bits-3
 add-low-bits-3 c = search needs
 
--- src/characters.rt:48:27
 shared-slice-read-low-bits-3 : tie.Need-shared-slice-read-low-bits-3
 shared-slice-read-low-bits-3 c = let h = text-at (c .before .before .before .before .before .before .before .before .before .args .text .now) (c .before .before .before .before .before .before .before .before .before .args .at) (c .before .before .before .before .before .before .before .before .before .pre .0) (c .before .before .before .before .before .before .before .before .before .pre .1) (c .before .before .before .before .before .before .before .before .before .pre .2) in h .fourth (c .before .if2 .left) .0
 
--- src/characters.rt:48:9
 low-bits-requires-3 : tie.Need-low-bits-requires-3
 low-bits-requires-3 c κs = let h = text-at (c .before .before .before .before .before .before .before .before .before .args .text .now) (c .before .before .before .before .before .before .before .before .before .args .at) (c .before .before .before .before .before .before .before .before .before .pre .0) (c .before .before .before .before .before .before .before .before .before .pre .1) (c .before .before .before .before .before .before .before .before .before .pre .2) in h .fourth (c .before .if2 .left) .1
 
--- src/characters.rt:50:16
 cast-t24 : tie.Need-cast-t24
 cast-t24 c = omega (arith, c .before .before .before .before .before .before .before .before .shared-slice-known2 .given (c .before .before .before .before .before .before .before .before .before .before .args .at))
 
--- src/characters.rt:50:16
 sub-t25 : tie.Need-sub-t25
 sub-t25 c = search needs
 
--- src/characters.rt:50:15
 mul-t26 : tie.Need-mul-t26
 mul-t26 c = let h = text-at (c .before .before .before .before .before .before .before .before .before .before .args .text .now) (c .before .before .before .before .before .before .before .before .before .before .args .at) (c .before .before .before .before .before .before .before .before .before .before .pre .0) (c .before .before .before .before .before .before .before .before .before .before .pre .1) (c .before .before .before .before .before .before .before .before .before .before .pre .2) in omega (arith, h .fourth (c .before .before .if2 .left) .3)
 
--- src/characters.rt:50:47
 mul-t27 : tie.Need-mul-t27
 mul-t27 c = let h = text-at (c .before .before .before .before .before .before .before .before .before .before .args .text .now) (c .before .before .before .before .before .before .before .before .before .before .args .at) (c .before .before .before .before .before .before .before .before .before .before .pre .0) (c .before .before .before .before .before .before .before .before .before .before .pre .1) (c .before .before .before .before .before .before .before .before .before .before .pre .2) in omega (arith, h .second .2, c .before .before .before .before .before .before .low-bits .ensures)
 
--- src/characters.rt:50:15
 add-t28 : tie.Need-add-t28
 add-t28 c = let h = text-at (c .before .before .before .before .before .before .before .before .before .before .args .text .now) (c .before .before .before .before .before .before .before .before .before .before .args .at) (c .before .before .before .before .before .before .before .before .before .before .pre .0) (c .before .before .before .before .before .before .before .before .before .before .pre .1) (c .before .before .before .before .before .before .before .before .before .before .pre .2) in omega (arith, h .second .2, c .before .before .before .before .before .before .low-bits .ensures, h .fourth (c .before .before .if2 .left) .3)
 
--- src/characters.rt:50:63
 mul-t29 : tie.Need-mul-t29
 mul-t29 c = let h = text-at (c .before .before .before .before .before .before .before .before .before .before .args .text .now) (c .before .before .before .before .before .before .before .before .before .before .args .at) (c .before .before .before .before .before .before .before .before .before .before .pre .0) (c .before .before .before .before .before .before .before .before .before .before .pre .1) (c .before .before .before .before .before .before .before .before .before .before .pre .2) in omega (arith, h .third (c .before .before .before .before .before .if1 .left) .2, c .before .before .before .low-bits2 .ensures)
 
--- src/characters.rt:50:15
 add-t30 : tie.Need-add-t30
 add-t30 c = let h = text-at (c .before .before .before .before .before .before .before .before .before .before .args .text .now) (c .before .before .before .before .before .before .before .before .before .before .args .at) (c .before .before .before .before .before .before .before .before .before .before .pre .0) (c .before .before .before .before .before .before .before .before .before .before .pre .1) (c .before .before .before .before .before .before .before .before .before .before .pre .2) in omega (arith, h .second .2, h .third (c .before .before .before .before .before .if1 .left) .2, c .before .before .before .before .before .before .low-bits .ensures, c .before .before .before .low-bits2 .ensures, h .fourth (c .before .before .if2 .left) .3)
 
--- src/characters.rt:50:15
 add-t31 : tie.Need-add-t31
 add-t31 c = let h = text-at (c .before .before .before .before .before .before .before .before .before .before .args .text .now) (c .before .before .before .before .before .before .before .before .before .before .args .at) (c .before .before .before .before .before .before .before .before .before .before .pre .0) (c .before .before .before .before .before .before .before .before .before .before .pre .1) (c .before .before .before .before .before .before .before .before .before .before .pre .2) in omega (arith, h .second .2, h .third (c .before .before .before .before .before .if1 .left) .2, h .fourth (c .before .before .if2 .left) .2, c .before .before .before .before .before .before .low-bits .ensures, c .before .before .before .low-bits2 .ensures, c .low-bits3 .ensures, h .fourth (c .before .before .if2 .left) .3)
 
--- src/characters.rt:29:1
 returns-3 : tie.Need-returns-3
 returns-3 c = let h = text-at (c .before .before .before .before .before .before .before .before .before .before .args .text .now) (c .before .before .before .before .before .before .before .before .before .before .args .at) (c .before .before .before .before .before .before .before .before .before .before .pre .0) (c .before .before .before .before .before .before .before .before .before .before .pre .1) (c .before .before .before .before .before .before .before .before .before .before .pre .2) in h .reads-four (c .before .before .if2 .left) _ (omega (arith, c .before .before .before .before .before .before .low-bits .ensures, c .before .before .before .low-bits2 .ensures, c .low-bits3 .ensures, h .second .1, h .third (c .before .before .before .before .before .if1 .left) .1, h .fourth (c .before .before .if2 .left) .1))
 

@@ -8,69 +8,51 @@ use Rattle.base.proofs.Part.{part-length}
 use Rattle.names_written.proofs.Named.{tied-at}
 use Rattle.names_written.proofs.place.put_named.Statement.{statement}
 use Rattle.names_written.proofs.place.put_named.Tie as tie
-use Rattle.names_written.proofs.place.put_named.Reads as reads
-use Rattle.names_written.proofs.place.put_named.Lts as lts
-use Rattle.base.proofs.put.Reads as put-reads
 
--- src/place.rt:18:15
 sub-at : tie.Need-sub-at
 sub-at c = search needs
 
--- src/place.rt:18:14
 cast-at : tie.Need-cast-at
 cast-at c = search needs
 
--- src/place.rt:19:13
 mul-a : tie.Need-mul-a
 mul-a c = search needs
 
--- src/place.rt:19:13
 shared-slice-read-a : tie.Need-shared-slice-read-a
 shared-slice-read-a c = search needs
 
--- src/place.rt:19:13
 cast-a : tie.Need-cast-a
 cast-a c = omega (arith, c .shared-slice-known3 .given (c .before .before .before .before .args .code - c .before .before .before .before .args .low))
 
--- src/place.rt:20:21
 add-e : tie.Need-add-e
 add-e c = search needs
 
--- src/place.rt:20:13
 mul-e : tie.Need-mul-e
 mul-e c = search needs
 
--- src/place.rt:20:13
 shared-slice-read-e : tie.Need-shared-slice-read-e
 shared-slice-read-e c = search needs
 
--- src/place.rt:20:13
 cast-e : tie.Need-cast-e
 cast-e c = omega (arith, c .shared-slice-known4 .given (c .before .before .before .before .before .args .code - c .before .before .before .before .before .args .low + 1))
 
--- src/place.rt:21:15
 sub-put : tie.Need-sub-put
 sub-put c = (tied-at (c .before .before .before .before .before .args .low) (c .before .before .before .before .before .args .bytes .now) (c .before .before .before .before .before .args .offsets .now) (c .before .before .before .before .before .args .code) (c .before .before .before .before .before .pre .4) (c .before .before .before .before .before .pre .0) (c .before .before .before .before .before .pre .1) (c .before .before .before .before .before .pre .2)) .forward
 
--- src/place.rt:21:15
 part-put-start : tie.Need-part-put-start
 part-put-start c = (tied-at (c .before .before .before .before .before .args .low) (c .before .before .before .before .before .args .bytes .now) (c .before .before .before .before .before .args .offsets .now) (c .before .before .before .before .before .args .code) (c .before .before .before .before .before .pre .4) (c .before .before .before .before .before .pre .0) (c .before .before .before .before .before .pre .1) (c .before .before .before .before .before .pre .2)) .forward
 
--- src/place.rt:21:15
 part-put-end : tie.Need-part-put-end
 part-put-end c = (tied-at (c .before .before .before .before .before .args .low) (c .before .before .before .before .before .args .bytes .now) (c .before .before .before .before .before .args .offsets .now) (c .before .before .before .before .before .args .code) (c .before .before .before .before .before .pre .4) (c .before .before .before .before .before .pre .0) (c .before .before .before .before .before .pre .1) (c .before .before .before .before .before .pre .2)) .inside-bytes
 
--- src/place.rt:21:5
 put-requires : tie.Need-put-requires
 put-requires c κs =
     let t = (tied-at (c .before .before .before .before .before .before .before .args .low) (c .before .before .before .before .before .before .before .args .bytes .now) (c .before .before .before .before .before .before .before .args .offsets .now) (c .before .before .before .before .before .before .before .args .code) (c .before .before .before .before .before .before .before .pre .4) (c .before .before .before .before .before .before .before .pre .0) (c .before .before .before .before .before .before .before .pre .1) (c .before .before .before .before .before .before .before .pre .2)) in
     omega (arith, part-length (c .before .before .before .before .before .before .before .args .bytes .now) (getD (c .before .before .before .before .before .before .before .args .offsets .now) (c .before .before .before .before .before .before .before .args .code - c .before .before .before .before .before .before .before .args .low) 0) (getD (c .before .before .before .before .before .before .before .args .offsets .now) (c .before .before .before .before .before .before .before .args .code - c .before .before .before .before .before .before .before .args .low + 1) 0) (t .forward) (t .inside-bytes), t .short, c .before .before .before .before .before .before .before .pre .3)
 
--- src/place.rt:14:1
 same-length : tie.Need-same-length
 same-length c = search needs
 
--- src/place.rt:14:1
 returns : tie.Need-returns
 returns c =
     let a = c .before .before .before .before .before .before .before .before .before .before .args in

@@ -8,7 +8,6 @@ use Rattle.names_written.specs.Ties.{isTied}
 use Rattle.names_written.proofs.Named.{in-table, in-unicode}
 use Rattle.names_written.proofs.table.from_2002.Statement.{statement}
 use Rattle.names_written.proofs.table.from_2002.Tie as tie
-use Rattle.names_written.proofs.place.put_named.Reads as put-named-reads
 
 slice-aggregate-put-named : tie.Need-slice-aggregate-put-named
 slice-aggregate-put-named c = refl

@@ -10,52 +10,37 @@ use mathlib.Core.Path.{_≡_, refl, sym, ap, _∙_, subst}
 use borrow.Author.Needs.{needs}
 use Rattle.read_ascii.proofs.units.exact_unit.Statement.{statement}
 use Rattle.read_ascii.proofs.units.exact_unit.Tie as tie
-use Rattle.read_ascii.proofs.units.exact_unit.Reads as reads
-use Rattle.read_ascii.proofs.units.exact_unit.Lts as lts
-use Rattle.base.proofs.prefix.starts.Reads as starts-reads
-use Rattle.read_ascii.proofs.units.put_unit.Reads as put-unit-reads
 
--- src/units.rt:83:28
 slice-aggregate-put-unit : tie.Need-slice-aggregate-put-unit
 slice-aggregate-put-unit c = search needs
 
--- src/units.rt:83:9
 put-unit-requires : tie.Need-put-unit-requires
 put-unit-requires c κs = search needs
 
--- src/units.rt:85:9
 returns : tie.Need-returns
 returns c = inl (sym (c .before .before .put-unit .ensures .0 .0) ∙ c .if1 .taken)
 
--- src/units.rt:87:29
 array-share-prefix-room : tie.Need-array-share-prefix-room
 array-share-prefix-room c = search needs
 
--- src/units.rt:87:29
 slice-aggregate-starts : tie.Need-slice-aggregate-starts
 slice-aggregate-starts c = c .before .before .before .put-unit .ensures .0 .0 ∙ sym (ap length (put-holds (unitFor (c .before .before .before .before .before .before .args .code)) _ (c .before .before .before .put-unit .last .1 .0) (c .before .before .before .put-unit .result) (c .before .before .before .put-unit .ensures .0 .0) (c .before .before .before .put-unit .ensures .0 .1)))
 
--- src/units.rt:87:41
 sub-starts : tie.Need-sub-starts
 sub-starts c = search needs
 
--- src/units.rt:87:41
 part-starts-start : tie.Need-part-starts-start
 part-starts-start c = search needs
 
--- src/units.rt:87:41
 part-starts-end : tie.Need-part-starts-end
 part-starts-end c = search needs
 
--- src/units.rt:87:8
 starts-requires : tie.Need-starts-requires
 starts-requires c κs = search needs
 
--- src/units.rt:88:9
 returns-2 : tie.Need-returns-2
 returns-2 c = (refl, c .before .before .before .before .before .before .put-unit .ensures .0 .0, c .before .before .before .before .if1 .left, (λ i. stands (sym (put-holds (unitFor (c .before .before .before .before .before .before .before .before .before .args .code)) _ (c .before .before .before .before .before .before .put-unit .last .1 .0) (c .before .before .before .before .before .before .put-unit .result) (c .before .before .before .before .before .before .put-unit .ensures .0 .0) (c .before .before .before .before .before .before .put-unit .ensures .0 .1)) i) (sym (lent-rest (c .before .before .before .before .before .before .before .before .before .args .at) (c .before .before .before .before .before .before .before .before .before .args .text .now)) i)) ∙ sym (c .before .starts .ensures) ∙ c .if2 .taken)
 
--- src/units.rt:78:1
 returns-3 : tie.Need-returns-3
 returns-3 c = inr ((λ i. stands (sym (put-holds (unitFor (c .before .before .before .before .before .before .before .before .before .args .code)) _ (c .before .before .before .before .before .before .put-unit .last .1 .0) (c .before .before .before .before .before .before .put-unit .result) (c .before .before .before .before .before .before .put-unit .ensures .0 .0) (c .before .before .before .before .before .before .put-unit .ensures .0 .1)) i) (sym (lent-rest (c .before .before .before .before .before .before .before .before .before .args .at) (c .before .before .before .before .before .before .before .before .before .args .text .now)) i)) ∙ sym (c .before .starts .ensures) ∙ c .if2 .left)
 

@@ -5,18 +5,13 @@ use mathlib.Core.Path.{_≡_, refl, sym, ap, _∙_, subst}
 use borrow.Author.Tests.{le-leb, lt-leb}
 use Rattle.read_ascii.proofs.units.is_scalar.Statement.{statement}
 use Rattle.read_ascii.proofs.units.is_scalar.Tie as tie
-use Rattle.read_ascii.proofs.units.is_scalar.Reads as reads
-use Rattle.read_ascii.proofs.units.is_scalar.Lts as lts
 
--- src/units.rt:69:9
 returns : tie.Need-returns
 returns c = rw (lt-leb (c .before .args .code) 0x10FFFF (c .if1 .taken)) refl
 
--- src/units.rt:72:9
 returns-2 : tie.Need-returns-2
 returns-2 c = rw (le-leb (c .before .before .args .code) 0x10FFFF (c .before .if1 .left), lt-leb 0xD800 (c .before .before .args .code) (c .if2 .taken)) refl
 
--- src/units.rt:65:1
 returns-3 : tie.Need-returns-3
 returns-3 c = scalar-high (c .before .before .args .code) (c .before .if1 .left) (c .if2 .left)
 

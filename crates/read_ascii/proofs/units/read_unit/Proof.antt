@@ -9,57 +9,39 @@ use mathlib.Core.Path.{_≡_, refl, sym, ap, _∙_, subst}
 use borrow.Author.Needs.{needs}
 use Rattle.read_ascii.proofs.units.read_unit.Statement.{statement}
 use Rattle.read_ascii.proofs.units.read_unit.Tie as tie
-use Rattle.read_ascii.proofs.units.read_unit.Reads as reads
-use Rattle.read_ascii.proofs.units.read_unit.Lts as lts
-use Rattle.decode_html.proofs.characters.put_value.Reads as put-value-reads
-use Rattle.decode_html.proofs.entity.find_decoded_entity.Reads as find-decoded-entity-reads
-use Rattle.read_ascii.proofs.units.code_of.Reads as code-of-reads
-use Rattle.read_ascii.proofs.units.exact_unit.Reads as exact-unit-reads
-use Rattle.read_ascii.proofs.units.is_scalar.Reads as is-scalar-reads
 
--- src/units.rt:98:35
 find-decoded-entity-requires : tie.Need-find-decoded-entity-requires
 find-decoded-entity-requires c κs = (c .before .pre .0, c .before .pre .1)
 
--- src/units.rt:98:26
 enum-known-found : tie.Need-enum-known-found
 enum-known-found c = search needs
 
--- src/units.rt:99:9
 returns : tie.Need-returns
 returns c =
     let s = c .before .before .before in
     left-read (s .args .text .now) (s .args .at) (s .pre .0) (s .pre .1) (c .before .find-decoded-entity .result) (λ e q. miss (1 ∷ 2 ∷ []) 0 tt (rw q at (c .match .keys2))) (c .before .find-decoded-entity .ensures)
 
--- src/units.rt:103:47
 slice-aggregate-put-value : tie.Need-slice-aggregate-put-value
 slice-aggregate-put-value c = search needs
 
--- src/units.rt:103:5
 put-value-requires : tie.Need-put-value-requires
 put-value-requires c κs = (subst (Lies (c .before .before .before .before .before .before .args .text .now) (c .before .before .before .before .before .before .args .at)) (c .before .before .found .given .1) (c .before .before .before .before .find-decoded-entity .ensures .lies) .3, omega (arith, value-six (c .before .before .found .given .0 .0 .value)))
 
--- src/units.rt:104:24
 slice-aggregate-code-of : tie.Need-slice-aggregate-code-of
 slice-aggregate-code-of c = sym (c .before .before .put-value .kept .1 .0)
 
--- src/units.rt:104:9
 code-of-requires : tie.Need-code-of-requires
 code-of-requires c κs = omega (arith, c .before .before .put-value .kept .1 .0)
 
--- src/units.rt:105:8
 is-scalar-requires : tie.Need-is-scalar-requires
 is-scalar-requires c κs = search needs
 
--- src/units.rt:106:9
 exact-unit-requires : tie.Need-exact-unit-requires
 exact-unit-requires c κs = (scalar-top (c .before .before .code-of .result) (sym (c .before .is-scalar .ensures) ∙ c .if1 .taken), omega (arith, c .before .before .before .before .before .before .before .before .before .before .before .before .pre .0))
 
--- src/units.rt:106:9
 returns-2 : tie.Need-returns-2
 returns-2 c = exact-read (c .before .before .before .before .before .before .before .before .before .before .before .before .before .args .text .now) (c .before .before .before .before .before .before .before .before .before .before .before .before .before .args .at) (c .before .before .before .before .before .before .before .before .before .before .before .before .before .pre .0) (c .before .before .before .before .before .before .before .before .before .before .before .before .before .pre .1) (c .before .before .before .before .before .before .before .before .before .before .before .find-decoded-entity .result) (c .before .before .before .before .before .before .before .before .before .found .given .0 .0) (c .before .before .before .before .before .before .before .before .before .before .before .find-decoded-entity .ensures) (c .before .before .before .before .before .before .before .before .before .found .given .1) (c .before .before .before .before .before .before .put-value .last .1 .0) _ (c .before .before .before .before .before .before .put-value .ensures .1) (c .before .before .before .code-of .result) (c .before .before .before .code-of .ensures .0) (sym (c .before .before .is-scalar .ensures) ∙ c .before .if1 .taken) (c .exact-unit .result) (c .exact-unit .ensures)
 
--- src/units.rt:94:1
 returns-3 : tie.Need-returns-3
 returns-3 c = odd-read (c .before .before .before .before .before .before .before .before .before .before .before .before .args .text .now) (c .before .before .before .before .before .before .before .before .before .before .before .before .args .at) (c .before .before .before .before .before .before .before .before .before .before .before .before .pre .0) (c .before .before .before .before .before .before .before .before .before .before .before .before .pre .1) (c .before .before .before .before .before .before .before .before .before .before .find-decoded-entity .result) (c .before .before .before .before .before .before .before .before .found .given .0 .0) (c .before .before .before .before .before .before .before .before .before .before .find-decoded-entity .ensures) (c .before .before .before .before .before .before .before .before .found .given .1) (c .before .before .before .before .before .put-value .last .1 .0) _ (c .before .before .before .before .before .put-value .ensures .1) (c .before .before .code-of .result) (c .before .before .code-of .ensures .0) (sym (c .before .is-scalar .ensures) ∙ c .if1 .left)
 
