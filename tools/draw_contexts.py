@@ -27,6 +27,8 @@ NOWHERE = [
     (['<script>if (', ('TEXT', NONE), ')</script>'], 'script outside a string'),
     (['<style>.', ('TEXT', NONE), ' { .. }</style>'], 'CSS outside a string'),
     (['<', ('TEXT', NONE), ' ', ('TEXT', NONE), '=".."> <!-- ', ('TEXT', NONE), ' -->'], 'names of tags and attributes, comments'),
+    (['<div>', ('<b>TEXT</b>', NONE), '</div>'], 'a fragment of HTML: safe is no sanitizer, it shows tags as text'),
+    (['<input value=', ('', NONE), ' disabled>'], 'an empty text in unquoted takes what follows as its value: write quotes'),
 ]
 WIDE, HIGH, LEFT, CODE, LABELS, SIZE = 1120, 31, 22, 8.1, 770, 13.5
 

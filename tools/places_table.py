@@ -1,13 +1,9 @@
 #!/usr/bin/env python3
-"""Which context goes where: reads the table of crates/contained/specs/Matrix.antt, and prints it for the papers.
-
-    tools/places_table.py             as a table of Markdown, for README.md
-    tools/places_table.py --rust      the same in the documentation of rust/src/lib.rs
-    tools/places_table.py --header    as plain text, for the comment of include/lintelrye.h
-    tools/places_table.py --write     puts each of them in its place between the two lines that mark it
+"""Which context goes where: reads the table of crates/contained/specs/Matrix.antt, and prints it as a table of Markdown, for README.md.
 
 tools/check_papers compares what stands there with what this prints; browser/run has Chromium judge every cell.
 """
+import argparse
 import os
 import re
 import sys
@@ -150,11 +146,18 @@ def write():
             file.write('\n'.join(parts[0] + [blank[paper]] + shown() + [blank[paper]] + parts[2]))
 
 
-if __name__ == '__main__':
-    words = sys.argv[1:]
-    if words == ['--write']:
+def main():
+    usage = argparse.ArgumentParser(prog='tools/places_table.py', description=__doc__, formatter_class=argparse.RawDescriptionHelpFormatter)
+    form = usage.add_mutually_exclusive_group()
+    form.add_argument('--rust', action='store_const', dest='paper', const='rust/src/lib.rs', help='the same in the documentation of rust/src/lib.rs')
+    form.add_argument('--header', action='store_const', dest='paper', const='include/lintelrye.h', help='as plain text, for the comment of include/lintelrye.h')
+    form.add_argument('--write', action='store_true', help='put each of them in its place, between the two lines that mark it')
+    given = usage.parse_args()
+    if given.write:
         write()
-    elif words in ([], ['--rust'], ['--header']):
-        print('\n'.join(PAPERS[{'': 'README.md', '--rust': 'rust/src/lib.rs', '--header': 'include/lintelrye.h'}[''.join(words)]]()))
     else:
-        sys.exit('usage: tools/places_table.py [--rust | --header | --write]')
+        print('\n'.join(PAPERS[given.paper or 'README.md']()))
+
+
+if __name__ == '__main__':
+    main()

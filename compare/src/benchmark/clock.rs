@@ -1,5 +1,6 @@
 //! Measuring: four passes over the same texts, in rounds that interleave them, and the median of each.
 
+use crate::others::Medians;
 use crate::texts::{Case, Kind, FORTY};
 use compare::browser::Browser;
 use compare::{check, closing_tag, fill_page, parts, Answer, Call, Closing, Field, Filled, Operation, ToVec};
@@ -32,6 +33,8 @@ pub struct Row {
     pub checked: f64,
     /// A copy of the text.
     pub copied: f64,
+    /// Other libraries, where they were timed.
+    pub others: Medians,
     /// How far apart the quartiles of ours and of the checked crate are, as a part of the median (the larger one).
     pub spread: f64,
 }
@@ -169,7 +172,7 @@ pub fn measure(case: Case, rooms: &mut Rooms, effort: &Effort) -> Row {
     let part = |i: usize, quarters: usize| times[i][(times[i].len() - 1) * quarters / 4];
     let spread = |i: usize| (part(i, 3) - part(i, 1)) / part(i, 2);
     let spread = spread(0).max(spread(2));
-    Row { limit: case.limit(), case, ours: part(0, 2), alone: part(1, 2), checked: part(2, 2), copied: part(3, 2), spread }
+    Row { limit: case.limit(), case, ours: part(0, 2), alone: part(1, 2), checked: part(2, 2), copied: part(3, 2), others: [None; 2], spread }
 }
 
 pub type Pass<'a> = Box<dyn FnMut() + 'a>;

@@ -50,5 +50,5 @@ pub fn count(case: Case, rooms: &mut Rooms, counter: &Counter) -> Row {
     }
     drop(passes);
     let [ours, alone, checked, copied] = counts;
-    Row { limit: None, case, ours, alone, checked, copied, spread: 0.0 }
+    Row { limit: None, case, ours, alone, checked, copied, others: [None; 2], spread: 0.0 }
 }

@@ -2,6 +2,7 @@
 
 use crate::clock::{Effort, Row};
 use crate::machine::machine;
+use crate::others::OTHERS;
 use crate::report::{above, besides, classes, each_once, escaped, families, highest, worst, worst_beside};
 use crate::texts::{Case, Kind};
 
@@ -17,6 +18,7 @@ pub fn times(rows: &[Row], facts: &[(&str, String)], effort: &Effort) -> String 
     text += &limits(rows);
     text += &format!("\n## Worst ratio by class\n\nOurs over crate + utf8. Bold is above the limit; `take`, `check` and script_raw by parts have none.\n\n{}", matrix(rows));
     text += &beside(rows);
+    text += &others(rows);
     text += "\n![The worst ratio of each family of contexts, by class](benchmarks.svg)\n";
     text + &lines(rows)
 }
@@ -92,6 +94,7 @@ of the text. Before a line is measured, the results of both sides are compared b
 | crate | the function of html-escape that ends in `_to_vec`, into a vector that is cleared and keeps its capacity |
 | crate + utf8 | the same after `std::str::from_utf8`: the library takes bytes and checks them in every call, the crate takes text that was checked before |
 | memcpy | a copy of the text |
+| Go, Node | other libraries, each in a process of its own: see below |
 
 The limits are about ours over crate + utf8: below 1 the library is faster. The borrowing call, which writes nothing where nothing is replaced, is held
 beside the same function of the crate as the copying one. `take`, `check` and `browse` have no counterpart in the crate: `take` and `check` are held
@@ -185,6 +188,48 @@ fn beside_copying(rows: &[Row], of_kind: impl Fn(&Case) -> bool, title: &str) ->
     text
 }
 
+/// Ours beside the other libraries: what does the same job, and the worst ratio of each family in each class.
+fn others(rows: &[Row]) -> String {
+    let mut columns = Vec::new();
+    for family in families(rows) {
+        for (k, other) in OTHERS.iter().enumerate() {
+            let lines: Vec<&Row> = rows.iter().filter(|row| row.case.family() == family && row.others[k].is_some()).collect();
+            if !lines.is_empty() {
+                columns.push((format!("{}: {}", family, other), k, lines));
+            }
+        }
+    }
+    let names: Vec<&str> = columns.iter().map(|(name, _, _)| name.as_str()).collect();
+    let mut text = format!("{}| | {} |\n|---{}|\n", BESIDE_OTHERS, names.join(" | "), "|---".repeat(names.len()));
+    for class in classes(rows) {
+        let ratio = |k: usize, row: &Row| Some(row.ours / row.others[k]?);
+        let worst = |k: usize, lines: &[&Row]| lines.iter().filter(|row| row.case.class == class).filter_map(|row| ratio(k, row)).reduce(f64::max);
+        let cell = |worst: Option<f64>| worst.map_or(String::new(), |worst| format!("{:.2}", worst));
+        let cells: Vec<String> = columns.iter().map(|(_, k, lines)| cell(worst(*k, lines))).collect();
+        if cells.iter().any(|cell| !cell.is_empty()) {
+            text += &format!("| {} | {} |\n", escaped(class), cells.join(" | "));
+        }
+    }
+    text
+}
+
+const BESIDE_OTHERS: &str = "
+## Beside Go's html and Node's entities
+
+Ours over theirs, on the same texts, in the worst of the contexts: below 1 the library is faster. Each of the two ran in a process of its own, before ours, and its
+figure is processor time of that process, with what its garbage collector takes. It stands where the results are the same: of decode and browse byte for byte; of encode, where some
+references are written in another way, if there are as many and a browser reads the text from them. Go's functions and ours get bytes; ours alone checks that they are UTF-8. Node's get strings
+that were made of them before, and a result can be a chain of pieces that V8 has still to join. Where nothing is replaced, Go gives back the string that it got, as our borrowing calls do.
+
+| our call | Go, package html | Node, package entities |
+|---|---|---|
+| encode, `text` | | `escapeText`: the same bytes (it would replace U+00A0 too, which is in none of the texts) |
+| encode, `quoted` | `EscapeString`: the same five characters, two of them as `&#34;` and `&#39;` | `escapeUTF8`: the same five characters, one of them as `&apos;` |
+| decode, HTML | `UnescapeString` | `decodeHTMLStrict` |
+| browse, `text` | `UnescapeString` | `decodeHTML` |
+
+";
+
 /// A ratio, bold where it is above its limit.
 fn marked(row: &Row) -> String {
     let bold = if row.above() { "**" } else { "" };
@@ -194,13 +239,15 @@ fn marked(row: &Row) -> String {
 /// Every row.
 fn lines(rows: &[Row]) -> String {
     let mut text = String::from("\n## Every line\n\nMedians in nanoseconds per byte, then ours over each of the others.\n\n");
-    text += "| | context | class | ours | crate | crate + utf8 | memcpy | over crate | over crate + utf8 | over memcpy |\n";
-    text += "|---|---|---|---|---|---|---|---|---|---|\n";
+    text += "| | context | class | ours | crate | crate + utf8 | memcpy | Go | Node | over crate | over crate + utf8 | over memcpy | over Go | over Node |\n";
+    text += "|---|---|---|---|---|---|---|---|---|---|---|---|---|---|\n";
     for row in rows {
         let place = format!("{} | {} | {}", row.case.family(), row.case.place(), escaped(row.case.class));
         let medians = format!("{:.3} | {:.3} | {:.3} | {:.3}", row.ours, row.alone, row.checked, row.copied);
         let ratios = format!("{:.2} | {} | {:.1}", row.ours / row.alone, marked(row), row.ours / row.copied);
-        text += &format!("| {} | {} | {} |\n", place, medians, ratios);
+        let [go, node] = row.others.map(|other| other.map_or(String::new(), |other| format!("{:.3}", other)));
+        let [over_go, over_node] = row.others.map(|other| other.map_or(String::new(), |other| format!("{:.2}", row.ours / other)));
+        text += &format!("| {} | {} | {} | {} | {} | {} | {} |\n", place, medians, go, node, ratios, over_go, over_node);
     }
     text
 }

@@ -7,13 +7,23 @@ use std::process::Command;
 pub fn facts(root: &str, counted: bool) -> Vec<(&'static str, String)> {
     let emulator = || format!("none: {} executes the x86-64 code, on {}", first_line(said("qemu-x86_64", &["--version"])), machine());
     let size = size(&format!("{}/target/staticlib/liblintelrye_c.a", root));
-    vec![
+    let mut facts = vec![
         ("processor", if counted { emulator() } else { format!("{} ({})", processor(), machine()) }),
         ("date", said("date", &["-u", "+%Y-%m-%d"])),
         ("the crate", format!("html-escape 0.3.0, compiled by {} in cargo's release profile with opt-level 3", rustc())),
         ("the library", library(counted || machine() == "x86_64")),
         ("the archive", format!("x86-64 code, which `rt staticlib lintelrye_c` writes, by {}; {}; {}", said("rt", &["version"]), size, stack(root))),
-    ]
+    ];
+    if !counted {
+        let (go, node) = (said("go", &["version"]), said("node", &["--version"]));
+        facts.push(("the others", format!("the package html of {}; the package entities {} of node {}", go, entities(), node)));
+    }
+    facts
+}
+
+/// Returns the version of Debian's node-entities.
+fn entities() -> String {
+    said("node", &["-p", "require('/usr/share/nodejs/entities/package.json').version"])
 }
 
 /// Returns the kind of the machine that runs this, or runs the emulator.

@@ -1,6 +1,7 @@
 //! What the benchmark prints: a line for each row, and the worst ratios. Also what the document and the picture ask of the rows.
 
 use crate::clock::Row;
+use crate::others::OTHERS;
 use crate::texts::{Case, Kind};
 use compare::{call, Operation};
 
@@ -20,7 +21,8 @@ pub fn line(row: &Row) -> String {
     };
     let medians = format!("{:6.3}  {:6.3} {:6.3}  {:6.3}", row.ours, row.alone, row.checked, row.copied);
     let ratios = format!("{:6.2} {:6.2}  {:6.1}", row.ours / row.alone, row.ratio(), row.ours / row.copied);
-    format!("{:39} {:14} {}   {}{}", place, case.class, medians, ratios, mark)
+    let others = OTHERS.iter().zip(row.others).filter_map(|(name, other)| other.map(|other| format!("  {} {:.3}, over it {:.2}", name, other, row.ours / other)));
+    format!("{:39} {:14} {}   {}{}{}", place, case.class, medians, ratios, others.collect::<String>(), mark)
 }
 
 /// The worst ratio of each family in each class, as lines of text; where there are limits, how many rows are above theirs.

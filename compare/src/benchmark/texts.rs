@@ -126,6 +126,7 @@ impl Case {
             (Operation::Encode, JSON, _) => "encode json",
             (Operation::Encode, ASCII_QUOTED, _) => "encode ascii_quoted",
             (Operation::Encode, _, _) => "encode script_raw",
+            (Operation::Decode, 0..=6, Kind::Borrowing) => "decode HTML, borrowing",
             (Operation::Decode, 0..=6, _) => "decode HTML",
             (Operation::Decode, 7..=9, _) => "decode script strings",
             (Operation::Decode, JSON, _) => "decode json",
@@ -140,6 +141,7 @@ impl Case {
             (Operation::Read, JSON, _) => "take json",
             (Operation::Read, ASCII_QUOTED, _) => "take ascii_quoted",
             (Operation::Read, _, _) => "take style strings",
+            (Operation::Browse, _, Kind::Borrowing) => "browse, borrowing",
             (Operation::Browse, _, _) => "browse",
         }
     }
@@ -226,6 +228,8 @@ pub fn cases() -> Vec<Case> {
     add(Operation::Read, Kind::Copying, &[0, 1, 2, 3, 4, 5, 6, 7, 8, 9, 10, 11, 12, JSON, ASCII_QUOTED]);
     add(Operation::Read, Kind::Check, &[0, 1, 2, 3, 4, 5, 6, 7, 8, 9, 10, 11, 12, JSON, ASCII_QUOTED]);
     add(Operation::Browse, Kind::Copying, &[1]);
+    add(Operation::Decode, Kind::Borrowing, &[1]);
+    add(Operation::Browse, Kind::Borrowing, &[1]);
     add(Operation::Encode, Kind::Parts, &[13]);
     all.extend([page_case(Kind::Singly), page_case(Kind::Page)]);
     all.extend(closing_cases());

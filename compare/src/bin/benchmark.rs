@@ -1,8 +1,8 @@
 //! Compares the library's speed with the crate's, both sides in one process.
-//!   compare/run benchmark [--crate PATH] [--quick] [--only WORD] [--instructions] [--texts PATH] [--write]
-//! --quick takes fewer rounds; --only takes the lines whose operation, context or class holds WORD; --texts writes their texts to a file and measures
-//! nothing; --write writes docs/BENCHMARKS.md and its
-//! picture. --instructions counts the instructions of the x86-64 code under an emulator and times nothing; with --write it writes
+//!   compare/run benchmark [--crate PATH] [--quick] [--only WORD] [--others] [--instructions] [--texts PATH] [--write]
+//! --quick takes fewer rounds; --only takes the lines whose operation, context or class holds WORD; --others also times Go's html and Node's entities where
+//! they do the same job, each in a process of its own; --texts writes the texts of the lines to a file and measures nothing; --write writes
+//! docs/BENCHMARKS.md with the others and its picture. --instructions counts the instructions of the x86-64 code under an emulator and times nothing; with --write it writes
 //! docs/INSTRUCTIONS.md. Each line of the table is an operation in a context on texts of a class. Both sides must give the same bytes there; where
 //! they do not, it ends with status 1.
 
@@ -14,6 +14,8 @@ mod count;
 mod document;
 #[path = "../benchmark/machine.rs"]
 mod machine;
+#[path = "../benchmark/others.rs"]
+mod others;
 #[path = "../benchmark/picture.rs"]
 mod picture;
 #[path = "../benchmark/report.rs"]
@@ -34,6 +36,8 @@ struct Options {
     write: Option<String>,
     /// The counter, where instructions are counted and nothing is timed.
     counter: Option<Counter>,
+    /// The repository, where other libraries are timed too.
+    others: Option<String>,
 }
 
 fn main() {
@@ -48,16 +52,21 @@ fn main() {
 
 /// The words on the command line.
 fn options() -> Options {
-    let words = Words::read("benchmark", &["--quick", "--instructions", "--write"], &["--only", "--texts"]);
+    let words = Words::read("benchmark", &["--quick", "--others", "--instructions", "--write"], &["--only", "--texts"]);
     let quick = words.value("--quick").is_some();
     let effort = if quick { Effort { rounds: 7, round: Duration::from_millis(1) } } else { Effort { rounds: 21, round: Duration::from_millis(2) } };
-    let root = || std::env::var("LINTELRYE_ROOT").unwrap_or_else(|_| stop("--write works only through compare/run"));
+    let root = || std::env::var("LINTELRYE_ROOT").unwrap_or_else(|_| stop("--write and --others work only through compare/run"));
+    let timed = words.value("--instructions").is_none();
     let options = Options {
         effort,
         only: words.value("--only").unwrap_or_default().to_string(),
         write: words.value("--write").map(|_| root()),
         counter: words.value("--instructions").map(|_| Counter::open().unwrap_or_else(|why| stop(&why))),
+        others: words.value("--others").or(words.value("--write").filter(|_| timed)).map(|_| root()),
     };
+    if options.others.is_some() && !timed {
+        stop("--others are timed, so it cannot be combined with --instructions");
+    }
     if let Some(path) = words.value("--texts") {
         let cases = texts::cases().into_iter().filter(|case| case.name().contains(&options.only));
         let text: String = cases.flat_map(|case| case.texts).collect();
@@ -79,16 +88,22 @@ fn stop(words: &str) -> ! {
 fn rows(options: &Options) -> Vec<Row> {
     let mut rooms = Rooms::new();
     let mut rows = Vec::new();
+    let cases: Vec<_> = texts::cases().into_iter().filter(|case| case.name().contains(&options.only)).collect();
+    let others = match &options.others {
+        Some(root) => others::measure(&cases, &options.effort, root).unwrap_or_else(|why| stop(&why)),
+        None => vec![[None; 2]; cases.len()],
+    };
     println!("{}", report::head(if options.counter.is_some() { "instructions" } else { "ns" }));
-    for case in texts::cases().into_iter().filter(|case| case.name().contains(&options.only)) {
+    for (case, others) in cases.into_iter().zip(others) {
         if let Err(difference) = clock::compare(&case, &mut rooms) {
             println!("different: {}", difference);
             exit(1);
         }
-        let row = match &options.counter {
+        let mut row = match &options.counter {
             Some(counter) => count::count(case, &mut rooms, counter),
             None => clock::measure(case, &mut rooms, &options.effort),
         };
+        row.others = others;
         println!("{}", report::line(&row));
         rows.push(row);
     }
