@@ -130,7 +130,7 @@ enum lintelrye_context {
 };
 
 /* The statuses. What to do about each refusal:
- *   TOO_LONG        cut the text, at the end of a character; for raw script use the calls for parts
+ *   TOO_LONG        cut the text, at the end of a character (to undo escaping: not within a reference or escape); for raw script use the calls for parts
  *   NOT_UTF8        the text is no UTF-8: convert it from its encoding, or leave it out; `place` says where it goes wrong
  *   CUT_SHORT       read on: the text ends within a character; or cut it at `place`
  *   NO_ROOM         call again with `length` bytes of output, or leave this text out

@@ -9,12 +9,12 @@ use std::{env, fs};
 
 const ARCHIVE: &str = "liblintelrye_c.a";
 
-/// What cargo or the caller says in a variable; empty where nothing is said.
+/// Returns what cargo or the caller says in a variable; empty where nothing is said.
 fn said(variable: &str) -> String {
     env::var(variable).unwrap_or_default()
 }
 
-/// The number that an object file has for the target's processor (ELF's e_machine), if there is an archive for the target.
+/// Returns the number that an object file has for the target's processor (ELF's e_machine), if there is an archive for the target.
 fn machine(arch: &str) -> Result<u8, String> {
     let elf = !matches!(said("CARGO_CFG_TARGET_OS").as_str(), "windows" | "macos" | "ios" | "uefi" | "wasi");
     let fits = elf && said("CARGO_CFG_TARGET_POINTER_WIDTH") == "64" && said("CARGO_CFG_TARGET_ENDIAN") == "little";
@@ -25,7 +25,7 @@ fn machine(arch: &str) -> Result<u8, String> {
     }
 }
 
-/// Whether a file, or a file in a folder, is newer than a time.
+/// Reports whether a file, or a file in a folder, is newer than a time.
 fn is_newer(path: &Path, time: SystemTime) -> bool {
     match fs::read_dir(path) {
         Ok(entries) => entries.flatten().any(|entry| is_newer(&entry.path(), time)),
@@ -33,7 +33,7 @@ fn is_newer(path: &Path, time: SystemTime) -> bool {
     }
 }
 
-/// The folder that has to have the archive, and what makes it; stops at one that is older than the library's sources.
+/// Returns the folder that has to have the archive, and what makes it; or why not, where the archive is older than the library's sources.
 fn folder(arch: &str) -> Result<(PathBuf, String), String> {
     let given = said("LINTELRYE_ARCHIVE_DIR");
     if !given.is_empty() {
@@ -61,12 +61,12 @@ fn folder(arch: &str) -> Result<(PathBuf, String), String> {
     }
 }
 
-/// Whether bytes hold a sequence of bytes.
+/// Reports whether bytes hold a sequence of bytes.
 fn has(bytes: &[u8], part: &[u8]) -> bool {
     bytes.windows(part.len()).any(|window| window == part)
 }
 
-/// The folder of an archive for the target and of this crate's version; or why there is none.
+/// Finds the folder of an archive for the target and of this crate's version; or says why there is none.
 fn find() -> Result<PathBuf, String> {
     let arch = said("CARGO_CFG_TARGET_ARCH");
     let machine = machine(&arch)?;

@@ -10,7 +10,7 @@ pub const TEXT_LIMIT: usize = 65_536;
 /// The most fields that a page takes.
 pub const FIELD_LIMIT: usize = 256;
 
-/// The length of an output that is enough to encode every text of `n` bytes, in every context but [`Context::AsciiQuoted`].
+/// Returns the length of an output that is enough to encode every text of `n` bytes, in every context but [`Context::AsciiQuoted`].
 ///
 /// ```
 /// let mut line = [0; lintelrye::encoded_at_most(11)];
@@ -22,7 +22,7 @@ pub const fn encoded_at_most(n: usize) -> usize {
     n.saturating_mul(6)
 }
 
-/// The length of an output that is enough to encode every text of `n` bytes in [`Context::AsciiQuoted`]: 22 bytes for 3.
+/// Returns the length of an output that is enough to encode every text of `n` bytes in [`Context::AsciiQuoted`]: 22 bytes for 3.
 ///
 /// ```
 /// let mut line = [0; lintelrye::ascii_encoded_at_most(3)];
@@ -34,8 +34,8 @@ pub const fn ascii_encoded_at_most(n: usize) -> usize {
     n.saturating_mul(7).saturating_add(n / 3)
 }
 
-/// The length of an output that is enough to decode or browse every text of `n` bytes. To [`take`] one, `n` bytes are enough, and [`check`]
-/// tells how many it needs.
+/// Returns the length of an output that is enough to decode or browse every text of `n` bytes. To [`take`] one, `n` bytes are enough, and
+/// [`check`] tells how many it needs.
 ///
 /// ```
 /// let mut line = [0; lintelrye::decoded_at_most(5)];
@@ -50,7 +50,7 @@ pub const fn decoded_at_most(n: usize) -> usize {
 ///
 /// | refusal | what to do |
 /// |---|---|
-/// | `TooLong` | cut the text, at the end of a character; for raw script use a [`ScriptEncoder`](crate::ScriptEncoder) |
+/// | `TooLong` | cut the text, at the end of a character (to undo escaping: not within a reference or escape); for raw script use a [`ScriptEncoder`](crate::ScriptEncoder) |
 /// | `NotUtf8` | convert the text from its encoding, or leave it out |
 /// | `CutShort` | read on: the text ends within a character; or cut it at `place` |
 /// | `NoRoom` | call again with `needed` bytes, or leave the text out |
@@ -176,17 +176,17 @@ fn left(answer: Answer) -> Option<Left> {
 }
 
 impl<'a> Written<'a> {
-    /// The result: the part of the buffer that was written, or from a borrowing call that replaced nothing the text itself.
+    /// Returns the result: the part of the buffer that was written, or from a borrowing call that replaced nothing the text itself.
     pub fn as_str(self) -> &'a str {
         self.result
     }
 
-    /// Whether nothing was replaced, so that the result is the text.
+    /// Returns whether nothing was replaced, so that the result is the text.
     pub fn is_same(self) -> bool {
         self.replaced == 0
     }
 
-    /// How many places were replaced: characters by [`encode`] and [`take`], references or escapes by [`decode`] and [`browse`].
+    /// Returns how many places were replaced: characters by [`encode`] and [`take`], references or escapes by [`decode`] and [`browse`].
     ///
     /// ```
     /// let mut line = [0; 64];
@@ -198,7 +198,7 @@ impl<'a> Written<'a> {
         self.replaced
     }
 
-    /// The first reference that [`decode`] left as it stands, with its place in the text and the reason; [`browse`] tells none.
+    /// Returns the first reference that [`decode`] left as it stands, with its place in the text and the reason; [`browse`] tells none.
     ///
     /// ```
     /// use lintelrye::{Left, Reason};
@@ -366,13 +366,13 @@ operation! {
 pub use raw::Field;
 
 impl Field {
-    /// A field that asks for the context of its place and for a part of the text, and has no result yet.
+    /// Makes a field that asks for the context of its place and for a part of the text, and has no result yet.
     pub const fn new(context: Context, start: usize, length: usize) -> Field {
         let answer = Answer { status: raw::NOT_FILLED, length: 0, same: 0, replaced: 0, place: 0, left: 0, reason: 0 };
         Field { context: context as u32, start: start as u64, length: length as u64, begins: 0, answer }
     }
 
-    /// The field's result, in the output that the page was filled into, or its refusal. `None` if it has none there: no page was filled with it, or the page stopped
+    /// Returns the field's result, in the output that the page was filled into, or its refusal. `None` if it has none there: no page was filled with it, or the page stopped
     /// before it, or this is another output.
     pub fn result<'a>(&self, output: &'a [u8]) -> Option<Result<Written<'a>, Refusal>> {
         let rest = if self.begins <= output.len() as u64 { output.get(self.begins as usize..) } else { None };

@@ -129,7 +129,7 @@ extern "C" {
     fn lintelrye_check(context: u32, text: *const u8, text_length: usize) -> Checked;
 }
 
-/// `lintelrye_check`, see [`crate::check`].
+/// Makes the call `lintelrye_check`, see [`crate::check`].
 pub fn check(context: u32, text: &[u8]) -> Checked {
     // SAFETY: the text can be read for its length. That is all that the call requires.
     unsafe { lintelrye_check(context, text.as_ptr(), text.len()) }
@@ -140,7 +140,7 @@ extern "C" {
     fn lintelrye_fill_page_7(fields: *mut Field, count: usize, text: *const u8, text_length: usize, output: *mut u8, output_length: usize) -> Filled;
 }
 
-/// `lintelrye_fill_page`, see [`crate::fill_page`].
+/// Makes the call `lintelrye_fill_page`, see [`crate::fill_page`].
 pub fn fill_page(fields: &mut [Field], text: &[u8], output: &mut [u8]) -> Filled {
     // SAFETY: the text can be read, and the fields and the output read and written, for their lengths, and a mutable borrow overlaps no other borrow. Every
     // number is a value of each field's type. That is all that the call requires.
@@ -152,7 +152,7 @@ extern "C" {
     fn lintelrye_closing_tag(text: *const u8, text_length: usize) -> Closing;
 }
 
-/// `lintelrye_closing_tag`, see [`crate::closing_tag`].
+/// Makes the call `lintelrye_closing_tag`, see [`crate::closing_tag`].
 pub fn closing_tag(text: &[u8]) -> Closing {
     // SAFETY: the text can be read for its length, which is all that the call requires.
     unsafe { lintelrye_closing_tag(text.as_ptr(), text.len()) }
@@ -179,7 +179,7 @@ impl ScriptRaw {
         (held.as_mut_ptr() as *mut u8, numbers.as_mut_ptr())
     }
 
-    /// `lintelrye_script_raw_part`, see [`crate::ScriptEncoder::part`].
+    /// Makes the call `lintelrye_script_raw_part`, see [`crate::ScriptEncoder::part`].
     pub fn part(&mut self, text: &[u8], output: &mut [u8]) -> Answer {
         let (held, numbers) = self.arrays();
         // SAFETY: eight bytes and three numbers of the state can be read and written, as can the output, the text can be read, for their lengths, and mutable
@@ -187,7 +187,7 @@ impl ScriptRaw {
         unsafe { lintelrye_script_raw_part_7(held, numbers, text.as_ptr(), text.len(), output.as_mut_ptr(), output.len()) }
     }
 
-    /// `lintelrye_script_raw_finish`, see [`crate::ScriptEncoder::finish`].
+    /// Makes the call `lintelrye_script_raw_finish`, see [`crate::ScriptEncoder::finish`].
     pub fn finish(&mut self, output: &mut [u8]) -> Answer {
         let (held, numbers) = self.arrays();
         // SAFETY: as above, without a text.
