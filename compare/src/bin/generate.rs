@@ -415,7 +415,7 @@ fn damaged(list: &mut List) {
 }
 
 fn main() {
-    let options = Options::read("generate", &["--check"], &[]);
+    Options::read("generate", &[], &[]);
     let mut list = List { model: Model::new(), lines: String::new(), result: Vec::new(), counts: [[0; 17]; 4], turn: 0 };
     let sections = [characters, short_texts, names, bare_names, numbers, tags, sequences_of_bytes, lengths, json_strings, old_displays, refusals, damaged];
     for section in sections {
@@ -427,15 +427,8 @@ fn main() {
     list.lines.push_str(&format!("end {}\n", list.total()));
     let root = std::env::var_os("LINTELRYE_ROOT").expect("compare/run says where the repository is");
     let folder = PathBuf::from(root).join("crates/replay");
-    let check = options.value("--check").is_some();
     for (name, bytes) in [("stdin", &list.lines), ("stdout", &list.report())] {
-        let path = folder.join(name);
-        if !check {
-            std::fs::write(&path, bytes).unwrap_or_else(|error| options.stop(&format!("{} was not written: {}", path.display(), error)));
-        } else if std::fs::read(&path).map_or(true, |there| there != bytes.as_bytes()) {
-            println!("crates/replay/{} is not what would be written", name);
-            std::process::exit(1);
-        }
+        std::fs::write(folder.join(name), bytes).unwrap_or_else(|error| panic!("{} was not written: {}", folder.join(name).display(), error));
     }
-    println!("{} cases in {} bytes, {} crates/replay/stdin", list.total(), list.lines.len(), if check { "as in" } else { "written to" });
+    println!("{} cases in {} bytes, written to crates/replay/stdin", list.total(), list.lines.len());
 }
