@@ -33,17 +33,18 @@ take_target() {
     esac
 }
 
+apt_install() {
+    case $* in *:amd64*) dpkg --add-architecture amd64 ;; *:arm64*) dpkg --add-architecture arm64 ;; esac
+    apt-get update -qq && DEBIAN_FRONTEND=noninteractive apt-get install -y -qq --no-install-recommends "$@"
+}
+
 install() {
     what=$1
     shift
     command -v apt-get >/dev/null || stop "$what is missing, and so is apt-get, which would install the Debian packages $*"
     [ "$(id -u)" = 0 ] || stop "$what is missing: run $me as root, or install the Debian packages $* (of the architecture amd64 where a name ends in it)"
-    mkdir -p "$root/target"
     echo "$me: installing $* ($what)" >&2
-    {
-        case $* in *:amd64*) dpkg --add-architecture amd64 ;; *:arm64*) dpkg --add-architecture arm64 ;; esac
-        apt-get update -qq && DEBIAN_FRONTEND=noninteractive apt-get install -y -qq --no-install-recommends "$@"
-    } >"$root/target/apt.log" 2>&1 || {
+    shown "$root/target/apt.log" apt_install "$@" || {
         tail -n 5 "$root/target/apt.log" >&2
         stop "the Debian packages $* ($what) could not be installed; the whole log is target/apt.log"
     }

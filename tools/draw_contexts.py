@@ -1,12 +1,15 @@
 #!/usr/bin/env python3
 """Draws docs/contexts.svg: the source of a page, with the context of each place where a text goes, and the places that no context is for.
 
-The name on the page is  Mum & Dad's "den".  What stands in each place is what encode writes of it there. It takes a moment."""
+The name on the page is  Mum & Dad's "den".  What stands in each place is what encode writes of it there: --check has the library write it. It takes a moment;
+with --check it proves the library first where that is not proved (tools/archive)."""
 import argparse
 import os
+import sys
 from xml.sax.saxutils import escape
 
 ROOT = os.path.dirname(os.path.dirname(os.path.abspath(__file__)))
+NAME, SCRIPT_TEXT = 'Mum & Dad\'s "den"', 'document.write("</script>")'
 TEXT, ATTRIBUTE, SCRIPT, STYLE, BOTH, NONE = '#1b7f4d', '#2a66b8', '#8a4fbf', '#b06a00', '#0f6f85', '#b3261e'
 
 # A line of the page: pieces of source, where a piece with a colour is a text that was put there; and the contexts of these, each with its colour.
@@ -87,16 +90,37 @@ def picture():
     return '\n'.join(drawn + ['</svg>', ''])
 
 
+def written(library, label):
+    """Returns what the library writes for the place of a label."""
+    encode = lambda context, text: library.call('encode', context, [text.encode()])[0].decode()
+    if label == 'script_single, then double_quoted':
+        return encode('double_quoted', "call('%s')" % encode('script_single', NAME))
+    return encode(label, SCRIPT_TEXT if label == 'script_raw' else NAME)
+
+
+def differing():
+    """Returns the labels of the places that show something else than what the library writes there."""
+    sys.path.insert(0, os.path.join(ROOT, 'browser'))
+    sys.dont_write_bytecode = True
+    from library import linked
+    library = linked(os.path.join(ROOT, 'target', 'draw_contexts'))
+    places = [(piece[0], label) for pieces, labels in PAGE for piece, (label, _) in zip([piece for piece in pieces if isinstance(piece, tuple)], labels)]
+    return [label for shown, label in places if shown != written(library, label)]
+
+
 def main():
     usage = argparse.ArgumentParser(prog='tools/draw_contexts.py', description=__doc__, formatter_class=argparse.RawDescriptionHelpFormatter)
-    usage.add_argument('--check', action='store_true', help='write nothing; status 1 if docs/contexts.svg is not what would be written')
+    usage.add_argument('--check', action='store_true', help='write nothing; status 1 if docs/contexts.svg is not what would be written, or the library writes another text in a place')
     check, path = usage.parse_args().check, os.path.join(ROOT, 'docs', 'contexts.svg')
     if not check:
         with open(path, 'w', encoding='utf-8') as file:
             file.write(picture())
     elif not os.path.exists(path) or open(path, encoding='utf-8').read() != picture():
         print('tools/draw_contexts.py: docs/contexts.svg is not as drawn')
-        raise SystemExit(1)
+        sys.exit(1)
+    elif differing():
+        print('tools/draw_contexts.py: the library writes another text for %s' % '; '.join(differing()))
+        sys.exit(1)
     print('tools/draw_contexts.py: docs/contexts.svg is %s' % ('as drawn' if check else 'written'))
 
 
