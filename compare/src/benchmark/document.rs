@@ -220,6 +220,7 @@ Ours over theirs, on the same texts, in the worst of the contexts: below 1 the l
 figure is processor time of that process, with what its garbage collector takes. It stands where the results are the same: of decode and browse byte for byte; of encode, where some
 references are written in another way, if there are as many and a browser reads the text from them. Go's functions and ours get bytes; ours alone checks that they are UTF-8. Node's get strings
 that were made of them before, and a result can be a chain of pieces that V8 has still to join. Where nothing is replaced, Go gives back the string that it got, as our borrowing calls do.
+Go leaves `&nGt;` and `&nLt;` as they are, so that it has no figure where names of the whole table are undone.
 
 | our call | Go, package html | Node, package entities |
 |---|---|---|
