@@ -1,7 +1,7 @@
 #!/usr/bin/env python3
-"""Writes the number tables of the crates names_upper and names_lower from the readable entries of crates/rules/specs/Names.antt, that of names_bare from
-them and the names of Bare.antt, and those of names_written, by characters, the shortest name of each, and of several as short the first by bytes: the
-tables of the four crates, and the proof of each function that has one.
+"""Writes the number tables of the crates names_upper and names_lower from the readable entries of crates/rules/specs/Names.antt, the list of values of
+names_search, the choice by first letter in names, the table of names_bare from the entries and the names of Bare.antt, and the tables of names_written, by
+characters, the shortest name of each, and of several as short the first by bytes: the code and the proofs of it.
 
 Nothing rests on this script: the check of the crates compares every number with the entries. It takes a moment."""
 import argparse
@@ -13,12 +13,11 @@ ROOT = Path(__file__).resolve().parent.parent
 ENTRIES = ROOT / "crates/rules/specs/Names.antt"
 BARE = ROOT / "crates/rules/specs/Bare.antt"
 
-# The groups of each crate, by their first and last letters: few enough for the check, and small enough to be laid out anew at each look-up, of which the
-# largest is the deepest stack of the library.
-CRATES = {
-    "names_upper": ["AC", "DF", "GM", "NN", "OR", "SZ"],
-    "names_lower": ["aa", "bb", "cd", "eg", "hk", "ll", "mm", "nn", "oq", "rr", "ss", "tw", "xz"],
-}
+# A group has at most so many names, but for those with the same first two letters: it is laid out anew at each look-up, and searched name by name.
+LARGEST = 32
+
+# The letters of each crate.
+CRATES = {"names_upper": "ABCDEFGHIJKLMNOPQRSTUVWXYZ", "names_lower": "abcdefghijklmnopqrstuvwxyz"}
 
 # The ranges of characters of names_written, each from its first to its last character that has a name.
 RANGES = [
@@ -39,13 +38,16 @@ RANGES = [
 
 HEAD = """\
 // Made by tools/make_names.py from the entries of crates/rules/specs/Names.antt; not to be edited.
-// The names that begin with {case} letters, in groups by first letter. Each group is three number tables: the names' bytes one after the other,
-// where each name begins and the last one ends, and the values, each packed into one number, its first byte lowest.
+// The names that begin with {case} letters, a function for each letter, and in it groups by the second byte. Each group is three tables: the names one
+// after the other without their first letter, the length of each, and the numbers of their values (`codeBytes` in crates/names_search/specs/Lent.antt).
 ghost use mathlib.Core.Path.{{_≡_}};
-ghost use Rattle.rules.specs.Names.{{names}};
+ghost use mathlib.Core.List.{{_∷_}};
+ghost use Prim.Native.Nat.{{_≤_}};
+ghost use lib.ListN.{{getD}};
+ghost use Rattle.rules.specs.Names.{{{lists}}};
 ghost use Rattle.rules.specs.References.{{lookup}};
 ghost use Rattle.rules.specs.Answers.{{meaningBytes}};
-ghost use Rattle.names_search.specs.Starting.{{starting}};
+ghost use Rattle.names_search.specs.Seconds.{{seconds}};
 use rules::Meaning;
 """
 
@@ -82,15 +84,13 @@ BARE_WORDS = """\
 -- Made by tools/make_names.py from crates/rules/specs/Bare.antt and Names.antt; not to be edited.
 -- The names without `;` as numbers, each with the number of the character that it stands for, and the first two bytes of each. That they are those of the
 -- tables is computed (proofs/Words.antt). Assumes nothing.
-use mathlib.Core.Bool.{{cond}}
 use mathlib.Core.List.{{List, [], _∷_}}
 use Prim.Native.Nat.{{ℕ}}
-use lib.Dec.{{eqb}}
+use Rattle.names_search.specs.Pairs.{{beside}}
 
 -- The number beside n in a table of pairs, or 0 where it is in none.
 abbrev pub charFor : List (ℕ × ℕ) → ℕ → ℕ
-charFor [] n = 0
-charFor (pair ∷ pairs) n = cond (eqb n (pair .0)) (pair .1) (charFor pairs n)
+charFor pairs n = beside 0 pairs n
 
 -- The names.
 unfoldable pub words : List (ℕ × ℕ)
@@ -105,24 +105,24 @@ heads =
     ∷ []
 """
 
-BARE_PROOF = """\
--- `names_bare::table::character` meets its contract: each name is one arm, and a number of none of them stands for none.
+MATCH_PROOF = """\
+-- `{path}` meets its contract: each number of the table is one arm, and a number of none of them stands for none.
 -- Made by tools/make_names.py. Assumes nothing.
 use mathlib.Core.Path.{{sym}}
 use mathlib.Core.List.{{map}}
 use Prim.Native.Nat.{{ℕ}}
-use Rattle.names_bare.specs.Words.{{words}}
-use Rattle.names_bare.proofs.Arms.{{rest-none, char-out}}
-use Rattle.names_bare.proofs.table.character.Statement.{{statement}}
-use Rattle.names_bare.proofs.table.character.Tie as tie
+use {specs}.{{{table}}}
+use {arms_of}.{{rest-none, beside-out}}
+use {proofs}.Statement.{{statement}}
+use {proofs}.Tie as tie
 
 {arms}
 {rest} : tie.Need-{rest}
-unfolding words
-{rest} c = let n = c .before .args .word in sym (char-out words n (rest-none n _ (map (λ (pair : ℕ × ℕ). pair .0) words) (c .match .rest)))
+unfolding {table}
+{rest} c = let n = c .before .args .{argument} in sym (beside-out 0 {table} n (rest-none n _ (map (λ (pair : ℕ × ℕ). pair .0) {table}) (c .match .rest)))
 
-pub character-spec : {{M : Type 1}} → statement M
-character-spec =
+pub {spec}-spec : {{M : Type 1}} → statement M
+{spec}-spec =
     tie.close
     (tie.spec
 {names})
@@ -134,7 +134,7 @@ HEADS_PROOF = """\
 use mathlib.Core.Path.{{subst}}
 use lib.Dec.{{T}}
 use Rattle.names_bare.specs.Words.{{heads}}
-use Rattle.names_bare.proofs.Arms.{{rest-none}}
+use Rattle.names_search.proofs.Arms.{{rest-none}}
 use Rattle.names_bare.proofs.table.begins.Statement.{{statement}}
 use Rattle.names_bare.proofs.table.begins.Tie as tie
 
@@ -150,25 +150,21 @@ begins-spec =
 {names})
 """
 
-TABLES = """
+GROUP = """
 const {const}_NAMES: [u8; {size}] = *b"\\
 {names}";
 
-const {const}_OFFSETS: [u16; {places}] = [
-{offsets}
-];
+{lengths}
 
-const {const}_VALUES: [u64; {count}] = [
+const {const}_VALUES: [u16; {count}] = [
 {values}
 ];
-"""
 
-GROUP = TABLES + """
-// What `name` stands for among the names that begin with {letters}.
-pub fn {function}(name: &[u8]) -> Meaning
-    ensures {{ λ r. ⌜ meaningBytes r ≡ lookup (starting ({low}, {high}) names) (now (name .entry)) ⌝ }}
+// What `{letter}` and `rest` stand for{among}.
+{public}fn {function}(rest: &[u8]) -> Meaning
+    ensures {{ λ r. ⌜ meaningBytes r ≡ lookup {rows} (0x{first:X} ∷ now (rest .entry)) ⌝ }}
 {{
-    names_search::find(name, &{const}_NAMES, &{const}_OFFSETS, &{const}_VALUES)
+    names_search::find({arguments})
 }}
 """
 
@@ -212,7 +208,6 @@ use Rattle.names_written.specs.Ties.{{isTied}}
 use Rattle.names_written.proofs.Named.{{in-table, in-unicode}}
 use Rattle.names_written.proofs.table.{function}.Statement.{{statement}}
 use Rattle.names_written.proofs.table.{function}.Tie as tie
-use Rattle.names_written.proofs.place.put_named.Reads as put-named-reads
 
 slice-aggregate-put-named : tie.Need-slice-aggregate-put-named
 slice-aggregate-put-named c = refl
@@ -236,11 +231,23 @@ pub {spec}-spec : {{M : Type 1}} → statement M
 {spec}-spec = tie.close (tie.spec slice-aggregate-put-named slice-aggregate-put-named-2 put-named-requires same-length returns)
 """
 
-PROOF = """\
--- `{crate}::{function}` meets its contract: computed, its numbers are the rows of the table that begin so, and they rise.
+LETTER = """
+// What `{letter}` and `rest` stand for. `second` is the first byte of `rest`, 0 if it has none.
+pub fn {function}(second: u8, rest: &[u8]) -> Meaning
+    requires {{ ⌜ (getD (now rest) 0 0 ≡ second) × (second ≤ 255) ⌝ }}
+    ensures {{ λ r. ⌜ meaningBytes r ≡ lookup {list} (0x{first:X} ∷ now (rest .entry)) ⌝ }}
+{{
+{tests}
+    {last}(rest)
+}}
+"""
+
+GROUP_PROOF = """\
+-- `{crate}::{function}` meets its contract: computed, its numbers are those rows of the table.
 -- Made by tools/make_names.py. Assumes nothing.
 use mathlib.Core.Path.{{refl}}
-use Rattle.rules.specs.Names.{{names}}
+use Rattle.rules.specs.Names.{{{list}}}
+use Rattle.names_search.specs.Listed.{{listed}}
 use Rattle.{crate}.proofs.{function}.Statement.{{statement}}
 use Rattle.{crate}.proofs.{function}.Tie as tie
 
@@ -257,13 +264,131 @@ find-requires : tie.Need-find-requires
 find-requires c κs = tt
 
 returns : tie.Need-returns
-unfolding names
-returns c = c .find .ensures
+unfolding {list} listed
+returns c = c .find .ensures 0x{first:X}
 
 pub {spec}-spec : {{M : Type 1}} → statement M
 {spec}-spec = tie.close (tie.spec slice-aggregate-find slice-aggregate-find-2 slice-aggregate-find-3 find-requires returns)
 """
 
+LETTER_PROOF = """\
+-- `{crate}::{function}` meets its contract: a name is looked up in the group of its second byte as it is among all names of its letter.
+-- Made by tools/make_names.py. Assumes nothing.
+use mathlib.Core.Path.{{_∙_}}
+use mathlib.Core.List.{{_∷_}}
+use native.Mathlib.Omega.{{arith}}
+use borrow.Author.Needs.{{needs}}
+use Rattle.rules.specs.Names.{{{list}}}
+use Rattle.names_search.proofs.Lookups.{{in-seconds}}
+use Rattle.{crate}.proofs.{function}.Statement.{{statement}}
+use Rattle.{crate}.proofs.{function}.Tie as tie
+
+{needs}
+pub {spec}-spec : {{M : Type 1}} → statement M
+{spec}-spec =
+    tie.close
+    (tie.spec
+{names})
+"""
+
+LETTER_NEEDS = """\
+{called}-requires : tie.Need-{called}-requires
+{called}-requires c κs = search needs
+
+{name} : tie.Need-{name}
+{name} c = c .{called} .ensures ∙ in-seconds 0x{low:02X} 0x{high:02X} (0x{first:X} ∷ c {before} .args .rest .now) (omega arith) (omega arith) {list}
+"""
+
+CHOICE_CODE = """\
+// Made by tools/make_names.py from crates/rules/specs/Names.antt; not to be edited.
+// The choice of a table by the first letter of a name.
+ghost use mathlib.Core.Path.{{_≡_}};
+ghost use mathlib.Core.List.{{_∷_}};
+ghost use Prim.Native.Nat.{{_≤_}};
+ghost use lib.ListN.{{getD}};
+ghost use Rattle.rules.specs.Names.{{names}};
+ghost use Rattle.rules.specs.References.{{lookup}};
+ghost use Rattle.rules.specs.Answers.{{meaningBytes}};
+use rules::Meaning;
+
+// Returns the value of the name that is the byte `first` and then `rest`, or nothing. `second` is the first byte of `rest`, 0 if it has none.
+pub fn find_by_letter(first: u8, second: u8, rest: &[u8]) -> Meaning
+    requires {{ ⌜ (getD (now rest) 0 0 ≡ second) × (second ≤ 255) ⌝ }}
+    ensures {{ λ r. ⌜ meaningBytes r ≡ lookup names (first ∷ now (rest .entry)) ⌝ }}
+{{
+    match first {{
+{arms}
+        _ => Meaning::Nothing,
+    }}
+}}
+"""
+
+CHOICE_PROOF = """\
+-- `names::by_letter::find_by_letter` meets its contract: a name is looked up among those of its first letter, and no name begins with another byte.
+-- Made by tools/make_names.py. Assumes nothing.
+use mathlib.Core.Path.{{_∙_}}
+use mathlib.Core.List.{{List, map}}
+use Prim.Native.Nat.{{ℕ}}
+use borrow.Author.Needs.{{needs}}
+use Rattle.rules.specs.Tables.{{Row}}
+use Rattle.names_search.proofs.Arms.{{rest-none}}
+use Rattle.names.proofs.Letters.{{letters, at-letter, no-letter}}
+use Rattle.names.proofs.by_letter.find_by_letter.Statement.{{statement}}
+use Rattle.names.proofs.by_letter.find_by_letter.Tie as tie
+
+{requires}
+{arms}
+{rest} : tie.Need-{rest}
+unfolding letters
+{rest} c =
+    let a = c .before .before .args in
+    no-letter (a .first) (a .rest .now) (rest-none (a .first) _ (map (λ (pair : ℕ × List Row). pair .0) letters) (c .match .rest))
+
+pub find-by-letter-spec : {{M : Type 1}} → statement M
+find-by-letter-spec =
+    tie.close
+    (tie.spec
+{names})
+"""
+
+CHOICE_ARM = """\
+{name} : tie.Need-{name}
+unfolding letters
+{name} c =
+    let a = c .before .before .before .args in
+    c .{called} .ensures ∙ at-letter 0x{first:X} (a .first) (a .rest .now) (c .before .match .keys{k})
+"""
+
+LISTED_CODE = """\
+// Made by tools/make_names.py from crates/rules/specs/Names.antt; not to be edited.
+// The values that are no character below E000 hex or from 1D400 to 1D7FF hex, most of them two characters, by the numbers that the tables have for them.
+ghost use mathlib.Core.Path.{{_≡_}};
+ghost use Rattle.names_search.specs.Pairs.{{beside}};
+ghost use Rattle.names_search.specs.Listed.{{listed}};
+
+// Returns the value of such a number, packed, the first byte lowest; 0 for any other number.
+pub fn listed_value(code: u16) -> u64
+    ensures {{ λ r. ⌜ r ≡ beside 0 listed code ⌝ }}
+{{
+    match code {{
+{arms}
+        _ => 0,
+    }}
+}}
+"""
+
+LISTED_SPECS = """\
+-- Made by tools/make_names.py from crates/rules/specs/Names.antt; not to be edited.
+-- The values that are no character below E000 hex or from 1D400 to 1D7FF hex: the number that the tables have for each, and its bytes packed, the first lowest.
+-- Assumes nothing.
+use mathlib.Core.List.{{List, [], _∷_}}
+use Prim.Native.Nat.{{ℕ}}
+
+unfoldable pub listed : List (ℕ × ℕ)
+listed =
+    {pairs}
+    ∷ []
+"""
 
 def entries():
     """The entries in the order of the table: each a name and the bytes of its value."""
@@ -292,20 +417,36 @@ def returns(count):
     return ["returns" + (f"-{k}" if k > 1 else "") for k in range(1, count + 1)]
 
 
+def match_proof(crate, module, function, specs, table, argument, count):
+    """The proof of a function that is one match with an arm for each pair of a table."""
+    names = returns(count + 1)
+    arms = [f"{name} : tie.Need-{name}\nunfolding {table}\n{name} c = rw (c .match .keys{k + 1})\n" for k, name in enumerate(names[:-1])]
+    return MATCH_PROOF.format(
+        path=f"{crate}::{module}::{function}",
+        specs=f"Rattle.{crate}.specs.{specs}",
+        proofs=f"Rattle.{crate}.proofs.{module}.{function}",
+        arms_of="Rattle.names_search.proofs.Arms" if crate == "names_search" else "Rattle.names_search.proofs.Arms",
+        table=table,
+        argument=argument,
+        spec=function.replace("_", "-"),
+        arms="\n".join(arms),
+        rest=names[-1],
+        names="\n".join("    " + name for name in names),
+    )
+
+
 def bare_of(rows):
     """The names without `;`: the code, the definitions that it is held to, and the proofs of the two functions with an arm for each."""
     words = [(int.from_bytes(name.encode(), "big") * 8 + len(name), ord(value.decode()), name) for name, value in rows]
     heads = sorted({word >> 8 * (len(name) - 2) + 3 for word, _, name in words})
-    names = returns(len(words) + 1)
     begins = returns(len(heads) + 1)
-    arms = [f"{name} : tie.Need-{name}\nunfolding words\n{name} c = rw (c .match .keys{k + 1})\n" for k, name in enumerate(names[:-1])]
     code = BARE_CODE.format(heads="\n".join(f"        0x{head:X} => true," for head in heads), arms="\n".join(f"        0x{word:X} => 0x{value:X}, // {name}" for word, value, name in words))
     specs = BARE_WORDS.format(
         words="\n    ∷ ".join(f"(0x{word:X}, 0x{value:X})" for word, value, _ in words),
         heads="\n    ∷ ".join(f"0x{head:X}" for head in heads),
     )
     proofs = {
-        "character": BARE_PROOF.format(arms="\n".join(arms), rest=names[-1], names="\n".join("    " + name for name in names)),
+        "character": match_proof("names_bare", "table", "character", "Words", "words", "word", len(words)),
         "begins": HEADS_PROOF.format(
             arms="\n".join(f"{name} : tie.Need-{name}\n{name} c = λ e. absurd (subst T e tt)\n" for name in begins[:-1]),
             rest=begins[-1],
@@ -355,42 +496,157 @@ def written_of(table):
     return code, proofs
 
 
-def group_of(crate, first, last, rows):
-    """The code of one group, the name of its function, and its proof."""
-    one = first == last
-    const = (first if one else f"{first}_to_{last}").upper()
-    function = f"in_{const.lower()}"
-    places = [0]
-    for name, _ in rows:
-        places.append(places[-1] + len(name))
-    code = GROUP.format(
-        const=const,
+def pack(value):
+    """The bytes of a value as one number, the first lowest."""
+    return int.from_bytes(value, "little")
+
+
+def listed_of(table):
+    """The values that have a number of their own: those that are no character with a number below E000 or from 1D400 to 1D7FF."""
+    odd = {value: None for _, value in table if len(value.decode()) > 1 or not (ord(value.decode()) < 0xE000 or 0x1D400 <= ord(value.decode()) < 0x1D800)}
+    return {value: 0xF000 + k for k, value in enumerate(odd)}
+
+
+def code_of(value, listed):
+    """The number of a value in the tables, of two bytes."""
+    if value in listed:
+        return listed[value]
+    character = ord(value.decode())
+    return character if character < 0xE000 else character - 0x1D400 + 0xE000
+
+
+def listed_files(listed):
+    """The list of values: the code, the definition that it is held to, and its proof."""
+    folder = ROOT / "crates/names_search"
+    return {
+        folder / "src/listed.rt": LISTED_CODE.format(arms="\n".join(f"        0x{code:X} => 0x{pack(value):X}," for value, code in listed.items())),
+        folder / "specs/Listed.antt": LISTED_SPECS.format(pairs="\n    ∷ ".join(f"(0x{code:X}, 0x{pack(value):X})" for value, code in listed.items())),
+        folder / "proofs/listed/listed_value/Proof.antt": match_proof("names_search", "listed", "listed_value", "Listed", "listed", "code", len(listed)),
+    }
+
+
+def groups_of(rows):
+    """The rows of a letter in groups: each has the rows of some second letters."""
+    groups = [[]]
+    for second in sorted({name[1] for name, _ in rows}):
+        more = [row for row in rows if row[0][1] == second]
+        if groups[-1] and len(groups[-1]) + len(more) > LARGEST:
+            groups.append([])
+        groups[-1] += more
+    return groups
+
+
+def list_of(letter):
+    """What the list of the names of a letter is called in crates/rules/specs/Names.antt."""
+    return f"{'upper' if letter.isupper() else 'lower'}-{letter}"
+
+
+def function_of(letter):
+    """What the function of a letter is called."""
+    return list_of(letter).replace("-", "_").lower()
+
+
+def lengths_of(const, names):
+    """The table of the lengths of names: in one line where it fits, as the formatter has it."""
+    head, numbers = f"const {const}_LENGTHS: [u8; {len(names)}] = [", [str(len(name)) for name in names]
+    line = head + ", ".join(numbers) + "];"
+    return line if len(line) <= 100 else head + "\n" + "\n".join(f"    {number}," for number in numbers) + "\n];"
+
+
+def arguments_of(const):
+    """The arguments of the search: in one line where they fit, as the formatter has it."""
+    words = ["rest"] + [f"&{const}_{table}" for table in ("NAMES", "LENGTHS", "VALUES")]
+    line = ", ".join(words)
+    return line if len(line) <= 60 else "\n" + "".join(f"        {word},\n" for word in words) + "    "
+
+
+def group_code(letter, rows, listed, function, part):
+    """The tables and the function of one group; `part` is the range of its second bytes, if it is not all of the letter."""
+    rest = [name[1:] for name, _ in rows]
+    return GROUP.format(
+        const=function.upper(),
         function=function,
-        letters=f"`{first}`" if one else f"`{first}` to `{last}`",
-        low=f"0x{ord(first):X}",
-        high=f"0x{ord(last):X}",
-        size=places[-1],
-        places=len(places),
+        public="" if part else "pub ",
+        letter=letter,
+        among=f", where `rest` begins with a byte from {part[0]:02X} to {part[1]:02X} hex" if part else "",
+        rows=f"(seconds (0x{part[0]:02X}, 0x{part[1]:02X}) {list_of(letter)})" if part else list_of(letter),
+        first=ord(letter),
+        size=sum(map(len, rest)),
         count=len(rows),
-        names=lines_of([name for name, _ in rows], 110),
-        offsets="\n".join(f"    {place}," for place in places),
-        values="\n".join(f"    0x{int.from_bytes(value, 'little'):X}, // {name}" for name, value in rows),
+        names=lines_of(rest, 110),
+        lengths=lengths_of(function.upper(), rest),
+        arguments=arguments_of(function.upper()),
+        values="\n".join(f"    0x{code_of(value, listed):04X}, // {name}" for name, value in rows),
     )
-    return code, function, PROOF.format(crate=crate, function=function, spec=function.replace("_", "-"))
+
+
+def letter_files(crate, letter, rows, listed):
+    """The code of one letter, and its proofs by their functions."""
+    function, groups = function_of(letter), groups_of(rows)
+    facts = {"crate": crate, "list": list_of(letter), "first": ord(letter)}
+    if len(groups) == 1:
+        return group_code(letter, rows, listed, function, None), {function: GROUP_PROOF.format(function=function, spec=function.replace("_", "-"), **facts)}
+    lows = [0] + [ord(group[0][0][1]) for group in groups[1:]]
+    parts = [(low, high - 1) for low, high in zip(lows, lows[1:] + [256])]
+    called = [f"{function}_{k + 1}" for k in range(len(groups))]
+    code = "".join(group_code(letter, *row) for row in zip(groups, [listed] * len(groups), called, parts))
+    tests = "\n".join(f"    if second < b'{chr(low)}' {{\n        return {name}(rest);\n    }}" for name, low in zip(called, lows[1:]))
+    code += LETTER.format(letter=letter, function=function, list=facts["list"], first=facts["first"], tests=tests, last=called[-1])
+    names = returns(len(groups))
+    needs = "\n".join(
+        LETTER_NEEDS.format(called=group.replace("_", "-"), name=name, low=part[0], high=part[1], before=" ".join([".before"] * steps(k, len(groups))), **facts)
+        for k, (group, name, part) in enumerate(zip(called, names, parts))
+    )
+    proofs = {name: GROUP_PROOF.format(function=name, spec=name.replace("_", "-"), **facts) for name in called}
+    order = "\n".join(f"    {group.replace('_', '-')}-requires\n    {name}" for group, name in zip(called, names))
+    proofs[function] = LETTER_PROOF.format(function=function, spec=function.replace("_", "-"), needs=needs, names=order, **facts)
+    return code, proofs
+
+
+def choice_files(table):
+    """The choice by the first letter: the code, and its proof."""
+    letters = [letter for crate in CRATES.values() for letter in crate]
+    many = {letter: len(groups_of([row for row in table if row[0][0] == letter])) > 1 for letter in letters}
+    calls = {letter: f"names_{function_of(letter)[:5]}::{function_of(letter)}({'second, ' if many[letter] else ''}rest)" for letter in letters}
+    called = [function_of(letter).replace("_", "-") for letter in letters]
+    names = returns(len(letters) + 1)
+    arms = [CHOICE_ARM.format(name=name, called=call, first=ord(letter), k=k + 1) for k, (name, call, letter) in enumerate(zip(names, called, letters))]
+    folder = ROOT / "crates/names"
+    return {
+        folder / "src/by_letter.rt": CHOICE_CODE.format(arms="\n".join(f"        b'{letter}' => {calls[letter]}," for letter in letters)),
+        folder / "proofs/by_letter/find_by_letter/Proof.antt": CHOICE_PROOF.format(
+            requires="\n".join(f"{call}-requires : tie.Need-{call}-requires\n{call}-requires c κs = search needs\n" for call in called),
+            arms="\n".join(arms),
+            rest=names[-1],
+            names="\n".join([f"    {call}-requires" for call in called] + ["    " + name for name in names]),
+        ),
+    }
+
+
+def steps(k, count):
+    """How many steps before the return of group k the arguments of its letter's function are."""
+    return 3 + min(k, count - 2)
+
+
+def table_files(table, listed):
+    """The crates of the tables: the code, and the proof of each function."""
+    made = {}
+    for crate, letters in CRATES.items():
+        folder = ROOT / "crates" / crate
+        code = HEAD.format(case=f"{crate.removeprefix('names_')}-case", lists=", ".join(list_of(letter) for letter in letters))
+        for letter in letters:
+            text, proofs = letter_files(crate, letter, [row for row in table if row[0][0] == letter], listed)
+            code += text
+            made |= {folder / "proofs" / function / "Proof.antt": proof for function, proof in proofs.items()}
+        made[folder / "src/lib.rt"] = code
+    return made
 
 
 def files():
     """Every file that is made, with its text."""
     table = entries()
-    made = {}
-    for crate, groups in CRATES.items():
-        folder = ROOT / "crates" / crate
-        code = HEAD.format(case=f"{crate.removeprefix('names_')}-case")
-        for first, last in groups:
-            group, function, proof = group_of(crate, first, last, [row for row in table if first <= row[0][0] <= last])
-            code += group
-            made[folder / "proofs" / function / "Proof.antt"] = proof
-        made[folder / "src/lib.rt"] = code
+    listed = listed_of(table)
+    made = listed_files(listed) | table_files(table, listed) | choice_files(table)
     values = dict(table)
     folder = ROOT / "crates/names_bare"
     code, specs, proofs = bare_of([(name, values[name]) for name in re.findall(r'ascii "(\w+)"', BARE.read_text(encoding="utf-8"))])

@@ -1,4 +1,4 @@
-// The table of names: the value of a name, packed into one number, and the bytes of such a value.
+// The table of names: the value of a name, and the bytes of a value that is packed into one number.
 ghost use mathlib.Core.Option.{some};
 ghost use mathlib.Core.Path.{_≡_};
 ghost use Prim.Native.Nat.{_≤_, _<_};
@@ -10,6 +10,8 @@ ghost use Rattle.rules.specs.Answers.{valueBytes, meaningBytes};
 ghost use Rattle.rules.specs.declared.DecodedEntityValue.the-variants.{Named};
 use rules::DecodedEntityValue;
 use rules::Meaning;
+
+mod by_letter;
 
 // Returns the packed value of one of the most common names, 0 for any other name: a few comparisons in place of a search. `amp` is not among them,
 // since the decoder knows `&amp;`, and `&lt;` and `&gt;` before the last four bytes of a text, without their names.
@@ -34,7 +36,7 @@ fn common(name: &[u8]) -> u64
     0
 }
 
-// Returns the first byte of a name; 0 if it has none.
+// Returns the first byte of a part of a name; 0 if it has none.
 fn first_byte(name: &[u8]) -> u8
     ensures { λ r. ⌜ (r ≡ getD (now (name .entry)) 0 0) × (r ≤ 255) ⌝ }
 {
@@ -44,66 +46,15 @@ fn first_byte(name: &[u8]) -> u8
     name[0]
 }
 
-// Returns the value of a name that begins with the upper-case letter `b`, searched in the group of that letter.
-fn find_upper(b: u8, name: &[u8]) -> Meaning
-    requires { ⌜ (getD (now name) 0 0 ≡ b) × (0x41 ≤ b) × (b ≤ 0x5A) ⌝ }
-    ensures { λ r. ⌜ meaningBytes r ≡ lookup names (now (name .entry)) ⌝ }
-{
-    match b {
-        0..=b'C' => names_upper::in_a_to_c(name),
-        b'D'..=b'F' => names_upper::in_d_to_f(name),
-        b'G'..=b'M' => names_upper::in_g_to_m(name),
-        b'N' => names_upper::in_n(name),
-        b'O'..=b'R' => names_upper::in_o_to_r(name),
-        b'S'..=255 => names_upper::in_s_to_z(name),
-    }
-}
-
-// The same of a name that begins with `a` to `l`.
-fn find_a_to_l(b: u8, name: &[u8]) -> Meaning
-    requires { ⌜ (getD (now name) 0 0 ≡ b) × (0x61 ≤ b) × (b ≤ 0x6C) ⌝ }
-    ensures { λ r. ⌜ meaningBytes r ≡ lookup names (now (name .entry)) ⌝ }
-{
-    match b {
-        0..=b'a' => names_lower::in_a(name),
-        b'b' => names_lower::in_b(name),
-        b'c'..=b'd' => names_lower::in_c_to_d(name),
-        b'e'..=b'g' => names_lower::in_e_to_g(name),
-        b'h'..=b'k' => names_lower::in_h_to_k(name),
-        b'l'..=255 => names_lower::in_l(name),
-    }
-}
-
-// The same of a name that begins with `m` to `z`.
-fn find_m_to_z(b: u8, name: &[u8]) -> Meaning
-    requires { ⌜ (getD (now name) 0 0 ≡ b) × (0x6D ≤ b) × (b ≤ 0x7A) ⌝ }
-    ensures { λ r. ⌜ meaningBytes r ≡ lookup names (now (name .entry)) ⌝ }
-{
-    match b {
-        0..=b'm' => names_lower::in_m(name),
-        b'n' => names_lower::in_n(name),
-        b'o'..=b'q' => names_lower::in_o_to_q(name),
-        b'r' => names_lower::in_r(name),
-        b's' => names_lower::in_s(name),
-        b't'..=b'w' => names_lower::in_t_to_w(name),
-        b'x'..=255 => names_lower::in_x_to_z(name),
-    }
-}
-
-// Returns the value of a name, by its first byte. Every name in the table begins with a letter. Each of the three functions has so few groups that
-// all are compiled in line: then their tables share the function's stack.
+// Returns the value of a name, by its first letter.
 fn find_in_group(name: &[u8]) -> Meaning
     ensures { λ r. ⌜ meaningBytes r ≡ lookup names (now (name .entry)) ⌝ }
 {
-    let b = first_byte(name);
-    match b {
-        0..=b'@' => Meaning::Nothing,
-        b'A'..=b'Z' => find_upper(b, name),
-        b'['..=b'`' => Meaning::Nothing,
-        b'a'..=b'l' => find_a_to_l(b, name),
-        b'm'..=b'z' => find_m_to_z(b, name),
-        b'{'..=255 => Meaning::Nothing,
+    if name.len() == 0 {
+        return Meaning::Nothing;
     }
+    let second = first_byte(&name[1..]);
+    by_letter::find_by_letter(name[0], second, &name[1..])
 }
 
 // Returns the value of a name: the common names are tested first.

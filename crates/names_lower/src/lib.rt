@@ -1,3358 +1,4376 @@
 // Made by tools/make_names.py from the entries of crates/rules/specs/Names.antt; not to be edited.
-// The names that begin with lower-case letters, in groups by first letter. Each group is three number tables: the names' bytes one after the other,
-// where each name begins and the last one ends, and the values, each packed into one number, its first byte lowest.
+// The names that begin with lower-case letters, a function for each letter, and in it groups by the second byte. Each group is three tables: the names one
+// after the other without their first letter, the length of each, and the numbers of their values (`codeBytes` in crates/names_search/specs/Lent.antt).
 ghost use mathlib.Core.Path.{_≡_};
-ghost use Rattle.rules.specs.Names.{names};
+ghost use mathlib.Core.List.{_∷_};
+ghost use Prim.Native.Nat.{_≤_};
+ghost use lib.ListN.{getD};
+ghost use Rattle.rules.specs.Names.{lower-a, lower-b, lower-c, lower-d, lower-e, lower-f, lower-g, lower-h, lower-i, lower-j, lower-k, lower-l, lower-m, lower-n, lower-o, lower-p, lower-q, lower-r, lower-s, lower-t, lower-u, lower-v, lower-w, lower-x, lower-y, lower-z};
 ghost use Rattle.rules.specs.References.{lookup};
 ghost use Rattle.rules.specs.Answers.{meaningBytes};
-ghost use Rattle.names_search.specs.Starting.{starting};
+ghost use Rattle.names_search.specs.Seconds.{seconds};
 use rules::Meaning;
 
-const A_NAMES: [u8; 316] = *b"\
-    aacuteabreveacacEacdacircacuteacyaeligafafragravealefsymalephalphaamacramalgampandandandanddandslopeandvang\
-    angeangleangmsdangmsdaaangmsdabangmsdacangmsdadangmsdaeangmsdafangmsdagangmsdahangrtangrtvbangrtvbdangsphangst\
-    angzarraogonaopfapapEapacirapeapidaposapproxapproxeqaringascrastasympasympeqatildeaumlawconintawint";
+const LOWER_A_1_NAMES: [u8; 61] = *b"\
+    acutebreveccEcdcirccutecyeligffrgravelefsymlephlphamacrmalgmp";
 
-const A_OFFSETS: [u16; 61] = [
-    0,
-    6,
-    12,
-    14,
-    17,
-    20,
-    25,
-    30,
-    33,
-    38,
-    40,
-    43,
-    49,
-    56,
-    61,
-    66,
-    71,
-    76,
-    79,
-    82,
-    88,
-    92,
-    100,
-    104,
-    107,
-    111,
-    116,
-    122,
-    130,
-    138,
-    146,
-    154,
-    162,
-    170,
-    178,
-    186,
-    191,
-    198,
-    206,
-    212,
-    217,
-    224,
-    229,
-    233,
-    235,
-    238,
-    244,
-    247,
-    251,
-    255,
-    261,
-    269,
-    274,
-    278,
-    281,
-    286,
-    293,
-    299,
-    303,
-    311,
-    316,
+const LOWER_A_1_LENGTHS: [u8; 18] = [5, 5, 1, 2, 2, 4, 4, 2, 4, 1, 2, 5, 6, 4, 4, 4, 4, 2];
+
+const LOWER_A_1_VALUES: [u16; 18] = [
+    0x00E1, // aacute
+    0x0103, // abreve
+    0x223E, // ac
+    0xF014, // acE
+    0x223F, // acd
+    0x00E2, // acirc
+    0x00B4, // acute
+    0x0430, // acy
+    0x00E6, // aelig
+    0x2061, // af
+    0xE11E, // afr
+    0x00E0, // agrave
+    0x2135, // alefsym
+    0x2135, // aleph
+    0x03B1, // alpha
+    0x0101, // amacr
+    0x2A3F, // amalg
+    0x0026, // amp
 ];
 
-const A_VALUES: [u64; 60] = [
-    0xA1C3, // aacute
-    0x83C4, // abreve
-    0xBE88E2, // ac
-    0xB3CCBE88E2, // acE
-    0xBF88E2, // acd
-    0xA2C3, // acirc
-    0xB4C2, // acute
-    0xB0D0, // acy
-    0xA6C3, // aelig
-    0xA181E2, // af
-    0x9E949DF0, // afr
-    0xA0C3, // agrave
-    0xB584E2, // alefsym
-    0xB584E2, // aleph
-    0xB1CE, // alpha
-    0x81C4, // amacr
-    0xBFA8E2, // amalg
-    0x26, // amp
-    0xA788E2, // and
-    0x95A9E2, // andand
-    0x9CA9E2, // andd
-    0x98A9E2, // andslope
-    0x9AA9E2, // andv
-    0xA088E2, // ang
-    0xA4A6E2, // ange
-    0xA088E2, // angle
-    0xA188E2, // angmsd
-    0xA8A6E2, // angmsdaa
-    0xA9A6E2, // angmsdab
-    0xAAA6E2, // angmsdac
-    0xABA6E2, // angmsdad
-    0xACA6E2, // angmsdae
-    0xADA6E2, // angmsdaf
-    0xAEA6E2, // angmsdag
-    0xAFA6E2, // angmsdah
-    0x9F88E2, // angrt
-    0xBE8AE2, // angrtvb
-    0x9DA6E2, // angrtvbd
-    0xA288E2, // angsph
-    0x85C3, // angst
-    0xBC8DE2, // angzarr
-    0x85C4, // aogon
-    0x92959DF0, // aopf
-    0x8889E2, // ap
-    0xB0A9E2, // apE
-    0xAFA9E2, // apacir
-    0x8A89E2, // ape
-    0x8B89E2, // apid
-    0x27, // apos
-    0x8889E2, // approx
-    0x8A89E2, // approxeq
-    0xA5C3, // aring
-    0xB6929DF0, // ascr
-    0x2A, // ast
-    0x8889E2, // asymp
-    0x8D89E2, // asympeq
-    0xA3C3, // atilde
-    0xA4C3, // auml
-    0xB388E2, // awconint
-    0x91A8E2, // awint
-];
-
-// What `name` stands for among the names that begin with `a`.
-pub fn in_a(name: &[u8]) -> Meaning
-    ensures { λ r. ⌜ meaningBytes r ≡ lookup (starting (0x61, 0x61) names) (now (name .entry)) ⌝ }
+// What `a` and `rest` stand for, where `rest` begins with a byte from 00 to 6D hex.
+fn lower_a_1(rest: &[u8]) -> Meaning
+    ensures { λ r. ⌜ meaningBytes r ≡ lookup (seconds (0x00, 0x6D) lower-a) (0x61 ∷ now (rest .entry)) ⌝ }
 {
-    names_search::find(name, &A_NAMES, &A_OFFSETS, &A_VALUES)
+    names_search::find(
+        rest,
+        &LOWER_A_1_NAMES,
+        &LOWER_A_1_LENGTHS,
+        &LOWER_A_1_VALUES,
+    )
 }
 
-const B_NAMES: [u8; 709] = *b"\
-    bNotbackcongbackepsilonbackprimebacksimbacksimeqbarveebarwedbarwedgebbrkbbrktbrkbcongbcybdquobecausbecause\
-    bemptyvbepsibernoubetabethbetweenbfrbigcapbigcircbigcupbigodotbigoplusbigotimesbigsqcupbigstarbigtriangledown\
-    bigtriangleupbiguplusbigveebigwedgebkarowblacklozengeblacksquareblacktriangleblacktriangledown\
-    blacktriangleleftblacktrianglerightblankblk12blk14blk34blockbnebnequivbnotbopfbotbottombowtieboxDLboxDRboxDl\
-    boxDrboxHboxHDboxHUboxHdboxHuboxULboxURboxUlboxUrboxVboxVHboxVLboxVRboxVhboxVlboxVrboxboxboxdLboxdRboxdlboxdr\
-    boxhboxhDboxhUboxhdboxhuboxminusboxplusboxtimesboxuLboxuRboxulboxurboxvboxvHboxvLboxvRboxvhboxvlboxvrbprime\
-    brevebrvbarbscrbsemibsimbsimebsolbsolbbsolhsubbullbulletbumpbumpEbumpebumpeq";
+const LOWER_A_2_NAMES: [u8; 129] = *b"\
+    ndndandnddndslopendvngngenglengmsdngmsdaangmsdabngmsdacngmsdadngmsdaengmsdafngmsdagngmsdahngrtngrtvbngrtvbd\
+    ngsphngstngzarrogonopf";
 
-const B_OFFSETS: [u16; 116] = [
-    0,
-    4,
-    12,
-    23,
-    32,
-    39,
-    48,
-    54,
-    60,
-    68,
-    72,
-    80,
-    85,
-    88,
-    93,
-    99,
-    106,
-    113,
-    118,
-    124,
-    128,
-    132,
-    139,
-    142,
-    148,
-    155,
-    161,
-    168,
-    176,
-    185,
-    193,
-    200,
-    215,
-    228,
-    236,
-    242,
-    250,
-    256,
-    268,
-    279,
-    292,
-    309,
-    326,
-    344,
-    349,
-    354,
-    359,
-    364,
-    369,
-    372,
-    379,
-    383,
-    387,
-    390,
-    396,
-    402,
-    407,
-    412,
-    417,
-    422,
-    426,
-    431,
-    436,
-    441,
-    446,
-    451,
-    456,
-    461,
-    466,
-    470,
-    475,
-    480,
-    485,
-    490,
-    495,
-    500,
-    506,
-    511,
-    516,
-    521,
-    526,
-    530,
-    535,
-    540,
-    545,
-    550,
-    558,
-    565,
-    573,
-    578,
-    583,
-    588,
-    593,
-    597,
-    602,
-    607,
-    612,
-    617,
-    622,
-    627,
-    633,
-    638,
-    644,
-    648,
-    653,
-    657,
-    662,
-    666,
-    671,
-    679,
-    683,
-    689,
-    693,
-    698,
-    703,
-    709,
-];
-
-const B_VALUES: [u64; 115] = [
-    0xADABE2, // bNot
-    0x8C89E2, // backcong
-    0xB6CF, // backepsilon
-    0xB580E2, // backprime
-    0xBD88E2, // backsim
-    0x8D8BE2, // backsimeq
-    0xBD8AE2, // barvee
-    0x858CE2, // barwed
-    0x858CE2, // barwedge
-    0xB58EE2, // bbrk
-    0xB68EE2, // bbrktbrk
-    0x8C89E2, // bcong
-    0xB1D0, // bcy
-    0x9E80E2, // bdquo
-    0xB588E2, // becaus
-    0xB588E2, // because
-    0xB0A6E2, // bemptyv
-    0xB6CF, // bepsi
-    0xAC84E2, // bernou
-    0xB2CE, // beta
-    0xB684E2, // beth
-    0xAC89E2, // between
-    0x9F949DF0, // bfr
-    0x828BE2, // bigcap
-    0xAF97E2, // bigcirc
-    0x838BE2, // bigcup
-    0x80A8E2, // bigodot
-    0x81A8E2, // bigoplus
-    0x82A8E2, // bigotimes
-    0x86A8E2, // bigsqcup
-    0x8598E2, // bigstar
-    0xBD96E2, // bigtriangledown
-    0xB396E2, // bigtriangleup
-    0x84A8E2, // biguplus
-    0x818BE2, // bigvee
-    0x808BE2, // bigwedge
-    0x8DA4E2, // bkarow
-    0xABA7E2, // blacklozenge
-    0xAA96E2, // blacksquare
-    0xB496E2, // blacktriangle
-    0xBE96E2, // blacktriangledown
-    0x8297E2, // blacktriangleleft
-    0xB896E2, // blacktriangleright
-    0xA390E2, // blank
-    0x9296E2, // blk12
-    0x9196E2, // blk14
-    0x9396E2, // blk34
-    0x8896E2, // block
-    0xA583E23D, // bne
-    0xA583E2A189E2, // bnequiv
-    0x908CE2, // bnot
-    0x93959DF0, // bopf
-    0xA58AE2, // bot
-    0xA58AE2, // bottom
-    0x888BE2, // bowtie
-    0x9795E2, // boxDL
-    0x9495E2, // boxDR
-    0x9695E2, // boxDl
-    0x9395E2, // boxDr
-    0x9095E2, // boxH
-    0xA695E2, // boxHD
-    0xA995E2, // boxHU
-    0xA495E2, // boxHd
-    0xA795E2, // boxHu
-    0x9D95E2, // boxUL
-    0x9A95E2, // boxUR
-    0x9C95E2, // boxUl
-    0x9995E2, // boxUr
-    0x9195E2, // boxV
-    0xAC95E2, // boxVH
-    0xA395E2, // boxVL
-    0xA095E2, // boxVR
-    0xAB95E2, // boxVh
-    0xA295E2, // boxVl
-    0x9F95E2, // boxVr
-    0x89A7E2, // boxbox
-    0x9595E2, // boxdL
-    0x9295E2, // boxdR
-    0x9094E2, // boxdl
-    0x8C94E2, // boxdr
-    0x8094E2, // boxh
-    0xA595E2, // boxhD
-    0xA895E2, // boxhU
-    0xAC94E2, // boxhd
-    0xB494E2, // boxhu
-    0x9F8AE2, // boxminus
-    0x9E8AE2, // boxplus
-    0xA08AE2, // boxtimes
-    0x9B95E2, // boxuL
-    0x9895E2, // boxuR
-    0x9894E2, // boxul
-    0x9494E2, // boxur
-    0x8294E2, // boxv
-    0xAA95E2, // boxvH
-    0xA195E2, // boxvL
-    0x9E95E2, // boxvR
-    0xBC94E2, // boxvh
-    0xA494E2, // boxvl
-    0x9C94E2, // boxvr
-    0xB580E2, // bprime
-    0x98CB, // breve
-    0xA6C2, // brvbar
-    0xB7929DF0, // bscr
-    0x8F81E2, // bsemi
-    0xBD88E2, // bsim
-    0x8D8BE2, // bsime
-    0x5C, // bsol
-    0x85A7E2, // bsolb
-    0x889FE2, // bsolhsub
-    0xA280E2, // bull
-    0xA280E2, // bullet
-    0x8E89E2, // bump
-    0xAEAAE2, // bumpE
-    0x8F89E2, // bumpe
-    0x8F89E2, // bumpeq
-];
-
-// What `name` stands for among the names that begin with `b`.
-pub fn in_b(name: &[u8]) -> Meaning
-    ensures { λ r. ⌜ meaningBytes r ≡ lookup (starting (0x62, 0x62) names) (now (name .entry)) ⌝ }
-{
-    names_search::find(name, &B_NAMES, &B_OFFSETS, &B_VALUES)
-}
-
-const C_TO_D_NAMES: [u8; 994] = *b"\
-    cacutecapcapandcapbrcupcapcapcapcupcapdotcapscaretcaronccapsccaronccedilccircccupsccupssmcdotcedilcemptyvcent\
-    centerdotcfrchcycheckcheckmarkchicircirEcirccirceqcirclearrowleftcirclearrowrightcircledRcircledScircledast\
-    circledcirccircleddashcirecirfnintcirmidcirscirclubsclubsuitcoloncolonecoloneqcommacommatcompcompfncomplement\
-    complexescongcongdotconintcopfcoprodcopycopysrcrarrcrosscscrcsubcsubecsupcsupectdotcudarrlcudarrrcueprcuesc\
-    cularrcularrpcupcupbrcapcupcapcupcupcupdotcuporcupscurarrcurarrmcurlyeqpreccurlyeqsucccurlyveecurlywedgecurren\
-    curvearrowleftcurvearrowrightcuveecuwedcwconintcwintcylctydArrdHardaggerdalethdarrdashdashvdbkarowdblacdcaron\
-    dcyddddaggerddarrddotseqdegdeltademptyvdfishtdfrdharldharrdiamdiamonddiamondsuitdiamsdiedigammadisindivdivide\
-    divideontimesdivonxdjcydlcorndlcropdollardopfdotdoteqdoteqdotdotminusdotplusdotsquaredoublebarwedgedownarrow\
-    downdownarrowsdownharpoonleftdownharpoonrightdrbkarowdrcorndrcropdscrdscydsoldstrokdtdotdtridtrifduarrduhar\
-    dwangledzcydzigrarr";
-
-const C_TO_D_OFFSETS: [u16; 159] = [
-    0,
-    6,
-    9,
-    15,
-    23,
-    29,
-    35,
-    41,
-    45,
-    50,
-    55,
-    60,
-    66,
-    72,
-    77,
-    82,
-    89,
-    93,
-    98,
-    105,
-    109,
-    118,
-    121,
-    125,
-    130,
-    139,
-    142,
-    145,
-    149,
-    153,
-    159,
-    174,
-    190,
-    198,
-    206,
-    216,
-    227,
-    238,
-    242,
-    250,
-    256,
-    263,
-    268,
-    276,
-    281,
-    287,
-    294,
-    299,
-    305,
-    309,
-    315,
-    325,
-    334,
-    338,
-    345,
-    351,
-    355,
-    361,
-    365,
-    371,
-    376,
-    381,
-    385,
-    389,
-    394,
-    398,
-    403,
-    408,
-    415,
-    422,
-    427,
-    432,
-    438,
-    445,
-    448,
-    456,
-    462,
-    468,
-    474,
-    479,
-    483,
-    489,
-    496,
-    507,
-    518,
-    526,
-    536,
-    542,
-    556,
-    571,
-    576,
-    581,
-    589,
-    594,
-    600,
-    604,
-    608,
-    614,
-    620,
-    624,
-    628,
-    633,
-    640,
-    645,
-    651,
-    654,
-    656,
-    663,
-    668,
-    675,
-    678,
-    683,
-    690,
-    696,
-    699,
-    704,
-    709,
-    713,
-    720,
-    731,
-    736,
-    739,
-    746,
-    751,
-    754,
-    760,
-    773,
-    779,
-    783,
-    789,
-    795,
-    801,
-    805,
-    808,
-    813,
-    821,
-    829,
-    836,
-    845,
-    859,
-    868,
-    882,
-    897,
-    913,
-    921,
-    927,
-    933,
-    937,
-    941,
-    945,
-    951,
-    956,
-    960,
-    965,
-    970,
-    975,
-    982,
-    986,
-    994,
-];
-
-const C_TO_D_VALUES: [u64; 158] = [
-    0x87C4, // cacute
-    0xA988E2, // cap
-    0x84A9E2, // capand
-    0x89A9E2, // capbrcup
-    0x8BA9E2, // capcap
-    0x87A9E2, // capcup
-    0x80A9E2, // capdot
-    0x80B8EFA988E2, // caps
-    0x8181E2, // caret
-    0x87CB, // caron
-    0x8DA9E2, // ccaps
-    0x8DC4, // ccaron
-    0xA7C3, // ccedil
-    0x89C4, // ccirc
-    0x8CA9E2, // ccups
-    0x90A9E2, // ccupssm
-    0x8BC4, // cdot
-    0xB8C2, // cedil
-    0xB2A6E2, // cemptyv
-    0xA2C2, // cent
-    0xB7C2, // centerdot
-    0xA0949DF0, // cfr
-    0x87D1, // chcy
-    0x939CE2, // check
-    0x939CE2, // checkmark
-    0x87CF, // chi
-    0x8B97E2, // cir
-    0x83A7E2, // cirE
-    0x86CB, // circ
-    0x9789E2, // circeq
-    0xBA86E2, // circlearrowleft
-    0xBB86E2, // circlearrowright
-    0xAEC2, // circledR
-    0x8893E2, // circledS
-    0x9B8AE2, // circledast
-    0x9A8AE2, // circledcirc
-    0x9D8AE2, // circleddash
-    0x9789E2, // cire
-    0x90A8E2, // cirfnint
-    0xAFABE2, // cirmid
-    0x82A7E2, // cirscir
-    0xA399E2, // clubs
-    0xA399E2, // clubsuit
-    0x3A, // colon
-    0x9489E2, // colone
-    0x9489E2, // coloneq
-    0x2C, // comma
-    0x40, // commat
-    0x8188E2, // comp
-    0x9888E2, // compfn
-    0x8188E2, // complement
-    0x8284E2, // complexes
-    0x8589E2, // cong
-    0xADA9E2, // congdot
-    0xAE88E2, // conint
-    0x94959DF0, // copf
-    0x9088E2, // coprod
-    0xA9C2, // copy
-    0x9784E2, // copysr
-    0xB586E2, // crarr
-    0x979CE2, // cross
-    0xB8929DF0, // cscr
-    0x8FABE2, // csub
-    0x91ABE2, // csube
-    0x90ABE2, // csup
-    0x92ABE2, // csupe
-    0xAF8BE2, // ctdot
-    0xB8A4E2, // cudarrl
-    0xB5A4E2, // cudarrr
-    0x9E8BE2, // cuepr
-    0x9F8BE2, // cuesc
-    0xB686E2, // cularr
-    0xBDA4E2, // cularrp
-    0xAA88E2, // cup
-    0x88A9E2, // cupbrcap
-    0x86A9E2, // cupcap
-    0x8AA9E2, // cupcup
-    0x8D8AE2, // cupdot
-    0x85A9E2, // cupor
-    0x80B8EFAA88E2, // cups
-    0xB786E2, // curarr
-    0xBCA4E2, // curarrm
-    0x9E8BE2, // curlyeqprec
-    0x9F8BE2, // curlyeqsucc
-    0x8E8BE2, // curlyvee
-    0x8F8BE2, // curlywedge
-    0xA4C2, // curren
-    0xB686E2, // curvearrowleft
-    0xB786E2, // curvearrowright
-    0x8E8BE2, // cuvee
-    0x8F8BE2, // cuwed
-    0xB288E2, // cwconint
-    0xB188E2, // cwint
-    0xAD8CE2, // cylcty
-    0x9387E2, // dArr
-    0xA5A5E2, // dHar
-    0xA080E2, // dagger
-    0xB884E2, // daleth
-    0x9386E2, // darr
-    0x9080E2, // dash
-    0xA38AE2, // dashv
-    0x8FA4E2, // dbkarow
-    0x9DCB, // dblac
-    0x8FC4, // dcaron
-    0xB4D0, // dcy
-    0x8685E2, // dd
-    0xA180E2, // ddagger
-    0x8A87E2, // ddarr
-    0xB7A9E2, // ddotseq
-    0xB0C2, // deg
-    0xB4CE, // delta
-    0xB1A6E2, // demptyv
-    0xBFA5E2, // dfisht
-    0xA1949DF0, // dfr
-    0x8387E2, // dharl
-    0x8287E2, // dharr
-    0x848BE2, // diam
-    0x848BE2, // diamond
-    0xA699E2, // diamondsuit
-    0xA699E2, // diams
-    0xA8C2, // die
-    0x9DCF, // digamma
-    0xB28BE2, // disin
-    0xB7C3, // div
-    0xB7C3, // divide
-    0x878BE2, // divideontimes
-    0x878BE2, // divonx
-    0x92D1, // djcy
-    0x9E8CE2, // dlcorn
-    0x8D8CE2, // dlcrop
-    0x24, // dollar
-    0x95959DF0, // dopf
-    0x99CB, // dot
-    0x9089E2, // doteq
-    0x9189E2, // doteqdot
-    0xB888E2, // dotminus
-    0x9488E2, // dotplus
-    0xA18AE2, // dotsquare
-    0x868CE2, // doublebarwedge
-    0x9386E2, // downarrow
-    0x8A87E2, // downdownarrows
-    0x8387E2, // downharpoonleft
-    0x8287E2, // downharpoonright
-    0x90A4E2, // drbkarow
-    0x9F8CE2, // drcorn
-    0x8C8CE2, // drcrop
-    0xB9929DF0, // dscr
-    0x95D1, // dscy
-    0xB6A7E2, // dsol
-    0x91C4, // dstrok
-    0xB18BE2, // dtdot
-    0xBF96E2, // dtri
-    0xBE96E2, // dtrif
-    0xB587E2, // duarr
-    0xAFA5E2, // duhar
-    0xA6A6E2, // dwangle
-    0x9FD1, // dzcy
-    0xBF9FE2, // dzigrarr
-];
-
-// What `name` stands for among the names that begin with `c` to `d`.
-pub fn in_c_to_d(name: &[u8]) -> Meaning
-    ensures { λ r. ⌜ meaningBytes r ≡ lookup (starting (0x63, 0x64) names) (now (name .entry)) ⌝ }
-{
-    names_search::find(name, &C_TO_D_NAMES, &C_TO_D_OFFSETS, &C_TO_D_VALUES)
-}
-
-const E_TO_G_NAMES: [u8; 810] = *b"\
-    eDDoteDoteacuteeasterecaronecirecircecolonecyedoteeefDotefregegraveegsegsdotelelintersellelselsdotemacrempty\
-    emptysetemptyvemspemsp13emsp14engenspeogoneopfepareparsleplusepsiepsilonepsiveqcirceqcoloneqsimeqslantgtr\
-    eqslantlessequalsequestequivequivDDeqvparslerDoterarrescresdotesimetaetheumleuroexclexistexpectation\
-    exponentialefallingdotseqfcyfemaleffiligffligfflligffrfiligfjligflatflligfltnsfnoffopfforallforkforkvfpartint\
-    frac12frac13frac14frac15frac16frac18frac23frac25frac34frac35frac38frac45frac56frac58frac78fraslfrownfscrgEgEl\
-    gacutegammagammadgapgbrevegcircgcygdotgegelgeqgeqqgeqslantgesgesccgesdotgesdotogesdotolgeslgeslesgfrggggggimel\
-    gjcyglglEglagljgnEgnapgnapproxgnegneqgneqqgnsimgopfgravegscrgsimgsimegsimlgtgtccgtcirgtdotgtlPargtquest\
-    gtrapproxgtrarrgtrdotgtreqlessgtreqqlessgtrlessgtrsimgvertneqqgvnE";
-
-const E_TO_G_OFFSETS: [u16; 158] = [
-    0,
+const LOWER_A_2_LENGTHS: [u8; 25] = [
+    2,
     5,
-    9,
-    15,
-    21,
-    27,
-    31,
-    36,
-    42,
-    45,
-    49,
-    51,
-    56,
-    59,
-    61,
-    67,
-    70,
-    76,
-    78,
-    86,
-    89,
-    92,
-    98,
-    103,
-    108,
-    116,
-    122,
-    126,
-    132,
-    138,
-    141,
-    145,
-    150,
-    154,
-    158,
-    164,
-    169,
-    173,
-    180,
-    185,
-    191,
-    198,
-    203,
-    213,
-    224,
-    230,
-    236,
-    241,
-    248,
-    256,
-    261,
-    266,
-    270,
-    275,
-    279,
-    282,
-    285,
-    289,
-    293,
-    297,
-    302,
-    313,
-    325,
-    338,
-    341,
-    347,
-    353,
-    358,
-    364,
-    367,
-    372,
-    377,
-    381,
-    386,
-    391,
-    395,
-    399,
-    405,
-    409,
-    414,
-    422,
-    428,
-    434,
-    440,
-    446,
-    452,
-    458,
-    464,
-    470,
-    476,
-    482,
-    488,
-    494,
-    500,
-    506,
-    512,
-    517,
-    522,
-    526,
-    528,
-    531,
-    537,
-    542,
-    548,
-    551,
-    557,
-    562,
-    565,
-    569,
-    571,
-    574,
-    577,
-    581,
-    589,
-    592,
-    597,
-    603,
-    610,
-    618,
-    622,
-    628,
-    631,
-    633,
-    636,
-    641,
-    645,
-    647,
-    650,
-    653,
-    656,
-    659,
-    663,
-    671,
-    674,
-    678,
-    683,
-    688,
-    692,
-    697,
-    701,
-    705,
-    710,
-    715,
-    717,
-    721,
-    726,
-    731,
-    737,
-    744,
-    753,
-    759,
-    765,
-    774,
-    784,
-    791,
-    797,
-    806,
-    810,
+    3,
+    7,
+    3,
+    2,
+    3,
+    4,
+    5,
+    7,
+    7,
+    7,
+    7,
+    7,
+    7,
+    7,
+    7,
+    4,
+    6,
+    7,
+    5,
+    4,
+    6,
+    4,
+    3,
 ];
 
-const E_TO_G_VALUES: [u64; 157] = [
-    0xB7A9E2, // eDDot
-    0x9189E2, // eDot
-    0xA9C3, // eacute
-    0xAEA9E2, // easter
-    0x9BC4, // ecaron
-    0x9689E2, // ecir
-    0xAAC3, // ecirc
-    0x9589E2, // ecolon
-    0x8DD1, // ecy
-    0x97C4, // edot
-    0x8785E2, // ee
-    0x9289E2, // efDot
-    0xA2949DF0, // efr
-    0x9AAAE2, // eg
-    0xA8C3, // egrave
-    0x96AAE2, // egs
-    0x98AAE2, // egsdot
-    0x99AAE2, // el
-    0xA78FE2, // elinters
-    0x9384E2, // ell
-    0x95AAE2, // els
-    0x97AAE2, // elsdot
-    0x93C4, // emacr
-    0x8588E2, // empty
-    0x8588E2, // emptyset
-    0x8588E2, // emptyv
-    0x8380E2, // emsp
-    0x8480E2, // emsp13
-    0x8580E2, // emsp14
-    0x8BC5, // eng
-    0x8280E2, // ensp
-    0x99C4, // eogon
-    0x96959DF0, // eopf
-    0x958BE2, // epar
-    0xA3A7E2, // eparsl
-    0xB1A9E2, // eplus
-    0xB5CE, // epsi
-    0xB5CE, // epsilon
-    0xB5CF, // epsiv
-    0x9689E2, // eqcirc
-    0x9589E2, // eqcolon
-    0x8289E2, // eqsim
-    0x96AAE2, // eqslantgtr
-    0x95AAE2, // eqslantless
-    0x3D, // equals
-    0x9F89E2, // equest
-    0xA189E2, // equiv
-    0xB8A9E2, // equivDD
-    0xA5A7E2, // eqvparsl
-    0x9389E2, // erDot
-    0xB1A5E2, // erarr
-    0xAF84E2, // escr
-    0x9089E2, // esdot
-    0x8289E2, // esim
-    0xB7CE, // eta
-    0xB0C3, // eth
-    0xABC3, // euml
-    0xAC82E2, // euro
-    0x21, // excl
-    0x8388E2, // exist
-    0xB084E2, // expectation
-    0x8785E2, // exponentiale
-    0x9289E2, // fallingdotseq
-    0x84D1, // fcy
-    0x8099E2, // female
-    0x83ACEF, // ffilig
-    0x80ACEF, // fflig
-    0x84ACEF, // ffllig
-    0xA3949DF0, // ffr
-    0x81ACEF, // filig
-    0x6A66, // fjlig
-    0xAD99E2, // flat
-    0x82ACEF, // fllig
-    0xB196E2, // fltns
-    0x92C6, // fnof
-    0x97959DF0, // fopf
-    0x8088E2, // forall
-    0x948BE2, // fork
-    0x99ABE2, // forkv
-    0x8DA8E2, // fpartint
-    0xBDC2, // frac12
-    0x9385E2, // frac13
-    0xBCC2, // frac14
-    0x9585E2, // frac15
-    0x9985E2, // frac16
-    0x9B85E2, // frac18
-    0x9485E2, // frac23
-    0x9685E2, // frac25
-    0xBEC2, // frac34
-    0x9785E2, // frac35
-    0x9C85E2, // frac38
-    0x9885E2, // frac45
-    0x9A85E2, // frac56
-    0x9D85E2, // frac58
-    0x9E85E2, // frac78
-    0x8481E2, // frasl
-    0xA28CE2, // frown
-    0xBB929DF0, // fscr
-    0xA789E2, // gE
-    0x8CAAE2, // gEl
-    0xB5C7, // gacute
-    0xB3CE, // gamma
-    0x9DCF, // gammad
-    0x86AAE2, // gap
-    0x9FC4, // gbreve
-    0x9DC4, // gcirc
-    0xB3D0, // gcy
-    0xA1C4, // gdot
-    0xA589E2, // ge
-    0x9B8BE2, // gel
-    0xA589E2, // geq
-    0xA789E2, // geqq
-    0xBEA9E2, // geqslant
-    0xBEA9E2, // ges
-    0xA9AAE2, // gescc
-    0x80AAE2, // gesdot
-    0x82AAE2, // gesdoto
-    0x84AAE2, // gesdotol
-    0x80B8EF9B8BE2, // gesl
-    0x94AAE2, // gesles
-    0xA4949DF0, // gfr
-    0xAB89E2, // gg
-    0x998BE2, // ggg
-    0xB784E2, // gimel
-    0x93D1, // gjcy
-    0xB789E2, // gl
-    0x92AAE2, // glE
-    0xA5AAE2, // gla
-    0xA4AAE2, // glj
-    0xA989E2, // gnE
-    0x8AAAE2, // gnap
-    0x8AAAE2, // gnapprox
-    0x88AAE2, // gne
-    0x88AAE2, // gneq
-    0xA989E2, // gneqq
-    0xA78BE2, // gnsim
-    0x98959DF0, // gopf
-    0x60, // grave
-    0x8A84E2, // gscr
-    0xB389E2, // gsim
-    0x8EAAE2, // gsime
-    0x90AAE2, // gsiml
-    0x3E, // gt
-    0xA7AAE2, // gtcc
-    0xBAA9E2, // gtcir
-    0x978BE2, // gtdot
-    0x95A6E2, // gtlPar
-    0xBCA9E2, // gtquest
-    0x86AAE2, // gtrapprox
-    0xB8A5E2, // gtrarr
-    0x978BE2, // gtrdot
-    0x9B8BE2, // gtreqless
-    0x8CAAE2, // gtreqqless
-    0xB789E2, // gtrless
-    0xB389E2, // gtrsim
-    0x80B8EFA989E2, // gvertneqq
-    0x80B8EFA989E2, // gvnE
+const LOWER_A_2_VALUES: [u16; 25] = [
+    0x2227, // and
+    0x2A55, // andand
+    0x2A5C, // andd
+    0x2A58, // andslope
+    0x2A5A, // andv
+    0x2220, // ang
+    0x29A4, // ange
+    0x2220, // angle
+    0x2221, // angmsd
+    0x29A8, // angmsdaa
+    0x29A9, // angmsdab
+    0x29AA, // angmsdac
+    0x29AB, // angmsdad
+    0x29AC, // angmsdae
+    0x29AD, // angmsdaf
+    0x29AE, // angmsdag
+    0x29AF, // angmsdah
+    0x221F, // angrt
+    0x22BE, // angrtvb
+    0x299D, // angrtvbd
+    0x2222, // angsph
+    0x00C5, // angst
+    0x237C, // angzarr
+    0x0105, // aogon
+    0xE152, // aopf
 ];
 
-// What `name` stands for among the names that begin with `e` to `g`.
-pub fn in_e_to_g(name: &[u8]) -> Meaning
-    ensures { λ r. ⌜ meaningBytes r ≡ lookup (starting (0x65, 0x67) names) (now (name .entry)) ⌝ }
+// What `a` and `rest` stand for, where `rest` begins with a byte from 6E to 6F hex.
+fn lower_a_2(rest: &[u8]) -> Meaning
+    ensures { λ r. ⌜ meaningBytes r ≡ lookup (seconds (0x6E, 0x6F) lower-a) (0x61 ∷ now (rest .entry)) ⌝ }
 {
-    names_search::find(name, &E_TO_G_NAMES, &E_TO_G_OFFSETS, &E_TO_G_VALUES)
+    names_search::find(
+        rest,
+        &LOWER_A_2_NAMES,
+        &LOWER_A_2_LENGTHS,
+        &LOWER_A_2_VALUES,
+    )
 }
 
-const H_TO_K_NAMES: [u8; 507] = *b"\
-    hArrhairsphalfhamilthardcyharrharrcirharrwhbarhcircheartsheartsuithellipherconhfrhksearowhkswarowhoarrhomtht\
-    hookleftarrowhookrightarrowhopfhorbarhscrhslashhstrokhybullhypheniacuteicicircicyiecyiexcliffifrigraveiiiiiint\
-    iiintiinfiniiotaijligimacrimageimaglineimagpartimathimofimpedinincareinfininfintieinodotintintcalintegers\
-    intercalintlarhkintprodiocyiogoniopfiotaiprodiquestiscrisinisinEisindotisinsisinsvisinvititildeiukcyiumljcirc\
-    jcyjfrjmathjopfjscrjsercyjukcykappakappavkcedilkcykfrkgreenkhcykjcykopfkscr";
+const LOWER_A_3_NAMES: [u8; 66] = *b"\
+    ppEpacirpepidpospproxpproxeqringscrstsympsympeqtildeumlwconintwint";
 
-const H_TO_K_OFFSETS: [u16; 97] = [
-    0,
-    4,
+const LOWER_A_3_LENGTHS: [u8; 17] = [1, 2, 5, 2, 3, 3, 5, 7, 4, 3, 2, 4, 6, 5, 3, 7, 4];
+
+const LOWER_A_3_VALUES: [u16; 17] = [
+    0x2248, // ap
+    0x2A70, // apE
+    0x2A6F, // apacir
+    0x224A, // ape
+    0x224B, // apid
+    0x0027, // apos
+    0x2248, // approx
+    0x224A, // approxeq
+    0x00E5, // aring
+    0xE0B6, // ascr
+    0x002A, // ast
+    0x2248, // asymp
+    0x224D, // asympeq
+    0x00E3, // atilde
+    0x00E4, // auml
+    0x2233, // awconint
+    0x2A11, // awint
+];
+
+// What `a` and `rest` stand for, where `rest` begins with a byte from 70 to FF hex.
+fn lower_a_3(rest: &[u8]) -> Meaning
+    ensures { λ r. ⌜ meaningBytes r ≡ lookup (seconds (0x70, 0xFF) lower-a) (0x61 ∷ now (rest .entry)) ⌝ }
+{
+    names_search::find(
+        rest,
+        &LOWER_A_3_NAMES,
+        &LOWER_A_3_LENGTHS,
+        &LOWER_A_3_VALUES,
+    )
+}
+
+// What `a` and `rest` stand for. `second` is the first byte of `rest`, 0 if it has none.
+pub fn lower_a(second: u8, rest: &[u8]) -> Meaning
+    requires { ⌜ (getD (now rest) 0 0 ≡ second) × (second ≤ 255) ⌝ }
+    ensures { λ r. ⌜ meaningBytes r ≡ lookup lower-a (0x61 ∷ now (rest .entry)) ⌝ }
+{
+    if second < b'n' {
+        return lower_a_1(rest);
+    }
+    if second < b'p' {
+        return lower_a_2(rest);
+    }
+    lower_a_3(rest)
+}
+
+const LOWER_B_1_NAMES: [u8; 119] = *b"\
+    Notackcongackepsilonackprimeacksimacksimeqarveearwedarwedgebrkbrktbrkcongcydquoecausecauseemptyvepsiernoueta\
+    ethetweenfr";
+
+const LOWER_B_1_LENGTHS: [u8; 23] = [
+    3,
+    7,
     10,
+    8,
+    6,
+    8,
+    5,
+    5,
+    7,
+    3,
+    7,
+    4,
+    2,
+    4,
+    5,
+    6,
+    6,
+    4,
+    5,
+    3,
+    3,
+    6,
+    2,
+];
+
+const LOWER_B_1_VALUES: [u16; 23] = [
+    0x2AED, // bNot
+    0x224C, // backcong
+    0x03F6, // backepsilon
+    0x2035, // backprime
+    0x223D, // backsim
+    0x22CD, // backsimeq
+    0x22BD, // barvee
+    0x2305, // barwed
+    0x2305, // barwedge
+    0x23B5, // bbrk
+    0x23B6, // bbrktbrk
+    0x224C, // bcong
+    0x0431, // bcy
+    0x201E, // bdquo
+    0x2235, // becaus
+    0x2235, // because
+    0x29B0, // bemptyv
+    0x03F6, // bepsi
+    0x212C, // bernou
+    0x03B2, // beta
+    0x2136, // beth
+    0x226C, // between
+    0xE11F, // bfr
+];
+
+// What `b` and `rest` stand for, where `rest` begins with a byte from 00 to 68 hex.
+fn lower_b_1(rest: &[u8]) -> Meaning
+    ensures { λ r. ⌜ meaningBytes r ≡ lookup (seconds (0x00, 0x68) lower-b) (0x62 ∷ now (rest .entry)) ⌝ }
+{
+    names_search::find(
+        rest,
+        &LOWER_B_1_NAMES,
+        &LOWER_B_1_LENGTHS,
+        &LOWER_B_1_VALUES,
+    )
+}
+
+const LOWER_B_2_NAMES: [u8; 213] = *b"\
+    igcapigcircigcupigodotigoplusigotimesigsqcupigstarigtriangledownigtriangleupiguplusigveeigwedgekarow\
+    lacklozengelacksquarelacktrianglelacktriangledownlacktriangleleftlacktrianglerightlanklk12lk14lk34locknenequiv\
+    not";
+
+const LOWER_B_2_LENGTHS: [u8; 28] = [
+    5,
+    6,
+    5,
+    6,
+    7,
+    8,
+    7,
+    6,
     14,
-    20,
-    26,
-    30,
-    37,
-    42,
-    46,
-    51,
-    57,
-    66,
-    72,
-    78,
-    81,
-    89,
-    97,
-    102,
-    108,
-    121,
-    135,
-    139,
-    145,
-    149,
-    155,
-    161,
-    167,
-    173,
-    179,
-    181,
-    186,
-    189,
-    193,
-    198,
-    201,
-    204,
-    210,
-    212,
-    218,
-    223,
-    229,
-    234,
-    239,
-    244,
-    249,
-    257,
-    265,
-    270,
-    274,
-    279,
-    281,
-    287,
-    292,
-    300,
-    306,
-    309,
-    315,
-    323,
-    331,
-    339,
-    346,
-    350,
-    355,
-    359,
-    363,
-    368,
-    374,
-    378,
-    382,
-    387,
-    394,
-    399,
-    405,
-    410,
-    412,
-    418,
-    423,
-    427,
-    432,
-    435,
-    438,
-    443,
-    447,
-    451,
-    457,
-    462,
-    467,
-    473,
-    479,
-    482,
-    485,
-    491,
-    495,
-    499,
-    503,
-    507,
-];
-
-const H_TO_K_VALUES: [u64; 96] = [
-    0x9487E2, // hArr
-    0x8A80E2, // hairsp
-    0xBDC2, // half
-    0x8B84E2, // hamilt
-    0x8AD1, // hardcy
-    0x9486E2, // harr
-    0x88A5E2, // harrcir
-    0xAD86E2, // harrw
-    0x8F84E2, // hbar
-    0xA5C4, // hcirc
-    0xA599E2, // hearts
-    0xA599E2, // heartsuit
-    0xA680E2, // hellip
-    0xB98AE2, // hercon
-    0xA5949DF0, // hfr
-    0xA5A4E2, // hksearow
-    0xA6A4E2, // hkswarow
-    0xBF87E2, // hoarr
-    0xBB88E2, // homtht
-    0xA986E2, // hookleftarrow
-    0xAA86E2, // hookrightarrow
-    0x99959DF0, // hopf
-    0x9580E2, // horbar
-    0xBD929DF0, // hscr
-    0x8F84E2, // hslash
-    0xA7C4, // hstrok
-    0x8381E2, // hybull
-    0x9080E2, // hyphen
-    0xADC3, // iacute
-    0xA381E2, // ic
-    0xAEC3, // icirc
-    0xB8D0, // icy
-    0xB5D0, // iecy
-    0xA1C2, // iexcl
-    0x9487E2, // iff
-    0xA6949DF0, // ifr
-    0xACC3, // igrave
-    0x8885E2, // ii
-    0x8CA8E2, // iiiint
-    0xAD88E2, // iiint
-    0x9CA7E2, // iinfin
-    0xA984E2, // iiota
-    0xB3C4, // ijlig
-    0xABC4, // imacr
-    0x9184E2, // image
-    0x9084E2, // imagline
-    0x9184E2, // imagpart
-    0xB1C4, // imath
-    0xB78AE2, // imof
-    0xB5C6, // imped
-    0x8888E2, // in
-    0x8584E2, // incare
-    0x9E88E2, // infin
-    0x9DA7E2, // infintie
-    0xB1C4, // inodot
-    0xAB88E2, // int
-    0xBA8AE2, // intcal
-    0xA484E2, // integers
-    0xBA8AE2, // intercal
-    0x97A8E2, // intlarhk
-    0xBCA8E2, // intprod
-    0x91D1, // iocy
-    0xAFC4, // iogon
-    0x9A959DF0, // iopf
-    0xB9CE, // iota
-    0xBCA8E2, // iprod
-    0xBFC2, // iquest
-    0xBE929DF0, // iscr
-    0x8888E2, // isin
-    0xB98BE2, // isinE
-    0xB58BE2, // isindot
-    0xB48BE2, // isins
-    0xB38BE2, // isinsv
-    0x8888E2, // isinv
-    0xA281E2, // it
-    0xA9C4, // itilde
-    0x96D1, // iukcy
-    0xAFC3, // iuml
-    0xB5C4, // jcirc
-    0xB9D0, // jcy
-    0xA7949DF0, // jfr
-    0xB7C8, // jmath
-    0x9B959DF0, // jopf
-    0xBF929DF0, // jscr
-    0x98D1, // jsercy
-    0x94D1, // jukcy
-    0xBACE, // kappa
-    0xB0CF, // kappav
-    0xB7C4, // kcedil
-    0xBAD0, // kcy
-    0xA8949DF0, // kfr
-    0xB8C4, // kgreen
-    0x85D1, // khcy
-    0x9CD1, // kjcy
-    0x9C959DF0, // kopf
-    0x80939DF0, // kscr
-];
-
-// What `name` stands for among the names that begin with `h` to `k`.
-pub fn in_h_to_k(name: &[u8]) -> Meaning
-    ensures { λ r. ⌜ meaningBytes r ≡ lookup (starting (0x68, 0x6B) names) (now (name .entry)) ⌝ }
-{
-    names_search::find(name, &H_TO_K_NAMES, &H_TO_K_OFFSETS, &H_TO_K_VALUES)
-}
-
-const L_NAMES: [u8; 949] = *b"\
-    lAarrlArrlAtaillBarrlElEglHarlacutelaemptyvlagranlambdalanglangdlanglelaplaquolarrlarrblarrbfslarrfslarrhk\
-    larrlplarrpllarrsimlarrtllatlataillatelateslbarrlbbrklbracelbracklbrkelbrksldlbrkslulcaronlcedillceillcublcy\
-    ldcaldquoldquorldrdharldrusharldshleleftarrowleftarrowtailleftharpoondownleftharpoonupleftleftarrows\
-    leftrightarrowleftrightarrowsleftrightharpoonsleftrightsquigarrowleftthreetimeslegleqleqqleqslantleslescc\
-    lesdotlesdotolesdotorlesglesgeslessapproxlessdotlesseqgtrlesseqqgtrlessgtrlesssimlfishtlfloorlfrlglgElhard\
-    lharulharullhblkljcyllllarrllcornerllhardlltrilmidotlmoustlmoustachelnElnaplnapproxlnelneqlneqqlnsimloangloarr\
-    lobrklongleftarrowlongleftrightarrowlongmapstolongrightarrowlooparrowleftlooparrowrightloparlopflopluslotimes\
-    lowastlowbarlozlozengelozflparlparltlrarrlrcornerlrharlrhardlrmlrtrilsaquolscrlshlsimlsimelsimglsqblsquolsquor\
-    lstrokltltccltcirltdotlthreeltimesltlarrltquestltrParltriltrieltriflurdsharluruharlvertneqqlvnE";
-
-const L_OFFSETS: [u16; 153] = [
-    0,
+    12,
+    7,
     5,
-    9,
-    15,
-    20,
-    22,
-    25,
-    29,
-    35,
-    43,
-    49,
-    55,
-    59,
-    64,
-    70,
-    73,
-    78,
-    82,
-    87,
-    94,
-    100,
-    106,
-    112,
-    118,
-    125,
-    131,
-    134,
-    140,
-    144,
-    149,
-    154,
-    159,
-    165,
-    171,
-    176,
-    183,
-    190,
-    196,
-    202,
-    207,
-    211,
-    214,
-    218,
-    223,
-    229,
-    236,
-    244,
-    248,
-    250,
-    259,
-    272,
-    287,
-    300,
-    314,
-    328,
-    343,
-    360,
-    379,
-    393,
-    396,
-    399,
-    403,
-    411,
-    414,
-    419,
-    425,
-    432,
-    440,
-    444,
-    450,
-    460,
-    467,
-    476,
-    486,
-    493,
-    500,
-    506,
-    512,
-    515,
-    517,
-    520,
-    525,
-    530,
-    536,
-    541,
-    545,
-    547,
-    552,
-    560,
-    566,
-    571,
-    577,
-    583,
-    593,
-    596,
-    600,
-    608,
-    611,
-    615,
-    620,
-    625,
-    630,
-    635,
-    640,
-    653,
-    671,
-    681,
-    695,
-    708,
-    722,
-    727,
-    731,
-    737,
-    744,
-    750,
-    756,
-    759,
-    766,
-    770,
-    774,
-    780,
-    785,
-    793,
-    798,
-    804,
-    807,
-    812,
-    818,
-    822,
-    825,
-    829,
-    834,
-    839,
-    843,
-    848,
-    854,
-    860,
-    862,
-    866,
-    871,
-    876,
-    882,
-    888,
-    894,
-    901,
-    907,
-    911,
-    916,
-    921,
-    929,
-    936,
-    945,
-    949,
-];
-
-const L_VALUES: [u64; 152] = [
-    0x9A87E2, // lAarr
-    0x9087E2, // lArr
-    0x9BA4E2, // lAtail
-    0x8EA4E2, // lBarr
-    0xA689E2, // lE
-    0x8BAAE2, // lEg
-    0xA2A5E2, // lHar
-    0xBAC4, // lacute
-    0xB4A6E2, // laemptyv
-    0x9284E2, // lagran
-    0xBBCE, // lambda
-    0xA89FE2, // lang
-    0x91A6E2, // langd
-    0xA89FE2, // langle
-    0x85AAE2, // lap
-    0xABC2, // laquo
-    0x9086E2, // larr
-    0xA487E2, // larrb
-    0x9FA4E2, // larrbfs
-    0x9DA4E2, // larrfs
-    0xA986E2, // larrhk
-    0xAB86E2, // larrlp
-    0xB9A4E2, // larrpl
-    0xB3A5E2, // larrsim
-    0xA286E2, // larrtl
-    0xABAAE2, // lat
-    0x99A4E2, // latail
-    0xADAAE2, // late
-    0x80B8EFADAAE2, // lates
-    0x8CA4E2, // lbarr
-    0xB29DE2, // lbbrk
-    0x7B, // lbrace
-    0x5B, // lbrack
-    0x8BA6E2, // lbrke
-    0x8FA6E2, // lbrksld
-    0x8DA6E2, // lbrkslu
-    0xBEC4, // lcaron
-    0xBCC4, // lcedil
-    0x888CE2, // lceil
-    0x7B, // lcub
-    0xBBD0, // lcy
-    0xB6A4E2, // ldca
-    0x9C80E2, // ldquo
-    0x9E80E2, // ldquor
-    0xA7A5E2, // ldrdhar
-    0x8BA5E2, // ldrushar
-    0xB286E2, // ldsh
-    0xA489E2, // le
-    0x9086E2, // leftarrow
-    0xA286E2, // leftarrowtail
-    0xBD86E2, // leftharpoondown
-    0xBC86E2, // leftharpoonup
-    0x8787E2, // leftleftarrows
-    0x9486E2, // leftrightarrow
-    0x8687E2, // leftrightarrows
-    0x8B87E2, // leftrightharpoons
-    0xAD86E2, // leftrightsquigarrow
-    0x8B8BE2, // leftthreetimes
-    0x9A8BE2, // leg
-    0xA489E2, // leq
-    0xA689E2, // leqq
-    0xBDA9E2, // leqslant
-    0xBDA9E2, // les
-    0xA8AAE2, // lescc
-    0xBFA9E2, // lesdot
-    0x81AAE2, // lesdoto
-    0x83AAE2, // lesdotor
-    0x80B8EF9A8BE2, // lesg
-    0x93AAE2, // lesges
-    0x85AAE2, // lessapprox
-    0x968BE2, // lessdot
-    0x9A8BE2, // lesseqgtr
-    0x8BAAE2, // lesseqqgtr
-    0xB689E2, // lessgtr
-    0xB289E2, // lesssim
-    0xBCA5E2, // lfisht
-    0x8A8CE2, // lfloor
-    0xA9949DF0, // lfr
-    0xB689E2, // lg
-    0x91AAE2, // lgE
-    0xBD86E2, // lhard
-    0xBC86E2, // lharu
-    0xAAA5E2, // lharul
-    0x8496E2, // lhblk
-    0x99D1, // ljcy
-    0xAA89E2, // ll
-    0x8787E2, // llarr
-    0x9E8CE2, // llcorner
-    0xABA5E2, // llhard
-    0xBA97E2, // lltri
-    0x80C5, // lmidot
-    0xB08EE2, // lmoust
-    0xB08EE2, // lmoustache
-    0xA889E2, // lnE
-    0x89AAE2, // lnap
-    0x89AAE2, // lnapprox
-    0x87AAE2, // lne
-    0x87AAE2, // lneq
-    0xA889E2, // lneqq
-    0xA68BE2, // lnsim
-    0xAC9FE2, // loang
-    0xBD87E2, // loarr
-    0xA69FE2, // lobrk
-    0xB59FE2, // longleftarrow
-    0xB79FE2, // longleftrightarrow
-    0xBC9FE2, // longmapsto
-    0xB69FE2, // longrightarrow
-    0xAB86E2, // looparrowleft
-    0xAC86E2, // looparrowright
-    0x85A6E2, // lopar
-    0x9D959DF0, // lopf
-    0xADA8E2, // loplus
-    0xB4A8E2, // lotimes
-    0x9788E2, // lowast
-    0x5F, // lowbar
-    0x8A97E2, // loz
-    0x8A97E2, // lozenge
-    0xABA7E2, // lozf
-    0x28, // lpar
-    0x93A6E2, // lparlt
-    0x8687E2, // lrarr
-    0x9F8CE2, // lrcorner
-    0x8B87E2, // lrhar
-    0xADA5E2, // lrhard
-    0x8E80E2, // lrm
-    0xBF8AE2, // lrtri
-    0xB980E2, // lsaquo
-    0x81939DF0, // lscr
-    0xB086E2, // lsh
-    0xB289E2, // lsim
-    0x8DAAE2, // lsime
-    0x8FAAE2, // lsimg
-    0x5B, // lsqb
-    0x9880E2, // lsquo
-    0x9A80E2, // lsquor
-    0x82C5, // lstrok
-    0x3C, // lt
-    0xA6AAE2, // ltcc
-    0xB9A9E2, // ltcir
-    0x968BE2, // ltdot
-    0x8B8BE2, // lthree
-    0x898BE2, // ltimes
-    0xB6A5E2, // ltlarr
-    0xBBA9E2, // ltquest
-    0x96A6E2, // ltrPar
-    0x8397E2, // ltri
-    0xB48AE2, // ltrie
-    0x8297E2, // ltrif
-    0x8AA5E2, // lurdshar
-    0xA6A5E2, // luruhar
-    0x80B8EFA889E2, // lvertneqq
-    0x80B8EFA889E2, // lvnE
-];
-
-// What `name` stands for among the names that begin with `l`.
-pub fn in_l(name: &[u8]) -> Meaning
-    ensures { λ r. ⌜ meaningBytes r ≡ lookup (starting (0x6C, 0x6C) names) (now (name .entry)) ⌝ }
-{
-    names_search::find(name, &L_NAMES, &L_OFFSETS, &L_VALUES)
-}
-
-const M_NAMES: [u8; 201] = *b"\
-    mDDotmacrmalemaltmaltesemapmapstomapstodownmapstoleftmapstoupmarkermcommamcymdashmeasuredanglemfrmhomicromid\
-    midastmidcirmiddotminusminusbminusdminusdumlcpmldrmnplusmodelsmopfmpmscrmstposmumultimapmumap";
-
-const M_OFFSETS: [u16; 38] = [
-    0,
+    7,
     5,
-    9,
-    13,
+    11,
+    10,
+    12,
+    16,
+    16,
     17,
-    24,
-    27,
-    33,
-    43,
-    53,
-    61,
-    67,
-    73,
-    76,
-    81,
-    94,
-    97,
-    100,
-    105,
-    108,
-    114,
-    120,
-    126,
-    131,
-    137,
-    143,
-    150,
-    154,
-    158,
-    164,
-    170,
-    174,
-    176,
-    180,
-    186,
-    188,
-    196,
-    201,
+    4,
+    4,
+    4,
+    4,
+    4,
+    2,
+    6,
+    3,
 ];
 
-const M_VALUES: [u64; 37] = [
-    0xBA88E2, // mDDot
-    0xAFC2, // macr
-    0x8299E2, // male
-    0xA09CE2, // malt
-    0xA09CE2, // maltese
-    0xA686E2, // map
-    0xA686E2, // mapsto
-    0xA786E2, // mapstodown
-    0xA486E2, // mapstoleft
-    0xA586E2, // mapstoup
-    0xAE96E2, // marker
-    0xA9A8E2, // mcomma
-    0xBCD0, // mcy
-    0x9480E2, // mdash
-    0xA188E2, // measuredangle
-    0xAA949DF0, // mfr
-    0xA784E2, // mho
-    0xB5C2, // micro
-    0xA388E2, // mid
-    0x2A, // midast
-    0xB0ABE2, // midcir
-    0xB7C2, // middot
-    0x9288E2, // minus
-    0x9F8AE2, // minusb
-    0xB888E2, // minusd
-    0xAAA8E2, // minusdu
-    0x9BABE2, // mlcp
-    0xA680E2, // mldr
-    0x9388E2, // mnplus
-    0xA78AE2, // models
-    0x9E959DF0, // mopf
-    0x9388E2, // mp
-    0x82939DF0, // mscr
-    0xBE88E2, // mstpos
-    0xBCCE, // mu
-    0xB88AE2, // multimap
-    0xB88AE2, // mumap
+const LOWER_B_2_VALUES: [u16; 28] = [
+    0x22C2, // bigcap
+    0x25EF, // bigcirc
+    0x22C3, // bigcup
+    0x2A00, // bigodot
+    0x2A01, // bigoplus
+    0x2A02, // bigotimes
+    0x2A06, // bigsqcup
+    0x2605, // bigstar
+    0x25BD, // bigtriangledown
+    0x25B3, // bigtriangleup
+    0x2A04, // biguplus
+    0x22C1, // bigvee
+    0x22C0, // bigwedge
+    0x290D, // bkarow
+    0x29EB, // blacklozenge
+    0x25AA, // blacksquare
+    0x25B4, // blacktriangle
+    0x25BE, // blacktriangledown
+    0x25C2, // blacktriangleleft
+    0x25B8, // blacktriangleright
+    0x2423, // blank
+    0x2592, // blk12
+    0x2591, // blk14
+    0x2593, // blk34
+    0x2588, // block
+    0xF015, // bne
+    0xF016, // bnequiv
+    0x2310, // bnot
 ];
 
-// What `name` stands for among the names that begin with `m`.
-pub fn in_m(name: &[u8]) -> Meaning
-    ensures { λ r. ⌜ meaningBytes r ≡ lookup (starting (0x6D, 0x6D) names) (now (name .entry)) ⌝ }
+// What `b` and `rest` stand for, where `rest` begins with a byte from 69 to 6E hex.
+fn lower_b_2(rest: &[u8]) -> Meaning
+    ensures { λ r. ⌜ meaningBytes r ≡ lookup (seconds (0x69, 0x6E) lower-b) (0x62 ∷ now (rest .entry)) ⌝ }
 {
-    names_search::find(name, &M_NAMES, &M_OFFSETS, &M_VALUES)
+    names_search::find(
+        rest,
+        &LOWER_B_2_NAMES,
+        &LOWER_B_2_LENGTHS,
+        &LOWER_B_2_VALUES,
+    )
 }
 
-const N_NAMES: [u8; 949] = *b"\
-    nGgnGtnGtvnLeftarrownLeftrightarrownLlnLtnLtvnRightarrownVDashnVdashnablanacutenangnapnapEnapidnaposnapprox\
-    naturnaturalnaturalsnbspnbumpnbumpencapncaronncedilncongncongdotncupncyndashneneArrnearhknearrnearrownedot\
-    nequivnesearnesimnexistnexistsnfrngEngengeqngeqqngeqslantngesngsimngtngtrnhArrnharrnhparninisnisdnivnjcynlArr\
-    nlEnlarrnldrnlenleftarrownleftrightarrownleqnleqqnleqslantnlesnlessnlsimnltnltrinltrienmidnopfnotnotinnotinE\
-    notindotnotinvanotinvbnotinvcnotninotnivanotnivbnotnivcnparnparallelnparslnpartnpolintnprnprcuenprenprec\
-    npreceqnrArrnrarrnrarrcnrarrwnrightarrownrtrinrtrienscnsccuenscenscrnshortmidnshortparallelnsimnsimensimeq\
-    nsmidnsparnsqsubensqsupensubnsubEnsubensubsetnsubseteqnsubseteqqnsuccnsucceqnsupnsupEnsupensupsetnsupseteq\
-    nsupseteqqntglntildentlgntriangleleftntrianglelefteqntrianglerightntrianglerighteqnunumnumeronumspnvDashnvHarr\
-    nvapnvdashnvgenvgtnvinfinnvlArrnvlenvltnvltrienvrArrnvrtrienvsimnwArrnwarhknwarrnwarrownwnear";
+const LOWER_B_3_NAMES: [u8; 196] = *b"\
+    opfotottomowtieoxDLoxDRoxDloxDroxHoxHDoxHUoxHdoxHuoxULoxURoxUloxUroxVoxVHoxVLoxVRoxVhoxVloxVroxboxoxdLoxdRoxdl\
+    oxdroxhoxhDoxhUoxhdoxhuoxminusoxplusoxtimesoxuLoxuRoxuloxuroxvoxvHoxvLoxvRoxvhoxvloxvr";
 
-const N_OFFSETS: [u16; 166] = [
-    0,
+const LOWER_B_3_LENGTHS: [u8; 48] = [
+    3,
+    2,
+    5,
+    5,
+    4,
+    4,
+    4,
+    4,
+    3,
+    4,
+    4,
+    4,
+    4,
+    4,
+    4,
+    4,
+    4,
+    3,
+    4,
+    4,
+    4,
+    4,
+    4,
+    4,
+    5,
+    4,
+    4,
+    4,
+    4,
+    3,
+    4,
+    4,
+    4,
+    4,
+    7,
+    6,
+    7,
+    4,
+    4,
+    4,
+    4,
+    3,
+    4,
+    4,
+    4,
+    4,
+    4,
+    4,
+];
+
+const LOWER_B_3_VALUES: [u16; 48] = [
+    0xE153, // bopf
+    0x22A5, // bot
+    0x22A5, // bottom
+    0x22C8, // bowtie
+    0x2557, // boxDL
+    0x2554, // boxDR
+    0x2556, // boxDl
+    0x2553, // boxDr
+    0x2550, // boxH
+    0x2566, // boxHD
+    0x2569, // boxHU
+    0x2564, // boxHd
+    0x2567, // boxHu
+    0x255D, // boxUL
+    0x255A, // boxUR
+    0x255C, // boxUl
+    0x2559, // boxUr
+    0x2551, // boxV
+    0x256C, // boxVH
+    0x2563, // boxVL
+    0x2560, // boxVR
+    0x256B, // boxVh
+    0x2562, // boxVl
+    0x255F, // boxVr
+    0x29C9, // boxbox
+    0x2555, // boxdL
+    0x2552, // boxdR
+    0x2510, // boxdl
+    0x250C, // boxdr
+    0x2500, // boxh
+    0x2565, // boxhD
+    0x2568, // boxhU
+    0x252C, // boxhd
+    0x2534, // boxhu
+    0x229F, // boxminus
+    0x229E, // boxplus
+    0x22A0, // boxtimes
+    0x255B, // boxuL
+    0x2558, // boxuR
+    0x2518, // boxul
+    0x2514, // boxur
+    0x2502, // boxv
+    0x256A, // boxvH
+    0x2561, // boxvL
+    0x255E, // boxvR
+    0x253C, // boxvh
+    0x2524, // boxvl
+    0x251C, // boxvr
+];
+
+// What `b` and `rest` stand for, where `rest` begins with a byte from 6F to 6F hex.
+fn lower_b_3(rest: &[u8]) -> Meaning
+    ensures { λ r. ⌜ meaningBytes r ≡ lookup (seconds (0x6F, 0x6F) lower-b) (0x62 ∷ now (rest .entry)) ⌝ }
+{
+    names_search::find(
+        rest,
+        &LOWER_B_3_NAMES,
+        &LOWER_B_3_LENGTHS,
+        &LOWER_B_3_VALUES,
+    )
+}
+
+const LOWER_B_4_NAMES: [u8; 66] = *b"\
+    primerevervbarscrsemisimsimesolsolbsolhsubullulletumpumpEumpeumpeq";
+
+const LOWER_B_4_LENGTHS: [u8; 16] = [5, 4, 5, 3, 4, 3, 4, 3, 4, 7, 3, 5, 3, 4, 4, 5];
+
+const LOWER_B_4_VALUES: [u16; 16] = [
+    0x2035, // bprime
+    0x02D8, // breve
+    0x00A6, // brvbar
+    0xE0B7, // bscr
+    0x204F, // bsemi
+    0x223D, // bsim
+    0x22CD, // bsime
+    0x005C, // bsol
+    0x29C5, // bsolb
+    0x27C8, // bsolhsub
+    0x2022, // bull
+    0x2022, // bullet
+    0x224E, // bump
+    0x2AAE, // bumpE
+    0x224F, // bumpe
+    0x224F, // bumpeq
+];
+
+// What `b` and `rest` stand for, where `rest` begins with a byte from 70 to FF hex.
+fn lower_b_4(rest: &[u8]) -> Meaning
+    ensures { λ r. ⌜ meaningBytes r ≡ lookup (seconds (0x70, 0xFF) lower-b) (0x62 ∷ now (rest .entry)) ⌝ }
+{
+    names_search::find(
+        rest,
+        &LOWER_B_4_NAMES,
+        &LOWER_B_4_LENGTHS,
+        &LOWER_B_4_VALUES,
+    )
+}
+
+// What `b` and `rest` stand for. `second` is the first byte of `rest`, 0 if it has none.
+pub fn lower_b(second: u8, rest: &[u8]) -> Meaning
+    requires { ⌜ (getD (now rest) 0 0 ≡ second) × (second ≤ 255) ⌝ }
+    ensures { λ r. ⌜ meaningBytes r ≡ lookup lower-b (0x62 ∷ now (rest .entry)) ⌝ }
+{
+    if second < b'i' {
+        return lower_b_1(rest);
+    }
+    if second < b'o' {
+        return lower_b_2(rest);
+    }
+    if second < b'p' {
+        return lower_b_3(rest);
+    }
+    lower_b_4(rest)
+}
+
+const LOWER_C_1_NAMES: [u8; 116] = *b"\
+    acuteapapandapbrcupapcapapcupapdotapsaretaroncapscaroncedilcirccupscupssmdotedilemptyvententerdotfrhcyheck\
+    heckmarkhi";
+
+const LOWER_C_1_LENGTHS: [u8; 26] = [
+    5,
+    2,
+    5,
+    7,
+    5,
+    5,
+    5,
+    3,
+    4,
+    4,
+    4,
+    5,
+    5,
+    4,
+    4,
+    6,
+    3,
+    4,
+    6,
+    3,
+    8,
+    2,
+    3,
+    4,
+    8,
+    2,
+];
+
+const LOWER_C_1_VALUES: [u16; 26] = [
+    0x0107, // cacute
+    0x2229, // cap
+    0x2A44, // capand
+    0x2A49, // capbrcup
+    0x2A4B, // capcap
+    0x2A47, // capcup
+    0x2A40, // capdot
+    0xF017, // caps
+    0x2041, // caret
+    0x02C7, // caron
+    0x2A4D, // ccaps
+    0x010D, // ccaron
+    0x00E7, // ccedil
+    0x0109, // ccirc
+    0x2A4C, // ccups
+    0x2A50, // ccupssm
+    0x010B, // cdot
+    0x00B8, // cedil
+    0x29B2, // cemptyv
+    0x00A2, // cent
+    0x00B7, // centerdot
+    0xE120, // cfr
+    0x0447, // chcy
+    0x2713, // check
+    0x2713, // checkmark
+    0x03C7, // chi
+];
+
+// What `c` and `rest` stand for, where `rest` begins with a byte from 00 to 68 hex.
+fn lower_c_1(rest: &[u8]) -> Meaning
+    ensures { λ r. ⌜ meaningBytes r ≡ lookup (seconds (0x00, 0x68) lower-c) (0x63 ∷ now (rest .entry)) ⌝ }
+{
+    names_search::find(
+        rest,
+        &LOWER_C_1_NAMES,
+        &LOWER_C_1_LENGTHS,
+        &LOWER_C_1_VALUES,
+    )
+}
+
+const LOWER_C_2_NAMES: [u8; 117] = *b"\
+    irirEircirceqirclearrowleftirclearrowrightircledRircledSircledastircledcircircleddashireirfnintirmidirscirlubs\
+    lubsuit";
+
+const LOWER_C_2_LENGTHS: [u8; 17] = [2, 3, 3, 5, 14, 15, 7, 7, 9, 10, 10, 3, 7, 5, 6, 4, 7];
+
+const LOWER_C_2_VALUES: [u16; 17] = [
+    0x25CB, // cir
+    0x29C3, // cirE
+    0x02C6, // circ
+    0x2257, // circeq
+    0x21BA, // circlearrowleft
+    0x21BB, // circlearrowright
+    0x00AE, // circledR
+    0x24C8, // circledS
+    0x229B, // circledast
+    0x229A, // circledcirc
+    0x229D, // circleddash
+    0x2257, // cire
+    0x2A10, // cirfnint
+    0x2AEF, // cirmid
+    0x29C2, // cirscir
+    0x2663, // clubs
+    0x2663, // clubsuit
+];
+
+// What `c` and `rest` stand for, where `rest` begins with a byte from 69 to 6E hex.
+fn lower_c_2(rest: &[u8]) -> Meaning
+    ensures { λ r. ⌜ meaningBytes r ≡ lookup (seconds (0x69, 0x6E) lower-c) (0x63 ∷ now (rest .entry)) ⌝ }
+{
+    names_search::find(
+        rest,
+        &LOWER_C_2_NAMES,
+        &LOWER_C_2_LENGTHS,
+        &LOWER_C_2_VALUES,
+    )
+}
+
+const LOWER_C_3_NAMES: [u8; 108] = *b"\
+    olonoloneoloneqommaommatompompfnomplementomplexesongongdotonintopfoprodopyopysrrarrrossscrsubsubesupsupetdot";
+
+const LOWER_C_3_LENGTHS: [u8; 24] = [
+    4,
+    5,
+    6,
+    4,
+    5,
+    3,
+    5,
+    9,
+    8,
+    3,
+    6,
+    5,
+    3,
+    5,
+    3,
+    5,
+    4,
+    4,
+    3,
+    3,
+    4,
+    3,
+    4,
+    4,
+];
+
+const LOWER_C_3_VALUES: [u16; 24] = [
+    0x003A, // colon
+    0x2254, // colone
+    0x2254, // coloneq
+    0x002C, // comma
+    0x0040, // commat
+    0x2201, // comp
+    0x2218, // compfn
+    0x2201, // complement
+    0x2102, // complexes
+    0x2245, // cong
+    0x2A6D, // congdot
+    0x222E, // conint
+    0xE154, // copf
+    0x2210, // coprod
+    0x00A9, // copy
+    0x2117, // copysr
+    0x21B5, // crarr
+    0x2717, // cross
+    0xE0B8, // cscr
+    0x2ACF, // csub
+    0x2AD1, // csube
+    0x2AD0, // csup
+    0x2AD2, // csupe
+    0x22EF, // ctdot
+];
+
+// What `c` and `rest` stand for, where `rest` begins with a byte from 6F to 74 hex.
+fn lower_c_3(rest: &[u8]) -> Meaning
+    ensures { λ r. ⌜ meaningBytes r ≡ lookup (seconds (0x6F, 0x74) lower-c) (0x63 ∷ now (rest .entry)) ⌝ }
+{
+    names_search::find(
+        rest,
+        &LOWER_C_3_NAMES,
+        &LOWER_C_3_LENGTHS,
+        &LOWER_C_3_VALUES,
+    )
+}
+
+const LOWER_C_4_NAMES: [u8; 165] = *b"\
+    udarrludarrruepruescularrularrpupupbrcapupcapupcupupdotuporupsurarrurarrmurlyeqprecurlyeqsuccurlyveeurlywedge\
+    urrenurvearrowlefturvearrowrightuveeuwedwconintwintylcty";
+
+const LOWER_C_4_LENGTHS: [u8; 27] = [
+    6,
+    6,
+    4,
+    4,
+    5,
+    6,
+    2,
+    7,
+    5,
+    5,
+    5,
+    4,
+    3,
+    5,
+    6,
+    10,
+    10,
+    7,
+    9,
+    5,
+    13,
+    14,
+    4,
+    4,
+    7,
+    4,
+    5,
+];
+
+const LOWER_C_4_VALUES: [u16; 27] = [
+    0x2938, // cudarrl
+    0x2935, // cudarrr
+    0x22DE, // cuepr
+    0x22DF, // cuesc
+    0x21B6, // cularr
+    0x293D, // cularrp
+    0x222A, // cup
+    0x2A48, // cupbrcap
+    0x2A46, // cupcap
+    0x2A4A, // cupcup
+    0x228D, // cupdot
+    0x2A45, // cupor
+    0xF018, // cups
+    0x21B7, // curarr
+    0x293C, // curarrm
+    0x22DE, // curlyeqprec
+    0x22DF, // curlyeqsucc
+    0x22CE, // curlyvee
+    0x22CF, // curlywedge
+    0x00A4, // curren
+    0x21B6, // curvearrowleft
+    0x21B7, // curvearrowright
+    0x22CE, // cuvee
+    0x22CF, // cuwed
+    0x2232, // cwconint
+    0x2231, // cwint
+    0x232D, // cylcty
+];
+
+// What `c` and `rest` stand for, where `rest` begins with a byte from 75 to FF hex.
+fn lower_c_4(rest: &[u8]) -> Meaning
+    ensures { λ r. ⌜ meaningBytes r ≡ lookup (seconds (0x75, 0xFF) lower-c) (0x63 ∷ now (rest .entry)) ⌝ }
+{
+    names_search::find(
+        rest,
+        &LOWER_C_4_NAMES,
+        &LOWER_C_4_LENGTHS,
+        &LOWER_C_4_VALUES,
+    )
+}
+
+// What `c` and `rest` stand for. `second` is the first byte of `rest`, 0 if it has none.
+pub fn lower_c(second: u8, rest: &[u8]) -> Meaning
+    requires { ⌜ (getD (now rest) 0 0 ≡ second) × (second ≤ 255) ⌝ }
+    ensures { λ r. ⌜ meaningBytes r ≡ lookup lower-c (0x63 ∷ now (rest .entry)) ⌝ }
+{
+    if second < b'i' {
+        return lower_c_1(rest);
+    }
+    if second < b'o' {
+        return lower_c_2(rest);
+    }
+    if second < b'u' {
+        return lower_c_3(rest);
+    }
+    lower_c_4(rest)
+}
+
+const LOWER_D_1_NAMES: [u8; 87] = *b"\
+    ArrHaraggeraletharrashashvbkarowblaccaroncyddaggerdarrdotseqegeltaemptyvfishtfrharlharr";
+
+const LOWER_D_1_LENGTHS: [u8; 22] = [
+    3,
+    3,
+    5,
+    5,
+    3,
+    3,
+    4,
+    6,
+    4,
+    5,
+    2,
+    1,
+    6,
+    4,
+    6,
+    2,
+    4,
+    6,
+    5,
+    2,
+    4,
+    4,
+];
+
+const LOWER_D_1_VALUES: [u16; 22] = [
+    0x21D3, // dArr
+    0x2965, // dHar
+    0x2020, // dagger
+    0x2138, // daleth
+    0x2193, // darr
+    0x2010, // dash
+    0x22A3, // dashv
+    0x290F, // dbkarow
+    0x02DD, // dblac
+    0x010F, // dcaron
+    0x0434, // dcy
+    0x2146, // dd
+    0x2021, // ddagger
+    0x21CA, // ddarr
+    0x2A77, // ddotseq
+    0x00B0, // deg
+    0x03B4, // delta
+    0x29B1, // demptyv
+    0x297F, // dfisht
+    0xE121, // dfr
+    0x21C3, // dharl
+    0x21C2, // dharr
+];
+
+// What `d` and `rest` stand for, where `rest` begins with a byte from 00 to 68 hex.
+fn lower_d_1(rest: &[u8]) -> Meaning
+    ensures { λ r. ⌜ meaningBytes r ≡ lookup (seconds (0x00, 0x68) lower-d) (0x64 ∷ now (rest .entry)) ⌝ }
+{
+    names_search::find(
+        rest,
+        &LOWER_D_1_NAMES,
+        &LOWER_D_1_LENGTHS,
+        &LOWER_D_1_VALUES,
+    )
+}
+
+const LOWER_D_2_NAMES: [u8; 194] = *b"\
+    iamiamondiamondsuitiamsieigammaisinivivideivideontimesivonxjcylcornlcropollaropfototeqoteqdototminusotplus\
+    otsquareoublebarwedgeownarrowowndownarrowsownharpoonleftownharpoonrightrbkarowrcornrcrop";
+
+const LOWER_D_2_LENGTHS: [u8; 30] = [
     3,
     6,
     10,
-    20,
-    35,
-    38,
-    41,
-    45,
-    56,
-    62,
-    68,
-    73,
-    79,
-    83,
-    86,
-    90,
-    95,
-    100,
-    107,
-    112,
-    119,
-    127,
-    131,
-    136,
-    142,
-    146,
-    152,
-    158,
-    163,
-    171,
-    175,
-    178,
-    183,
-    185,
-    190,
-    196,
-    201,
-    208,
-    213,
-    219,
-    225,
-    230,
-    236,
-    243,
-    246,
-    249,
-    252,
-    256,
-    261,
-    270,
-    274,
-    279,
-    282,
-    286,
-    291,
-    296,
-    301,
-    303,
-    306,
-    310,
-    313,
-    317,
-    322,
-    325,
-    330,
-    334,
-    337,
-    347,
-    362,
-    366,
-    371,
-    380,
-    384,
-    389,
-    394,
-    397,
-    402,
-    408,
-    412,
-    416,
-    419,
-    424,
-    430,
-    438,
-    445,
-    452,
-    459,
-    464,
-    471,
-    478,
-    485,
-    489,
-    498,
-    504,
-    509,
-    516,
-    519,
-    525,
-    529,
-    534,
-    541,
-    546,
-    551,
-    557,
-    563,
-    574,
-    579,
-    585,
-    588,
-    594,
-    598,
-    602,
-    611,
-    625,
-    629,
-    634,
-    640,
-    645,
-    650,
-    657,
-    664,
-    668,
-    673,
-    678,
-    685,
-    694,
-    704,
-    709,
-    716,
-    720,
-    725,
-    730,
-    737,
-    746,
-    756,
-    760,
-    766,
-    770,
-    783,
-    798,
-    812,
-    828,
-    830,
-    833,
-    839,
-    844,
-    850,
-    856,
-    860,
-    866,
-    870,
-    874,
-    881,
-    887,
-    891,
-    895,
-    902,
-    908,
-    915,
-    920,
-    925,
-    931,
-    936,
-    943,
-    949,
-];
-
-const N_VALUES: [u64; 165] = [
-    0xB8CC998BE2, // nGg
-    0x9283E2AB89E2, // nGt
-    0xB8CCAB89E2, // nGtv
-    0x8D87E2, // nLeftarrow
-    0x8E87E2, // nLeftrightarrow
-    0xB8CC988BE2, // nLl
-    0x9283E2AA89E2, // nLt
-    0xB8CCAA89E2, // nLtv
-    0x8F87E2, // nRightarrow
-    0xAF8AE2, // nVDash
-    0xAE8AE2, // nVdash
-    0x8788E2, // nabla
-    0x84C5, // nacute
-    0x9283E2A088E2, // nang
-    0x8989E2, // nap
-    0xB8CCB0A9E2, // napE
-    0xB8CC8B89E2, // napid
-    0x89C5, // napos
-    0x8989E2, // napprox
-    0xAE99E2, // natur
-    0xAE99E2, // natural
-    0x9584E2, // naturals
-    0xA0C2, // nbsp
-    0xB8CC8E89E2, // nbump
-    0xB8CC8F89E2, // nbumpe
-    0x83A9E2, // ncap
-    0x88C5, // ncaron
-    0x86C5, // ncedil
-    0x8789E2, // ncong
-    0xB8CCADA9E2, // ncongdot
-    0x82A9E2, // ncup
-    0xBDD0, // ncy
-    0x9380E2, // ndash
-    0xA089E2, // ne
-    0x9787E2, // neArr
-    0xA4A4E2, // nearhk
-    0x9786E2, // nearr
-    0x9786E2, // nearrow
-    0xB8CC9089E2, // nedot
-    0xA289E2, // nequiv
-    0xA8A4E2, // nesear
-    0xB8CC8289E2, // nesim
-    0x8488E2, // nexist
-    0x8488E2, // nexists
-    0xAB949DF0, // nfr
-    0xB8CCA789E2, // ngE
-    0xB189E2, // nge
-    0xB189E2, // ngeq
-    0xB8CCA789E2, // ngeqq
-    0xB8CCBEA9E2, // ngeqslant
-    0xB8CCBEA9E2, // nges
-    0xB589E2, // ngsim
-    0xAF89E2, // ngt
-    0xAF89E2, // ngtr
-    0x8E87E2, // nhArr
-    0xAE86E2, // nharr
-    0xB2ABE2, // nhpar
-    0x8B88E2, // ni
-    0xBC8BE2, // nis
-    0xBA8BE2, // nisd
-    0x8B88E2, // niv
-    0x9AD1, // njcy
-    0x8D87E2, // nlArr
-    0xB8CCA689E2, // nlE
-    0x9A86E2, // nlarr
-    0xA580E2, // nldr
-    0xB089E2, // nle
-    0x9A86E2, // nleftarrow
-    0xAE86E2, // nleftrightarrow
-    0xB089E2, // nleq
-    0xB8CCA689E2, // nleqq
-    0xB8CCBDA9E2, // nleqslant
-    0xB8CCBDA9E2, // nles
-    0xAE89E2, // nless
-    0xB489E2, // nlsim
-    0xAE89E2, // nlt
-    0xAA8BE2, // nltri
-    0xAC8BE2, // nltrie
-    0xA488E2, // nmid
-    0x9F959DF0, // nopf
-    0xACC2, // not
-    0x8988E2, // notin
-    0xB8CCB98BE2, // notinE
-    0xB8CCB58BE2, // notindot
-    0x8988E2, // notinva
-    0xB78BE2, // notinvb
-    0xB68BE2, // notinvc
-    0x8C88E2, // notni
-    0x8C88E2, // notniva
-    0xBE8BE2, // notnivb
-    0xBD8BE2, // notnivc
-    0xA688E2, // npar
-    0xA688E2, // nparallel
-    0xA583E2BDABE2, // nparsl
-    0xB8CC8288E2, // npart
-    0x94A8E2, // npolint
-    0x808AE2, // npr
-    0xA08BE2, // nprcue
-    0xB8CCAFAAE2, // npre
-    0x808AE2, // nprec
-    0xB8CCAFAAE2, // npreceq
-    0x8F87E2, // nrArr
-    0x9B86E2, // nrarr
-    0xB8CCB3A4E2, // nrarrc
-    0xB8CC9D86E2, // nrarrw
-    0x9B86E2, // nrightarrow
-    0xAB8BE2, // nrtri
-    0xAD8BE2, // nrtrie
-    0x818AE2, // nsc
-    0xA18BE2, // nsccue
-    0xB8CCB0AAE2, // nsce
-    0x83939DF0, // nscr
-    0xA488E2, // nshortmid
-    0xA688E2, // nshortparallel
-    0x8189E2, // nsim
-    0x8489E2, // nsime
-    0x8489E2, // nsimeq
-    0xA488E2, // nsmid
-    0xA688E2, // nspar
-    0xA28BE2, // nsqsube
-    0xA38BE2, // nsqsupe
-    0x848AE2, // nsub
-    0xB8CC85ABE2, // nsubE
-    0x888AE2, // nsube
-    0x9283E2828AE2, // nsubset
-    0x888AE2, // nsubseteq
-    0xB8CC85ABE2, // nsubseteqq
-    0x818AE2, // nsucc
-    0xB8CCB0AAE2, // nsucceq
-    0x858AE2, // nsup
-    0xB8CC86ABE2, // nsupE
-    0x898AE2, // nsupe
-    0x9283E2838AE2, // nsupset
-    0x898AE2, // nsupseteq
-    0xB8CC86ABE2, // nsupseteqq
-    0xB989E2, // ntgl
-    0xB1C3, // ntilde
-    0xB889E2, // ntlg
-    0xAA8BE2, // ntriangleleft
-    0xAC8BE2, // ntrianglelefteq
-    0xAB8BE2, // ntriangleright
-    0xAD8BE2, // ntrianglerighteq
-    0xBDCE, // nu
-    0x23, // num
-    0x9684E2, // numero
-    0x8780E2, // numsp
-    0xAD8AE2, // nvDash
-    0x84A4E2, // nvHarr
-    0x9283E28D89E2, // nvap
-    0xAC8AE2, // nvdash
-    0x9283E2A589E2, // nvge
-    0x9283E23E, // nvgt
-    0x9EA7E2, // nvinfin
-    0x82A4E2, // nvlArr
-    0x9283E2A489E2, // nvle
-    0x9283E23C, // nvlt
-    0x9283E2B48AE2, // nvltrie
-    0x83A4E2, // nvrArr
-    0x9283E2B58AE2, // nvrtrie
-    0x9283E2BC88E2, // nvsim
-    0x9687E2, // nwArr
-    0xA3A4E2, // nwarhk
-    0x9686E2, // nwarr
-    0x9686E2, // nwarrow
-    0xA7A4E2, // nwnear
-];
-
-// What `name` stands for among the names that begin with `n`.
-pub fn in_n(name: &[u8]) -> Meaning
-    ensures { λ r. ⌜ meaningBytes r ≡ lookup (starting (0x6E, 0x6E) names) (now (name .entry)) ⌝ }
-{
-    names_search::find(name, &N_NAMES, &N_OFFSETS, &N_VALUES)
-}
-
-const O_TO_Q_NAMES: [u8; 671] = *b"\
-    oSoacuteoastocirocircocyodashodblacodivodotodsoldoeligofcirofrogonograveogtohbarohmointolarrolcirolcrossoline\
-    oltomacromegaomicronomidominusoopfoparoperpoplusororarrordorderorderofordfordmorigoforororslopeorvoscroslash\
-    osolotildeotimesotimesasoumlovbarparparaparallelparsimparslpartpcypercntperiodpermilperppertenkpfrphiphiv\
-    phmmatphonepipitchforkpivplanckplanckhplankvplusplusacirplusbpluscirplusdoplusdupluseplusmnplussimplustwopm\
-    pointintpopfpoundprprEprapprcuepreprecprecapproxpreccurlyeqpreceqprecnapproxprecneqqprecnsimprecsimprimeprimes\
-    prnEprnapprnsimprodprofalarproflineprofsurfpropproptoprsimprurelpscrpsipuncspqfrqintqopfqprimeqscrquaternions\
-    quatintquestquesteqquot";
-
-const O_TO_Q_OFFSETS: [u16; 130] = [
-    0,
+    4,
     2,
-    8,
-    12,
-    16,
-    21,
-    24,
-    29,
-    35,
-    39,
-    43,
-    49,
-    54,
-    59,
-    62,
-    66,
-    72,
-    75,
-    80,
-    83,
-    87,
-    92,
-    97,
-    104,
-    109,
-    112,
-    117,
-    122,
-    129,
-    133,
-    139,
-    143,
-    147,
-    152,
-    157,
-    159,
-    164,
-    167,
-    172,
-    179,
-    183,
-    187,
-    193,
-    197,
-    204,
-    207,
-    211,
-    217,
-    221,
-    227,
-    233,
-    241,
-    245,
-    250,
-    253,
-    257,
-    265,
-    271,
-    276,
-    280,
-    283,
-    289,
-    295,
-    301,
-    305,
-    312,
-    315,
-    318,
-    322,
-    328,
-    333,
-    335,
-    344,
-    347,
-    353,
-    360,
-    366,
-    370,
-    378,
-    383,
-    390,
-    396,
-    402,
-    407,
-    413,
-    420,
-    427,
-    429,
-    437,
-    441,
-    446,
-    448,
-    451,
-    455,
-    460,
-    463,
-    467,
-    477,
-    488,
-    494,
-    505,
-    513,
-    521,
-    528,
-    533,
-    539,
-    543,
-    548,
-    554,
-    558,
-    566,
-    574,
-    582,
-    586,
-    592,
-    597,
-    603,
-    607,
-    610,
-    616,
-    619,
-    623,
-    627,
-    633,
-    637,
-    648,
-    655,
-    660,
-    667,
-    671,
-];
-
-const O_TO_Q_VALUES: [u64; 129] = [
-    0x8893E2, // oS
-    0xB3C3, // oacute
-    0x9B8AE2, // oast
-    0x9A8AE2, // ocir
-    0xB4C3, // ocirc
-    0xBED0, // ocy
-    0x9D8AE2, // odash
-    0x91C5, // odblac
-    0xB8A8E2, // odiv
-    0x998AE2, // odot
-    0xBCA6E2, // odsold
-    0x93C5, // oelig
-    0xBFA6E2, // ofcir
-    0xAC949DF0, // ofr
-    0x9BCB, // ogon
-    0xB2C3, // ograve
-    0x81A7E2, // ogt
-    0xB5A6E2, // ohbar
-    0xA9CE, // ohm
-    0xAE88E2, // oint
-    0xBA86E2, // olarr
-    0xBEA6E2, // olcir
-    0xBBA6E2, // olcross
-    0xBE80E2, // oline
-    0x80A7E2, // olt
-    0x8DC5, // omacr
-    0x89CF, // omega
-    0xBFCE, // omicron
-    0xB6A6E2, // omid
-    0x968AE2, // ominus
-    0xA0959DF0, // oopf
-    0xB7A6E2, // opar
-    0xB9A6E2, // operp
-    0x958AE2, // oplus
-    0xA888E2, // or
-    0xBB86E2, // orarr
-    0x9DA9E2, // ord
-    0xB484E2, // order
-    0xB484E2, // orderof
-    0xAAC2, // ordf
-    0xBAC2, // ordm
-    0xB68AE2, // origof
-    0x96A9E2, // oror
-    0x97A9E2, // orslope
-    0x9BA9E2, // orv
-    0xB484E2, // oscr
-    0xB8C3, // oslash
-    0x988AE2, // osol
-    0xB5C3, // otilde
-    0x978AE2, // otimes
-    0xB6A8E2, // otimesas
-    0xB6C3, // ouml
-    0xBD8CE2, // ovbar
-    0xA588E2, // par
-    0xB6C2, // para
-    0xA588E2, // parallel
-    0xB3ABE2, // parsim
-    0xBDABE2, // parsl
-    0x8288E2, // part
-    0xBFD0, // pcy
-    0x25, // percnt
-    0x2E, // period
-    0xB080E2, // permil
-    0xA58AE2, // perp
-    0xB180E2, // pertenk
-    0xAD949DF0, // pfr
-    0x86CF, // phi
-    0x95CF, // phiv
-    0xB384E2, // phmmat
-    0x8E98E2, // phone
-    0x80CF, // pi
-    0x948BE2, // pitchfork
-    0x96CF, // piv
-    0x8F84E2, // planck
-    0x8E84E2, // planckh
-    0x8F84E2, // plankv
-    0x2B, // plus
-    0xA3A8E2, // plusacir
-    0x9E8AE2, // plusb
-    0xA2A8E2, // pluscir
-    0x9488E2, // plusdo
-    0xA5A8E2, // plusdu
-    0xB2A9E2, // pluse
-    0xB1C2, // plusmn
-    0xA6A8E2, // plussim
-    0xA7A8E2, // plustwo
-    0xB1C2, // pm
-    0x95A8E2, // pointint
-    0xA1959DF0, // popf
-    0xA3C2, // pound
-    0xBA89E2, // pr
-    0xB3AAE2, // prE
-    0xB7AAE2, // prap
-    0xBC89E2, // prcue
-    0xAFAAE2, // pre
-    0xBA89E2, // prec
-    0xB7AAE2, // precapprox
-    0xBC89E2, // preccurlyeq
-    0xAFAAE2, // preceq
-    0xB9AAE2, // precnapprox
-    0xB5AAE2, // precneqq
-    0xA88BE2, // precnsim
-    0xBE89E2, // precsim
-    0xB280E2, // prime
-    0x9984E2, // primes
-    0xB5AAE2, // prnE
-    0xB9AAE2, // prnap
-    0xA88BE2, // prnsim
-    0x8F88E2, // prod
-    0xAE8CE2, // profalar
-    0x928CE2, // profline
-    0x938CE2, // profsurf
-    0x9D88E2, // prop
-    0x9D88E2, // propto
-    0xBE89E2, // prsim
-    0xB08AE2, // prurel
-    0x85939DF0, // pscr
-    0x88CF, // psi
-    0x8880E2, // puncsp
-    0xAE949DF0, // qfr
-    0x8CA8E2, // qint
-    0xA2959DF0, // qopf
-    0x9781E2, // qprime
-    0x86939DF0, // qscr
-    0x8D84E2, // quaternions
-    0x96A8E2, // quatint
-    0x3F, // quest
-    0x9F89E2, // questeq
-    0x22, // quot
-];
-
-// What `name` stands for among the names that begin with `o` to `q`.
-pub fn in_o_to_q(name: &[u8]) -> Meaning
-    ensures { λ r. ⌜ meaningBytes r ≡ lookup (starting (0x6F, 0x71) names) (now (name .entry)) ⌝ }
-{
-    names_search::find(name, &O_TO_Q_NAMES, &O_TO_Q_OFFSETS, &O_TO_Q_VALUES)
-}
-
-const R_NAMES: [u8; 634] = *b"\
-    rAarrrArrrAtailrBarrrHarraceracuteradicraemptyvrangrangdrangerangleraquorarrrarraprarrbrarrbfsrarrcrarrfs\
-    rarrhkrarrlprarrplrarrsimrarrtlrarrwratailratiorationalsrbarrrbbrkrbracerbrackrbrkerbrksldrbrkslurcaronrcedil\
-    rceilrcubrcyrdcardldharrdquordquorrdshrealrealinerealpartrealsrectregrfishtrfloorrfrrhardrharurharulrhorhov\
-    rightarrowrightarrowtailrightharpoondownrightharpoonuprightleftarrowsrightleftharpoonsrightrightarrows\
-    rightsquigarrowrightthreetimesringrisingdotseqrlarrrlharrlmrmoustrmoustachernmidroangroarrrobrkroparropfroplus\
-    rotimesrparrpargtrppolintrrarrrsaquorscrrshrsqbrsquorsquorrthreertimesrtrirtriertrifrtriltriruluharrx";
-
-const R_OFFSETS: [u16; 103] = [
-    0,
+    6,
+    4,
+    2,
     5,
-    9,
+    12,
+    5,
+    3,
+    5,
+    5,
+    5,
+    3,
+    2,
+    4,
+    7,
+    7,
+    6,
+    8,
+    13,
+    8,
+    13,
+    14,
     15,
-    20,
-    24,
-    28,
-    34,
-    39,
-    47,
-    51,
-    56,
-    61,
-    67,
-    72,
-    76,
-    82,
-    87,
-    94,
-    99,
-    105,
-    111,
-    117,
-    123,
-    130,
-    136,
-    141,
-    147,
-    152,
-    161,
-    166,
-    171,
-    177,
-    183,
-    188,
-    195,
-    202,
-    208,
-    214,
-    219,
-    223,
-    226,
-    230,
-    237,
-    242,
-    248,
-    252,
-    256,
-    263,
-    271,
-    276,
-    280,
-    283,
-    289,
-    295,
-    298,
-    303,
-    308,
-    314,
-    317,
-    321,
-    331,
-    345,
-    361,
-    375,
-    390,
-    407,
-    423,
-    438,
-    453,
-    457,
-    469,
-    474,
-    479,
-    482,
-    488,
-    498,
-    503,
-    508,
-    513,
-    518,
-    523,
-    527,
-    533,
-    540,
-    544,
-    550,
-    558,
-    563,
-    569,
-    573,
-    576,
-    580,
-    585,
-    591,
-    597,
-    603,
-    607,
-    612,
-    617,
-    625,
-    632,
-    634,
+    7,
+    5,
+    5,
 ];
 
-const R_VALUES: [u64; 102] = [
-    0x9B87E2, // rAarr
-    0x9287E2, // rArr
-    0x9CA4E2, // rAtail
-    0x8FA4E2, // rBarr
-    0xA4A5E2, // rHar
-    0xB1CCBD88E2, // race
-    0x95C5, // racute
-    0x9A88E2, // radic
-    0xB3A6E2, // raemptyv
-    0xA99FE2, // rang
-    0x92A6E2, // rangd
-    0xA5A6E2, // range
-    0xA99FE2, // rangle
-    0xBBC2, // raquo
-    0x9286E2, // rarr
-    0xB5A5E2, // rarrap
-    0xA587E2, // rarrb
-    0xA0A4E2, // rarrbfs
-    0xB3A4E2, // rarrc
-    0x9EA4E2, // rarrfs
-    0xAA86E2, // rarrhk
-    0xAC86E2, // rarrlp
-    0x85A5E2, // rarrpl
-    0xB4A5E2, // rarrsim
-    0xA386E2, // rarrtl
-    0x9D86E2, // rarrw
-    0x9AA4E2, // ratail
-    0xB688E2, // ratio
-    0x9A84E2, // rationals
-    0x8DA4E2, // rbarr
-    0xB39DE2, // rbbrk
-    0x7D, // rbrace
-    0x5D, // rbrack
-    0x8CA6E2, // rbrke
-    0x8EA6E2, // rbrksld
-    0x90A6E2, // rbrkslu
-    0x99C5, // rcaron
-    0x97C5, // rcedil
-    0x898CE2, // rceil
-    0x7D, // rcub
-    0x80D1, // rcy
-    0xB7A4E2, // rdca
-    0xA9A5E2, // rdldhar
-    0x9D80E2, // rdquo
-    0x9D80E2, // rdquor
-    0xB386E2, // rdsh
-    0x9C84E2, // real
-    0x9B84E2, // realine
-    0x9C84E2, // realpart
-    0x9D84E2, // reals
-    0xAD96E2, // rect
-    0xAEC2, // reg
-    0xBDA5E2, // rfisht
-    0x8B8CE2, // rfloor
-    0xAF949DF0, // rfr
-    0x8187E2, // rhard
-    0x8087E2, // rharu
-    0xACA5E2, // rharul
-    0x81CF, // rho
-    0xB1CF, // rhov
-    0x9286E2, // rightarrow
-    0xA386E2, // rightarrowtail
-    0x8187E2, // rightharpoondown
-    0x8087E2, // rightharpoonup
-    0x8487E2, // rightleftarrows
-    0x8C87E2, // rightleftharpoons
-    0x8987E2, // rightrightarrows
-    0x9D86E2, // rightsquigarrow
-    0x8C8BE2, // rightthreetimes
-    0x9ACB, // ring
-    0x9389E2, // risingdotseq
-    0x8487E2, // rlarr
-    0x8C87E2, // rlhar
-    0x8F80E2, // rlm
-    0xB18EE2, // rmoust
-    0xB18EE2, // rmoustache
-    0xAEABE2, // rnmid
-    0xAD9FE2, // roang
-    0xBE87E2, // roarr
-    0xA79FE2, // robrk
-    0x86A6E2, // ropar
-    0xA3959DF0, // ropf
-    0xAEA8E2, // roplus
-    0xB5A8E2, // rotimes
-    0x29, // rpar
-    0x94A6E2, // rpargt
-    0x92A8E2, // rppolint
-    0x8987E2, // rrarr
-    0xBA80E2, // rsaquo
-    0x87939DF0, // rscr
-    0xB186E2, // rsh
-    0x5D, // rsqb
-    0x9980E2, // rsquo
-    0x9980E2, // rsquor
-    0x8C8BE2, // rthree
-    0x8A8BE2, // rtimes
-    0xB996E2, // rtri
-    0xB58AE2, // rtrie
-    0xB896E2, // rtrif
-    0x8EA7E2, // rtriltri
-    0xA8A5E2, // ruluhar
-    0x9E84E2, // rx
+const LOWER_D_2_VALUES: [u16; 30] = [
+    0x22C4, // diam
+    0x22C4, // diamond
+    0x2666, // diamondsuit
+    0x2666, // diams
+    0x00A8, // die
+    0x03DD, // digamma
+    0x22F2, // disin
+    0x00F7, // div
+    0x00F7, // divide
+    0x22C7, // divideontimes
+    0x22C7, // divonx
+    0x0452, // djcy
+    0x231E, // dlcorn
+    0x230D, // dlcrop
+    0x0024, // dollar
+    0xE155, // dopf
+    0x02D9, // dot
+    0x2250, // doteq
+    0x2251, // doteqdot
+    0x2238, // dotminus
+    0x2214, // dotplus
+    0x22A1, // dotsquare
+    0x2306, // doublebarwedge
+    0x2193, // downarrow
+    0x21CA, // downdownarrows
+    0x21C3, // downharpoonleft
+    0x21C2, // downharpoonright
+    0x2910, // drbkarow
+    0x231F, // drcorn
+    0x230C, // drcrop
 ];
 
-// What `name` stands for among the names that begin with `r`.
-pub fn in_r(name: &[u8]) -> Meaning
-    ensures { λ r. ⌜ meaningBytes r ≡ lookup (starting (0x72, 0x72) names) (now (name .entry)) ⌝ }
+// What `d` and `rest` stand for, where `rest` begins with a byte from 69 to 72 hex.
+fn lower_d_2(rest: &[u8]) -> Meaning
+    ensures { λ r. ⌜ meaningBytes r ≡ lookup (seconds (0x69, 0x72) lower-d) (0x64 ∷ now (rest .entry)) ⌝ }
 {
-    names_search::find(name, &R_NAMES, &R_OFFSETS, &R_VALUES)
+    names_search::find(
+        rest,
+        &LOWER_D_2_NAMES,
+        &LOWER_D_2_LENGTHS,
+        &LOWER_D_2_VALUES,
+    )
 }
 
-const S_NAMES: [u8; 894] = *b"\
-    sacutesbquoscscEscapscaronsccuescescedilscircscnEscnapscnsimscpolintscsimscysdotsdotbsdoteseArrsearhksearr\
-    searrowsectsemiseswarsetminussetmnsextsfrsfrownsharpshchcyshcyshortmidshortparallelshysigmasigmafsigmavsim\
-    simdotsimesimeqsimgsimgEsimlsimlEsimnesimplussimrarrslarrsmallsetminussmashpsmeparslsmidsmilesmtsmtesmtes\
-    softcysolsolbsolbarsopfspadesspadesuitsparsqcapsqcapssqcupsqcupssqsubsqsubesqsubsetsqsubseteqsqsupsqsupe\
-    sqsupsetsqsupseteqsqusquaresquarfsqufsrarrsscrssetmnssmilesstarfstarstarfstraightepsilonstraightphistrnssub\
-    subEsubdotsubesubedotsubmultsubnEsubnesubplussubrarrsubsetsubseteqsubseteqqsubsetneqsubsetneqqsubsimsubsub\
-    subsupsuccsuccapproxsucccurlyeqsucceqsuccnapproxsuccneqqsuccnsimsuccsimsumsungsupsup1sup2sup3supEsupdotsupdsub\
-    supesupedotsuphsolsuphsubsuplarrsupmultsupnEsupnesupplussupsetsupseteqsupseteqqsupsetneqsupsetneqqsupsimsupsub\
-    supsupswArrswarhkswarrswarrowswnwarszlig";
+const LOWER_D_3_NAMES: [u8; 49] = *b"\
+    scrscysolstroktdottritrifuarruharwanglezcyzigrarr";
 
-const S_OFFSETS: [u16; 153] = [
-    0,
+const LOWER_D_3_LENGTHS: [u8; 12] = [3, 3, 3, 5, 4, 3, 4, 4, 4, 6, 3, 7];
+
+const LOWER_D_3_VALUES: [u16; 12] = [
+    0xE0B9, // dscr
+    0x0455, // dscy
+    0x29F6, // dsol
+    0x0111, // dstrok
+    0x22F1, // dtdot
+    0x25BF, // dtri
+    0x25BE, // dtrif
+    0x21F5, // duarr
+    0x296F, // duhar
+    0x29A6, // dwangle
+    0x045F, // dzcy
+    0x27FF, // dzigrarr
+];
+
+// What `d` and `rest` stand for, where `rest` begins with a byte from 73 to FF hex.
+fn lower_d_3(rest: &[u8]) -> Meaning
+    ensures { λ r. ⌜ meaningBytes r ≡ lookup (seconds (0x73, 0xFF) lower-d) (0x64 ∷ now (rest .entry)) ⌝ }
+{
+    names_search::find(
+        rest,
+        &LOWER_D_3_NAMES,
+        &LOWER_D_3_LENGTHS,
+        &LOWER_D_3_VALUES,
+    )
+}
+
+// What `d` and `rest` stand for. `second` is the first byte of `rest`, 0 if it has none.
+pub fn lower_d(second: u8, rest: &[u8]) -> Meaning
+    requires { ⌜ (getD (now rest) 0 0 ≡ second) × (second ≤ 255) ⌝ }
+    ensures { λ r. ⌜ meaningBytes r ≡ lookup lower-d (0x64 ∷ now (rest .entry)) ⌝ }
+{
+    if second < b'i' {
+        return lower_d_1(rest);
+    }
+    if second < b's' {
+        return lower_d_2(rest);
+    }
+    lower_d_3(rest)
+}
+
+const LOWER_E_1_NAMES: [u8; 114] = *b"\
+    DDotDotacuteastercaroncircirccoloncydotefDotfrggravegsgsdotllinterslllslsdotmacrmptymptysetmptyvmspmsp13msp14\
+    ngnsp";
+
+const LOWER_E_1_LENGTHS: [u8; 31] = [
+    4,
+    3,
+    5,
+    5,
+    5,
+    3,
+    4,
+    5,
+    2,
+    3,
+    1,
+    4,
+    2,
+    1,
+    5,
+    2,
+    5,
+    1,
+    7,
+    2,
+    2,
+    5,
+    4,
+    4,
+    7,
+    5,
+    3,
+    5,
+    5,
+    2,
+    3,
+];
+
+const LOWER_E_1_VALUES: [u16; 31] = [
+    0x2A77, // eDDot
+    0x2251, // eDot
+    0x00E9, // eacute
+    0x2A6E, // easter
+    0x011B, // ecaron
+    0x2256, // ecir
+    0x00EA, // ecirc
+    0x2255, // ecolon
+    0x044D, // ecy
+    0x0117, // edot
+    0x2147, // ee
+    0x2252, // efDot
+    0xE122, // efr
+    0x2A9A, // eg
+    0x00E8, // egrave
+    0x2A96, // egs
+    0x2A98, // egsdot
+    0x2A99, // el
+    0x23E7, // elinters
+    0x2113, // ell
+    0x2A95, // els
+    0x2A97, // elsdot
+    0x0113, // emacr
+    0x2205, // empty
+    0x2205, // emptyset
+    0x2205, // emptyv
+    0x2003, // emsp
+    0x2004, // emsp13
+    0x2005, // emsp14
+    0x014B, // eng
+    0x2002, // ensp
+];
+
+// What `e` and `rest` stand for, where `rest` begins with a byte from 00 to 6E hex.
+fn lower_e_1(rest: &[u8]) -> Meaning
+    ensures { λ r. ⌜ meaningBytes r ≡ lookup (seconds (0x00, 0x6E) lower-e) (0x65 ∷ now (rest .entry)) ⌝ }
+{
+    names_search::find(
+        rest,
+        &LOWER_E_1_NAMES,
+        &LOWER_E_1_LENGTHS,
+        &LOWER_E_1_VALUES,
+    )
+}
+
+const LOWER_E_2_NAMES: [u8; 149] = *b"\
+    ogonopfparparslpluspsipsilonpsivqcircqcolonqsimqslantgtrqslantlessqualsquestquivquivDDqvparslrDotrarrscrsdot\
+    simtathumluroxclxistxpectationxponentiale";
+
+const LOWER_E_2_LENGTHS: [u8; 31] = [
+    4,
+    3,
+    3,
+    5,
+    4,
+    3,
     6,
-    11,
-    13,
-    16,
-    20,
-    26,
-    31,
-    34,
-    40,
-    45,
-    49,
-    54,
-    60,
-    68,
-    73,
-    76,
-    80,
-    85,
-    90,
-    95,
-    101,
-    106,
-    113,
-    117,
-    121,
-    127,
-    135,
-    140,
-    144,
-    147,
-    153,
-    158,
-    164,
-    168,
-    176,
-    189,
-    192,
-    197,
-    203,
-    209,
-    212,
-    218,
-    222,
-    227,
-    231,
-    236,
-    240,
-    245,
-    250,
-    257,
-    264,
-    269,
-    282,
-    288,
-    296,
-    300,
-    305,
-    308,
-    312,
-    317,
-    323,
-    326,
-    330,
-    336,
-    340,
-    346,
-    355,
-    359,
-    364,
-    370,
-    375,
-    381,
-    386,
-    392,
-    400,
-    410,
-    415,
-    421,
-    429,
-    439,
-    442,
-    448,
-    454,
-    458,
-    463,
-    467,
-    473,
-    479,
-    485,
-    489,
-    494,
-    509,
-    520,
-    525,
-    528,
-    532,
-    538,
-    542,
-    549,
-    556,
-    561,
-    566,
-    573,
-    580,
-    586,
-    594,
-    603,
-    612,
-    622,
-    628,
-    634,
-    640,
-    644,
-    654,
-    665,
-    671,
-    682,
-    690,
-    698,
-    705,
-    708,
-    712,
-    715,
-    719,
-    723,
-    727,
-    731,
-    737,
-    744,
-    748,
-    755,
-    762,
-    769,
-    776,
-    783,
-    788,
-    793,
-    800,
-    806,
-    814,
-    823,
-    832,
-    842,
-    848,
-    854,
-    860,
-    865,
-    871,
-    876,
-    883,
-    889,
-    894,
-];
-
-const S_VALUES: [u64; 152] = [
-    0x9BC5, // sacute
-    0x9A80E2, // sbquo
-    0xBB89E2, // sc
-    0xB4AAE2, // scE
-    0xB8AAE2, // scap
-    0xA1C5, // scaron
-    0xBD89E2, // sccue
-    0xB0AAE2, // sce
-    0x9FC5, // scedil
-    0x9DC5, // scirc
-    0xB6AAE2, // scnE
-    0xBAAAE2, // scnap
-    0xA98BE2, // scnsim
-    0x93A8E2, // scpolint
-    0xBF89E2, // scsim
-    0x81D1, // scy
-    0x858BE2, // sdot
-    0xA18AE2, // sdotb
-    0xA6A9E2, // sdote
-    0x9887E2, // seArr
-    0xA5A4E2, // searhk
-    0x9886E2, // searr
-    0x9886E2, // searrow
-    0xA7C2, // sect
-    0x3B, // semi
-    0xA9A4E2, // seswar
-    0x9688E2, // setminus
-    0x9688E2, // setmn
-    0xB69CE2, // sext
-    0xB0949DF0, // sfr
-    0xA28CE2, // sfrown
-    0xAF99E2, // sharp
-    0x89D1, // shchcy
-    0x88D1, // shcy
-    0xA388E2, // shortmid
-    0xA588E2, // shortparallel
-    0xADC2, // shy
-    0x83CF, // sigma
-    0x82CF, // sigmaf
-    0x82CF, // sigmav
-    0xBC88E2, // sim
-    0xAAA9E2, // simdot
-    0x8389E2, // sime
-    0x8389E2, // simeq
-    0x9EAAE2, // simg
-    0xA0AAE2, // simgE
-    0x9DAAE2, // siml
-    0x9FAAE2, // simlE
-    0x8689E2, // simne
-    0xA4A8E2, // simplus
-    0xB2A5E2, // simrarr
-    0x9086E2, // slarr
-    0x9688E2, // smallsetminus
-    0xB3A8E2, // smashp
-    0xA4A7E2, // smeparsl
-    0xA388E2, // smid
-    0xA38CE2, // smile
-    0xAAAAE2, // smt
-    0xACAAE2, // smte
-    0x80B8EFACAAE2, // smtes
-    0x8CD1, // softcy
-    0x2F, // sol
-    0x84A7E2, // solb
-    0xBF8CE2, // solbar
-    0xA4959DF0, // sopf
-    0xA099E2, // spades
-    0xA099E2, // spadesuit
-    0xA588E2, // spar
-    0x938AE2, // sqcap
-    0x80B8EF938AE2, // sqcaps
-    0x948AE2, // sqcup
-    0x80B8EF948AE2, // sqcups
-    0x8F8AE2, // sqsub
-    0x918AE2, // sqsube
-    0x8F8AE2, // sqsubset
-    0x918AE2, // sqsubseteq
-    0x908AE2, // sqsup
-    0x928AE2, // sqsupe
-    0x908AE2, // sqsupset
-    0x928AE2, // sqsupseteq
-    0xA196E2, // squ
-    0xA196E2, // square
-    0xAA96E2, // squarf
-    0xAA96E2, // squf
-    0x9286E2, // srarr
-    0x88939DF0, // sscr
-    0x9688E2, // ssetmn
-    0xA38CE2, // ssmile
-    0x868BE2, // sstarf
-    0x8698E2, // star
-    0x8598E2, // starf
-    0xB5CF, // straightepsilon
-    0x95CF, // straightphi
-    0xAFC2, // strns
-    0x828AE2, // sub
-    0x85ABE2, // subE
-    0xBDAAE2, // subdot
-    0x868AE2, // sube
-    0x83ABE2, // subedot
-    0x81ABE2, // submult
-    0x8BABE2, // subnE
-    0x8A8AE2, // subne
-    0xBFAAE2, // subplus
-    0xB9A5E2, // subrarr
-    0x828AE2, // subset
-    0x868AE2, // subseteq
-    0x85ABE2, // subseteqq
-    0x8A8AE2, // subsetneq
-    0x8BABE2, // subsetneqq
-    0x87ABE2, // subsim
-    0x95ABE2, // subsub
-    0x93ABE2, // subsup
-    0xBB89E2, // succ
-    0xB8AAE2, // succapprox
-    0xBD89E2, // succcurlyeq
-    0xB0AAE2, // succeq
-    0xBAAAE2, // succnapprox
-    0xB6AAE2, // succneqq
-    0xA98BE2, // succnsim
-    0xBF89E2, // succsim
-    0x9188E2, // sum
-    0xAA99E2, // sung
-    0x838AE2, // sup
-    0xB9C2, // sup1
-    0xB2C2, // sup2
-    0xB3C2, // sup3
-    0x86ABE2, // supE
-    0xBEAAE2, // supdot
-    0x98ABE2, // supdsub
-    0x878AE2, // supe
-    0x84ABE2, // supedot
-    0x899FE2, // suphsol
-    0x97ABE2, // suphsub
-    0xBBA5E2, // suplarr
-    0x82ABE2, // supmult
-    0x8CABE2, // supnE
-    0x8B8AE2, // supne
-    0x80ABE2, // supplus
-    0x838AE2, // supset
-    0x878AE2, // supseteq
-    0x86ABE2, // supseteqq
-    0x8B8AE2, // supsetneq
-    0x8CABE2, // supsetneqq
-    0x88ABE2, // supsim
-    0x94ABE2, // supsub
-    0x96ABE2, // supsup
-    0x9987E2, // swArr
-    0xA6A4E2, // swarhk
-    0x9986E2, // swarr
-    0x9986E2, // swarrow
-    0xAAA4E2, // swnwar
-    0x9FC3, // szlig
-];
-
-// What `name` stands for among the names that begin with `s`.
-pub fn in_s(name: &[u8]) -> Meaning
-    ensures { λ r. ⌜ meaningBytes r ≡ lookup (starting (0x73, 0x73) names) (now (name .entry)) ⌝ }
-{
-    names_search::find(name, &S_NAMES, &S_OFFSETS, &S_VALUES)
-}
-
-const T_TO_W_NAMES: [u8; 984] = *b"\
-    targettautbrktcarontcediltcytdottelrectfrthere4thereforethetathetasymthetavthickapproxthicksimthinspthkap\
-    thksimthorntildetimestimesbtimesbartimesdtinttoeatoptopbottopcirtopftopforktosatprimetradetriangletriangledown\
-    trianglelefttrianglelefteqtriangleqtrianglerighttrianglerighteqtridottrietriminustriplustrisbtritimetrpezium\
-    tscrtscytshcytstroktwixttwoheadleftarrowtwoheadrightarrowuArruHaruacuteuarrubrcyubreveucircucyudarrudblacudhar\
-    ufishtufrugraveuharluharruhblkulcornulcornerulcropultriumacrumluogonuopfuparrowupdownarrowupharpoonleft\
-    upharpoonrightuplusupsiupsihupsilonupuparrowsurcornurcornerurcropuringurtriuscrutdotutildeutriutrifuuarruuml\
-    uwanglevArrvBarvBarvvDashvangrtvarepsilonvarkappavarnothingvarphivarpivarproptovarrvarrhovarsigmavarsubsetneq\
-    varsubsetneqqvarsupsetneqvarsupsetneqqvarthetavartriangleleftvartrianglerightvcyvdashveeveebarveeeqvellip\
-    verbarvertvfrvltrivnsubvnsupvopfvpropvrtrivscrvsubnEvsubnevsupnEvsupnevzigzagwcircwedbarwedgewedgeqweierpwfr\
-    wopfwpwrwreathwscr";
-
-const T_TO_W_OFFSETS: [u16; 157] = [
-    0,
+    4,
+    5,
     6,
-    9,
-    13,
-    19,
-    25,
-    28,
-    32,
-    38,
-    41,
-    47,
-    56,
-    61,
-    69,
-    75,
-    86,
-    94,
-    100,
-    105,
-    111,
-    116,
-    121,
-    126,
-    132,
-    140,
-    146,
-    150,
-    154,
-    157,
-    163,
-    169,
-    173,
-    180,
-    184,
-    190,
-    195,
-    203,
-    215,
-    227,
-    241,
-    250,
-    263,
-    278,
-    284,
-    288,
-    296,
-    303,
-    308,
-    315,
-    323,
-    327,
-    331,
-    336,
-    342,
-    347,
-    363,
-    380,
-    384,
-    388,
-    394,
-    398,
-    403,
-    409,
-    414,
-    417,
-    422,
-    428,
-    433,
-    439,
-    442,
-    448,
-    453,
-    458,
-    463,
-    469,
-    477,
-    483,
-    488,
-    493,
-    496,
-    501,
-    505,
-    512,
-    523,
-    536,
-    550,
-    555,
-    559,
-    564,
-    571,
-    581,
-    587,
-    595,
-    601,
-    606,
-    611,
-    615,
-    620,
-    626,
-    630,
-    635,
-    640,
-    644,
-    651,
-    655,
-    659,
-    664,
-    669,
-    675,
-    685,
-    693,
-    703,
-    709,
-    714,
-    723,
-    727,
-    733,
-    741,
-    753,
-    766,
-    778,
-    791,
-    799,
-    814,
-    830,
-    833,
-    838,
-    841,
-    847,
-    852,
-    858,
-    864,
-    868,
-    871,
-    876,
-    881,
-    886,
-    890,
-    895,
-    900,
-    904,
-    910,
-    916,
-    922,
-    928,
-    935,
-    940,
-    946,
-    951,
-    957,
-    963,
-    966,
-    970,
-    972,
-    974,
-    980,
-    984,
-];
-
-const T_TO_W_VALUES: [u64; 156] = [
-    0x968CE2, // target
-    0x84CF, // tau
-    0xB48EE2, // tbrk
-    0xA5C5, // tcaron
-    0xA3C5, // tcedil
-    0x82D1, // tcy
-    0x9B83E2, // tdot
-    0x958CE2, // telrec
-    0xB1949DF0, // tfr
-    0xB488E2, // there4
-    0xB488E2, // therefore
-    0xB8CE, // theta
-    0x91CF, // thetasym
-    0x91CF, // thetav
-    0x8889E2, // thickapprox
-    0xBC88E2, // thicksim
-    0x8980E2, // thinsp
-    0x8889E2, // thkap
-    0xBC88E2, // thksim
-    0xBEC3, // thorn
-    0x9CCB, // tilde
-    0x97C3, // times
-    0xA08AE2, // timesb
-    0xB1A8E2, // timesbar
-    0xB0A8E2, // timesd
-    0xAD88E2, // tint
-    0xA8A4E2, // toea
-    0xA48AE2, // top
-    0xB68CE2, // topbot
-    0xB1ABE2, // topcir
-    0xA5959DF0, // topf
-    0x9AABE2, // topfork
-    0xA9A4E2, // tosa
-    0xB480E2, // tprime
-    0xA284E2, // trade
-    0xB596E2, // triangle
-    0xBF96E2, // triangledown
-    0x8397E2, // triangleleft
-    0xB48AE2, // trianglelefteq
-    0x9C89E2, // triangleq
-    0xB996E2, // triangleright
-    0xB58AE2, // trianglerighteq
-    0xAC97E2, // tridot
-    0x9C89E2, // trie
-    0xBAA8E2, // triminus
-    0xB9A8E2, // triplus
-    0x8DA7E2, // trisb
-    0xBBA8E2, // tritime
-    0xA28FE2, // trpezium
-    0x89939DF0, // tscr
-    0x86D1, // tscy
-    0x9BD1, // tshcy
-    0xA7C5, // tstrok
-    0xAC89E2, // twixt
-    0x9E86E2, // twoheadleftarrow
-    0xA086E2, // twoheadrightarrow
-    0x9187E2, // uArr
-    0xA3A5E2, // uHar
-    0xBAC3, // uacute
-    0x9186E2, // uarr
-    0x9ED1, // ubrcy
-    0xADC5, // ubreve
-    0xBBC3, // ucirc
-    0x83D1, // ucy
-    0x8587E2, // udarr
-    0xB1C5, // udblac
-    0xAEA5E2, // udhar
-    0xBEA5E2, // ufisht
-    0xB2949DF0, // ufr
-    0xB9C3, // ugrave
-    0xBF86E2, // uharl
-    0xBE86E2, // uharr
-    0x8096E2, // uhblk
-    0x9C8CE2, // ulcorn
-    0x9C8CE2, // ulcorner
-    0x8F8CE2, // ulcrop
-    0xB897E2, // ultri
-    0xABC5, // umacr
-    0xA8C2, // uml
-    0xB3C5, // uogon
-    0xA6959DF0, // uopf
-    0x9186E2, // uparrow
-    0x9586E2, // updownarrow
-    0xBF86E2, // upharpoonleft
-    0xBE86E2, // upharpoonright
-    0x8E8AE2, // uplus
-    0x85CF, // upsi
-    0x92CF, // upsih
-    0x85CF, // upsilon
-    0x8887E2, // upuparrows
-    0x9D8CE2, // urcorn
-    0x9D8CE2, // urcorner
-    0x8E8CE2, // urcrop
-    0xAFC5, // uring
-    0xB997E2, // urtri
-    0x8A939DF0, // uscr
-    0xB08BE2, // utdot
-    0xA9C5, // utilde
-    0xB596E2, // utri
-    0xB496E2, // utrif
-    0x8887E2, // uuarr
-    0xBCC3, // uuml
-    0xA7A6E2, // uwangle
-    0x9587E2, // vArr
-    0xA8ABE2, // vBar
-    0xA9ABE2, // vBarv
-    0xA88AE2, // vDash
-    0x9CA6E2, // vangrt
-    0xB5CF, // varepsilon
-    0xB0CF, // varkappa
-    0x8588E2, // varnothing
-    0x95CF, // varphi
-    0x96CF, // varpi
-    0x9D88E2, // varpropto
-    0x9586E2, // varr
-    0xB1CF, // varrho
-    0x82CF, // varsigma
-    0x80B8EF8A8AE2, // varsubsetneq
-    0x80B8EF8BABE2, // varsubsetneqq
-    0x80B8EF8B8AE2, // varsupsetneq
-    0x80B8EF8CABE2, // varsupsetneqq
-    0x91CF, // vartheta
-    0xB28AE2, // vartriangleleft
-    0xB38AE2, // vartriangleright
-    0xB2D0, // vcy
-    0xA28AE2, // vdash
-    0xA888E2, // vee
-    0xBB8AE2, // veebar
-    0x9A89E2, // veeeq
-    0xAE8BE2, // vellip
-    0x7C, // verbar
-    0x7C, // vert
-    0xB3949DF0, // vfr
-    0xB28AE2, // vltri
-    0x9283E2828AE2, // vnsub
-    0x9283E2838AE2, // vnsup
-    0xA7959DF0, // vopf
-    0x9D88E2, // vprop
-    0xB38AE2, // vrtri
-    0x8B939DF0, // vscr
-    0x80B8EF8BABE2, // vsubnE
-    0x80B8EF8A8AE2, // vsubne
-    0x80B8EF8CABE2, // vsupnE
-    0x80B8EF8B8AE2, // vsupne
-    0x9AA6E2, // vzigzag
-    0xB5C5, // wcirc
-    0x9FA9E2, // wedbar
-    0xA788E2, // wedge
-    0x9989E2, // wedgeq
-    0x9884E2, // weierp
-    0xB4949DF0, // wfr
-    0xA8959DF0, // wopf
-    0x9884E2, // wp
-    0x8089E2, // wr
-    0x8089E2, // wreath
-    0x8C939DF0, // wscr
-];
-
-// What `name` stands for among the names that begin with `t` to `w`.
-pub fn in_t_to_w(name: &[u8]) -> Meaning
-    ensures { λ r. ⌜ meaningBytes r ≡ lookup (starting (0x74, 0x77) names) (now (name .entry)) ⌝ }
-{
-    names_search::find(name, &T_TO_W_NAMES, &T_TO_W_OFFSETS, &T_TO_W_VALUES)
-}
-
-const X_TO_Z_NAMES: [u8; 215] = *b"\
-    xcapxcircxcupxdtrixfrxhArrxharrxixlArrxlarrxmapxnisxodotxopfxoplusxotimexrArrxrarrxscrxsqcupxuplusxutrixvee\
-    xwedgeyacuteyacyycircycyyenyfryicyyopfyscryucyyumlzacutezcaronzcyzdotzeetrfzetazfrzhcyzigrarrzopfzscrzwjzwnj";
-
-const X_TO_Z_OFFSETS: [u16; 49] = [
-    0,
     4,
     9,
-    13,
-    18,
-    21,
-    26,
-    31,
-    33,
-    38,
-    43,
-    47,
-    51,
-    56,
-    60,
-    66,
-    72,
-    77,
-    82,
-    86,
-    92,
-    98,
-    103,
-    107,
-    113,
-    119,
-    123,
-    128,
-    131,
-    134,
-    137,
-    141,
-    145,
-    149,
-    153,
-    157,
-    163,
-    169,
-    172,
-    176,
-    182,
-    186,
-    189,
-    193,
-    200,
-    204,
-    208,
-    211,
-    215,
+    10,
+    5,
+    5,
+    4,
+    6,
+    7,
+    4,
+    4,
+    3,
+    4,
+    3,
+    2,
+    2,
+    3,
+    3,
+    3,
+    4,
+    10,
+    11,
 ];
 
-const X_TO_Z_VALUES: [u64; 48] = [
-    0x828BE2, // xcap
-    0xAF97E2, // xcirc
-    0x838BE2, // xcup
-    0xBD96E2, // xdtri
-    0xB5949DF0, // xfr
-    0xBA9FE2, // xhArr
-    0xB79FE2, // xharr
-    0xBECE, // xi
-    0xB89FE2, // xlArr
-    0xB59FE2, // xlarr
-    0xBC9FE2, // xmap
-    0xBB8BE2, // xnis
-    0x80A8E2, // xodot
-    0xA9959DF0, // xopf
-    0x81A8E2, // xoplus
-    0x82A8E2, // xotime
-    0xB99FE2, // xrArr
-    0xB69FE2, // xrarr
-    0x8D939DF0, // xscr
-    0x86A8E2, // xsqcup
-    0x84A8E2, // xuplus
-    0xB396E2, // xutri
-    0x818BE2, // xvee
-    0x808BE2, // xwedge
-    0xBDC3, // yacute
-    0x8FD1, // yacy
-    0xB7C5, // ycirc
-    0x8BD1, // ycy
-    0xA5C2, // yen
-    0xB6949DF0, // yfr
-    0x97D1, // yicy
-    0xAA959DF0, // yopf
-    0x8E939DF0, // yscr
-    0x8ED1, // yucy
-    0xBFC3, // yuml
-    0xBAC5, // zacute
-    0xBEC5, // zcaron
-    0xB7D0, // zcy
-    0xBCC5, // zdot
-    0xA884E2, // zeetrf
-    0xB6CE, // zeta
-    0xB7949DF0, // zfr
-    0xB6D0, // zhcy
-    0x9D87E2, // zigrarr
-    0xAB959DF0, // zopf
-    0x8F939DF0, // zscr
-    0x8D80E2, // zwj
-    0x8C80E2, // zwnj
+const LOWER_E_2_VALUES: [u16; 31] = [
+    0x0119, // eogon
+    0xE156, // eopf
+    0x22D5, // epar
+    0x29E3, // eparsl
+    0x2A71, // eplus
+    0x03B5, // epsi
+    0x03B5, // epsilon
+    0x03F5, // epsiv
+    0x2256, // eqcirc
+    0x2255, // eqcolon
+    0x2242, // eqsim
+    0x2A96, // eqslantgtr
+    0x2A95, // eqslantless
+    0x003D, // equals
+    0x225F, // equest
+    0x2261, // equiv
+    0x2A78, // equivDD
+    0x29E5, // eqvparsl
+    0x2253, // erDot
+    0x2971, // erarr
+    0x212F, // escr
+    0x2250, // esdot
+    0x2242, // esim
+    0x03B7, // eta
+    0x00F0, // eth
+    0x00EB, // euml
+    0x20AC, // euro
+    0x0021, // excl
+    0x2203, // exist
+    0x2130, // expectation
+    0x2147, // exponentiale
 ];
 
-// What `name` stands for among the names that begin with `x` to `z`.
-pub fn in_x_to_z(name: &[u8]) -> Meaning
-    ensures { λ r. ⌜ meaningBytes r ≡ lookup (starting (0x78, 0x7A) names) (now (name .entry)) ⌝ }
+// What `e` and `rest` stand for, where `rest` begins with a byte from 6F to FF hex.
+fn lower_e_2(rest: &[u8]) -> Meaning
+    ensures { λ r. ⌜ meaningBytes r ≡ lookup (seconds (0x6F, 0xFF) lower-e) (0x65 ∷ now (rest .entry)) ⌝ }
 {
-    names_search::find(name, &X_TO_Z_NAMES, &X_TO_Z_OFFSETS, &X_TO_Z_VALUES)
+    names_search::find(
+        rest,
+        &LOWER_E_2_NAMES,
+        &LOWER_E_2_LENGTHS,
+        &LOWER_E_2_VALUES,
+    )
+}
+
+// What `e` and `rest` stand for. `second` is the first byte of `rest`, 0 if it has none.
+pub fn lower_e(second: u8, rest: &[u8]) -> Meaning
+    requires { ⌜ (getD (now rest) 0 0 ≡ second) × (second ≤ 255) ⌝ }
+    ensures { λ r. ⌜ meaningBytes r ≡ lookup lower-e (0x65 ∷ now (rest .entry)) ⌝ }
+{
+    if second < b'o' {
+        return lower_e_1(rest);
+    }
+    lower_e_2(rest)
+}
+
+const LOWER_F_1_NAMES: [u8; 79] = *b"\
+    allingdotseqcyemalefiligfligflligfriligjliglatlligltnsnofopforallorkorkvpartint";
+
+const LOWER_F_1_LENGTHS: [u8; 18] = [12, 2, 5, 5, 4, 5, 2, 4, 4, 3, 4, 4, 3, 3, 5, 3, 4, 7];
+
+const LOWER_F_1_VALUES: [u16; 18] = [
+    0x2252, // fallingdotseq
+    0x0444, // fcy
+    0x2640, // female
+    0xF019, // ffilig
+    0xF01A, // fflig
+    0xF01B, // ffllig
+    0xE123, // ffr
+    0xF01C, // filig
+    0xF01D, // fjlig
+    0x266D, // flat
+    0xF01E, // fllig
+    0x25B1, // fltns
+    0x0192, // fnof
+    0xE157, // fopf
+    0x2200, // forall
+    0x22D4, // fork
+    0x2AD9, // forkv
+    0x2A0D, // fpartint
+];
+
+// What `f` and `rest` stand for, where `rest` begins with a byte from 00 to 71 hex.
+fn lower_f_1(rest: &[u8]) -> Meaning
+    ensures { λ r. ⌜ meaningBytes r ≡ lookup (seconds (0x00, 0x71) lower-f) (0x66 ∷ now (rest .entry)) ⌝ }
+{
+    names_search::find(
+        rest,
+        &LOWER_F_1_NAMES,
+        &LOWER_F_1_LENGTHS,
+        &LOWER_F_1_VALUES,
+    )
+}
+
+const LOWER_F_2_NAMES: [u8; 86] = *b"\
+    rac12rac13rac14rac15rac16rac18rac23rac25rac34rac35rac38rac45rac56rac58rac78raslrownscr";
+
+const LOWER_F_2_LENGTHS: [u8; 18] = [5, 5, 5, 5, 5, 5, 5, 5, 5, 5, 5, 5, 5, 5, 5, 4, 4, 3];
+
+const LOWER_F_2_VALUES: [u16; 18] = [
+    0x00BD, // frac12
+    0x2153, // frac13
+    0x00BC, // frac14
+    0x2155, // frac15
+    0x2159, // frac16
+    0x215B, // frac18
+    0x2154, // frac23
+    0x2156, // frac25
+    0x00BE, // frac34
+    0x2157, // frac35
+    0x215C, // frac38
+    0x2158, // frac45
+    0x215A, // frac56
+    0x215D, // frac58
+    0x215E, // frac78
+    0x2044, // frasl
+    0x2322, // frown
+    0xE0BB, // fscr
+];
+
+// What `f` and `rest` stand for, where `rest` begins with a byte from 72 to FF hex.
+fn lower_f_2(rest: &[u8]) -> Meaning
+    ensures { λ r. ⌜ meaningBytes r ≡ lookup (seconds (0x72, 0xFF) lower-f) (0x66 ∷ now (rest .entry)) ⌝ }
+{
+    names_search::find(
+        rest,
+        &LOWER_F_2_NAMES,
+        &LOWER_F_2_LENGTHS,
+        &LOWER_F_2_VALUES,
+    )
+}
+
+// What `f` and `rest` stand for. `second` is the first byte of `rest`, 0 if it has none.
+pub fn lower_f(second: u8, rest: &[u8]) -> Meaning
+    requires { ⌜ (getD (now rest) 0 0 ≡ second) × (second ≤ 255) ⌝ }
+    ensures { λ r. ⌜ meaningBytes r ≡ lookup lower-f (0x66 ∷ now (rest .entry)) ⌝ }
+{
+    if second < b'r' {
+        return lower_f_1(rest);
+    }
+    lower_f_2(rest)
+}
+
+const LOWER_G_1_NAMES: [u8; 99] = *b"\
+    EElacuteammaammadapbrevecirccydoteeleqeqqeqslantesesccesdotesdotoesdotolesleslesfrgggimeljcyllElalj";
+
+const LOWER_G_1_LENGTHS: [u8; 31] = [
+    1,
+    2,
+    5,
+    4,
+    5,
+    2,
+    5,
+    4,
+    2,
+    3,
+    1,
+    2,
+    2,
+    3,
+    7,
+    2,
+    4,
+    5,
+    6,
+    7,
+    3,
+    5,
+    2,
+    1,
+    2,
+    4,
+    3,
+    1,
+    2,
+    2,
+    2,
+];
+
+const LOWER_G_1_VALUES: [u16; 31] = [
+    0x2267, // gE
+    0x2A8C, // gEl
+    0x01F5, // gacute
+    0x03B3, // gamma
+    0x03DD, // gammad
+    0x2A86, // gap
+    0x011F, // gbreve
+    0x011D, // gcirc
+    0x0433, // gcy
+    0x0121, // gdot
+    0x2265, // ge
+    0x22DB, // gel
+    0x2265, // geq
+    0x2267, // geqq
+    0x2A7E, // geqslant
+    0x2A7E, // ges
+    0x2AA9, // gescc
+    0x2A80, // gesdot
+    0x2A82, // gesdoto
+    0x2A84, // gesdotol
+    0xF01F, // gesl
+    0x2A94, // gesles
+    0xE124, // gfr
+    0x226B, // gg
+    0x22D9, // ggg
+    0x2137, // gimel
+    0x0453, // gjcy
+    0x2277, // gl
+    0x2A92, // glE
+    0x2AA5, // gla
+    0x2AA4, // glj
+];
+
+// What `g` and `rest` stand for, where `rest` begins with a byte from 00 to 6D hex.
+fn lower_g_1(rest: &[u8]) -> Meaning
+    ensures { λ r. ⌜ meaningBytes r ≡ lookup (seconds (0x00, 0x6D) lower-g) (0x67 ∷ now (rest .entry)) ⌝ }
+{
+    names_search::find(
+        rest,
+        &LOWER_G_1_NAMES,
+        &LOWER_G_1_LENGTHS,
+        &LOWER_G_1_VALUES,
+    )
+}
+
+const LOWER_G_2_NAMES: [u8; 126] = *b"\
+    nEnapnapproxneneqneqqnsimopfravescrsimsimesimlttcctcirtdottlPartquesttrapproxtrarrtrdottreqlesstreqqlesstrless\
+    trsimvertneqqvnE";
+
+const LOWER_G_2_LENGTHS: [u8; 28] = [
+    2,
+    3,
+    7,
+    2,
+    3,
+    4,
+    4,
+    3,
+    4,
+    3,
+    3,
+    4,
+    4,
+    1,
+    3,
+    4,
+    4,
+    5,
+    6,
+    8,
+    5,
+    5,
+    8,
+    9,
+    6,
+    5,
+    8,
+    3,
+];
+
+const LOWER_G_2_VALUES: [u16; 28] = [
+    0x2269, // gnE
+    0x2A8A, // gnap
+    0x2A8A, // gnapprox
+    0x2A88, // gne
+    0x2A88, // gneq
+    0x2269, // gneqq
+    0x22E7, // gnsim
+    0xE158, // gopf
+    0x0060, // grave
+    0x210A, // gscr
+    0x2273, // gsim
+    0x2A8E, // gsime
+    0x2A90, // gsiml
+    0x003E, // gt
+    0x2AA7, // gtcc
+    0x2A7A, // gtcir
+    0x22D7, // gtdot
+    0x2995, // gtlPar
+    0x2A7C, // gtquest
+    0x2A86, // gtrapprox
+    0x2978, // gtrarr
+    0x22D7, // gtrdot
+    0x22DB, // gtreqless
+    0x2A8C, // gtreqqless
+    0x2277, // gtrless
+    0x2273, // gtrsim
+    0xF020, // gvertneqq
+    0xF020, // gvnE
+];
+
+// What `g` and `rest` stand for, where `rest` begins with a byte from 6E to FF hex.
+fn lower_g_2(rest: &[u8]) -> Meaning
+    ensures { λ r. ⌜ meaningBytes r ≡ lookup (seconds (0x6E, 0xFF) lower-g) (0x67 ∷ now (rest .entry)) ⌝ }
+{
+    names_search::find(
+        rest,
+        &LOWER_G_2_NAMES,
+        &LOWER_G_2_LENGTHS,
+        &LOWER_G_2_VALUES,
+    )
+}
+
+// What `g` and `rest` stand for. `second` is the first byte of `rest`, 0 if it has none.
+pub fn lower_g(second: u8, rest: &[u8]) -> Meaning
+    requires { ⌜ (getD (now rest) 0 0 ≡ second) × (second ≤ 255) ⌝ }
+    ensures { λ r. ⌜ meaningBytes r ≡ lookup lower-g (0x67 ∷ now (rest .entry)) ⌝ }
+{
+    if second < b'n' {
+        return lower_g_1(rest);
+    }
+    lower_g_2(rest)
+}
+
+const LOWER_H_NAMES: [u8; 145] = *b"\
+    Arrairspalfamiltardcyarrarrcirarrwbarcirceartseartsuitelliperconfrksearowkswarowoarromthtookleftarrow\
+    ookrightarrowopforbarscrslashstrokybullyphen";
+
+const LOWER_H_LENGTHS: [u8; 28] = [
+    3,
+    5,
+    3,
+    5,
+    5,
+    3,
+    6,
+    4,
+    3,
+    4,
+    5,
+    8,
+    5,
+    5,
+    2,
+    7,
+    7,
+    4,
+    5,
+    12,
+    13,
+    3,
+    5,
+    3,
+    5,
+    5,
+    5,
+    5,
+];
+
+const LOWER_H_VALUES: [u16; 28] = [
+    0x21D4, // hArr
+    0x200A, // hairsp
+    0x00BD, // half
+    0x210B, // hamilt
+    0x044A, // hardcy
+    0x2194, // harr
+    0x2948, // harrcir
+    0x21AD, // harrw
+    0x210F, // hbar
+    0x0125, // hcirc
+    0x2665, // hearts
+    0x2665, // heartsuit
+    0x2026, // hellip
+    0x22B9, // hercon
+    0xE125, // hfr
+    0x2925, // hksearow
+    0x2926, // hkswarow
+    0x21FF, // hoarr
+    0x223B, // homtht
+    0x21A9, // hookleftarrow
+    0x21AA, // hookrightarrow
+    0xE159, // hopf
+    0x2015, // horbar
+    0xE0BD, // hscr
+    0x210F, // hslash
+    0x0127, // hstrok
+    0x2043, // hybull
+    0x2010, // hyphen
+];
+
+// What `h` and `rest` stand for.
+pub fn lower_h(rest: &[u8]) -> Meaning
+    ensures { λ r. ⌜ meaningBytes r ≡ lookup lower-h (0x68 ∷ now (rest .entry)) ⌝ }
+{
+    names_search::find(rest, &LOWER_H_NAMES, &LOWER_H_LENGTHS, &LOWER_H_VALUES)
+}
+
+const LOWER_I_1_NAMES: [u8; 84] = *b"\
+    acuteccirccyecyexclfffrgraveiiiintiintinfiniotajligmacrmagemaglinemagpartmathmofmped";
+
+const LOWER_I_1_LENGTHS: [u8; 22] = [
+    5,
+    1,
+    4,
+    2,
+    3,
+    4,
+    2,
+    2,
+    5,
+    1,
+    5,
+    4,
+    5,
+    4,
+    4,
+    4,
+    4,
+    7,
+    7,
+    4,
+    3,
+    4,
+];
+
+const LOWER_I_1_VALUES: [u16; 22] = [
+    0x00ED, // iacute
+    0x2063, // ic
+    0x00EE, // icirc
+    0x0438, // icy
+    0x0435, // iecy
+    0x00A1, // iexcl
+    0x21D4, // iff
+    0xE126, // ifr
+    0x00EC, // igrave
+    0x2148, // ii
+    0x2A0C, // iiiint
+    0x222D, // iiint
+    0x29DC, // iinfin
+    0x2129, // iiota
+    0x0133, // ijlig
+    0x012B, // imacr
+    0x2111, // image
+    0x2110, // imagline
+    0x2111, // imagpart
+    0x0131, // imath
+    0x22B7, // imof
+    0x01B5, // imped
+];
+
+// What `i` and `rest` stand for, where `rest` begins with a byte from 00 to 6D hex.
+fn lower_i_1(rest: &[u8]) -> Meaning
+    ensures { λ r. ⌜ meaningBytes r ≡ lookup (seconds (0x00, 0x6D) lower-i) (0x69 ∷ now (rest .entry)) ⌝ }
+{
+    names_search::find(
+        rest,
+        &LOWER_I_1_NAMES,
+        &LOWER_I_1_LENGTHS,
+        &LOWER_I_1_VALUES,
+    )
+}
+
+const LOWER_I_2_NAMES: [u8; 120] = *b"\
+    nncarenfinnfintienodotntntcalntegersntercalntlarhkntprodocyogonopfotaprodquestscrsinsinEsindotsinssinsvsinvt\
+    tildeukcyuml";
+
+const LOWER_I_2_LENGTHS: [u8; 28] = [
+    1,
+    5,
+    4,
+    7,
+    5,
+    2,
+    5,
+    7,
+    7,
+    7,
+    6,
+    3,
+    4,
+    3,
+    3,
+    4,
+    5,
+    3,
+    3,
+    4,
+    6,
+    4,
+    5,
+    4,
+    1,
+    5,
+    4,
+    3,
+];
+
+const LOWER_I_2_VALUES: [u16; 28] = [
+    0x2208, // in
+    0x2105, // incare
+    0x221E, // infin
+    0x29DD, // infintie
+    0x0131, // inodot
+    0x222B, // int
+    0x22BA, // intcal
+    0x2124, // integers
+    0x22BA, // intercal
+    0x2A17, // intlarhk
+    0x2A3C, // intprod
+    0x0451, // iocy
+    0x012F, // iogon
+    0xE15A, // iopf
+    0x03B9, // iota
+    0x2A3C, // iprod
+    0x00BF, // iquest
+    0xE0BE, // iscr
+    0x2208, // isin
+    0x22F9, // isinE
+    0x22F5, // isindot
+    0x22F4, // isins
+    0x22F3, // isinsv
+    0x2208, // isinv
+    0x2062, // it
+    0x0129, // itilde
+    0x0456, // iukcy
+    0x00EF, // iuml
+];
+
+// What `i` and `rest` stand for, where `rest` begins with a byte from 6E to FF hex.
+fn lower_i_2(rest: &[u8]) -> Meaning
+    ensures { λ r. ⌜ meaningBytes r ≡ lookup (seconds (0x6E, 0xFF) lower-i) (0x69 ∷ now (rest .entry)) ⌝ }
+{
+    names_search::find(
+        rest,
+        &LOWER_I_2_NAMES,
+        &LOWER_I_2_LENGTHS,
+        &LOWER_I_2_VALUES,
+    )
+}
+
+// What `i` and `rest` stand for. `second` is the first byte of `rest`, 0 if it has none.
+pub fn lower_i(second: u8, rest: &[u8]) -> Meaning
+    requires { ⌜ (getD (now rest) 0 0 ≡ second) × (second ≤ 255) ⌝ }
+    ensures { λ r. ⌜ meaningBytes r ≡ lookup lower-i (0x69 ∷ now (rest .entry)) ⌝ }
+{
+    if second < b'n' {
+        return lower_i_1(rest);
+    }
+    lower_i_2(rest)
+}
+
+const LOWER_J_NAMES: [u8; 27] = *b"\
+    circcyfrmathopfscrsercyukcy";
+
+const LOWER_J_LENGTHS: [u8; 8] = [4, 2, 2, 4, 3, 3, 5, 4];
+
+const LOWER_J_VALUES: [u16; 8] = [
+    0x0135, // jcirc
+    0x0439, // jcy
+    0xE127, // jfr
+    0x0237, // jmath
+    0xE15B, // jopf
+    0xE0BF, // jscr
+    0x0458, // jsercy
+    0x0454, // jukcy
+];
+
+// What `j` and `rest` stand for.
+pub fn lower_j(rest: &[u8]) -> Meaning
+    ensures { λ r. ⌜ meaningBytes r ≡ lookup lower-j (0x6A ∷ now (rest .entry)) ⌝ }
+{
+    names_search::find(rest, &LOWER_J_NAMES, &LOWER_J_LENGTHS, &LOWER_J_VALUES)
+}
+
+const LOWER_K_NAMES: [u8; 35] = *b"\
+    appaappavcedilcyfrgreenhcyjcyopfscr";
+
+const LOWER_K_LENGTHS: [u8; 10] = [4, 5, 5, 2, 2, 5, 3, 3, 3, 3];
+
+const LOWER_K_VALUES: [u16; 10] = [
+    0x03BA, // kappa
+    0x03F0, // kappav
+    0x0137, // kcedil
+    0x043A, // kcy
+    0xE128, // kfr
+    0x0138, // kgreen
+    0x0445, // khcy
+    0x045C, // kjcy
+    0xE15C, // kopf
+    0xE0C0, // kscr
+];
+
+// What `k` and `rest` stand for.
+pub fn lower_k(rest: &[u8]) -> Meaning
+    ensures { λ r. ⌜ meaningBytes r ≡ lookup lower-k (0x6B ∷ now (rest .entry)) ⌝ }
+{
+    names_search::find(rest, &LOWER_K_NAMES, &LOWER_K_LENGTHS, &LOWER_K_VALUES)
+}
+
+const LOWER_L_1_NAMES: [u8; 120] = *b"\
+    AarrArrAtailBarrEEgHaracuteaemptyvagranambdaangangdangleapaquoarrarrbarrbfsarrfsarrhkarrlparrplarrsimarrtlat\
+    atailateates";
+
+const LOWER_L_1_LENGTHS: [u8; 29] = [
+    4,
+    3,
+    5,
+    4,
+    1,
+    2,
+    3,
+    5,
+    7,
+    5,
+    5,
+    3,
+    4,
+    5,
+    2,
+    4,
+    3,
+    4,
+    6,
+    5,
+    5,
+    5,
+    5,
+    6,
+    5,
+    2,
+    5,
+    3,
+    4,
+];
+
+const LOWER_L_1_VALUES: [u16; 29] = [
+    0x21DA, // lAarr
+    0x21D0, // lArr
+    0x291B, // lAtail
+    0x290E, // lBarr
+    0x2266, // lE
+    0x2A8B, // lEg
+    0x2962, // lHar
+    0x013A, // lacute
+    0x29B4, // laemptyv
+    0x2112, // lagran
+    0x03BB, // lambda
+    0x27E8, // lang
+    0x2991, // langd
+    0x27E8, // langle
+    0x2A85, // lap
+    0x00AB, // laquo
+    0x2190, // larr
+    0x21E4, // larrb
+    0x291F, // larrbfs
+    0x291D, // larrfs
+    0x21A9, // larrhk
+    0x21AB, // larrlp
+    0x2939, // larrpl
+    0x2973, // larrsim
+    0x21A2, // larrtl
+    0x2AAB, // lat
+    0x2919, // latail
+    0x2AAD, // late
+    0xF021, // lates
+];
+
+// What `l` and `rest` stand for, where `rest` begins with a byte from 00 to 61 hex.
+fn lower_l_1(rest: &[u8]) -> Meaning
+    ensures { λ r. ⌜ meaningBytes r ≡ lookup (seconds (0x00, 0x61) lower-l) (0x6C ∷ now (rest .entry)) ⌝ }
+{
+    names_search::find(
+        rest,
+        &LOWER_L_1_NAMES,
+        &LOWER_L_1_LENGTHS,
+        &LOWER_L_1_VALUES,
+    )
+}
+
+const LOWER_L_2_NAMES: [u8; 81] = *b"\
+    barrbbrkbracebrackbrkebrksldbrkslucaroncedilceilcubcydcadquodquordrdhardrushardsh";
+
+const LOWER_L_2_LENGTHS: [u8; 18] = [4, 4, 5, 5, 4, 6, 6, 5, 5, 4, 3, 2, 3, 4, 5, 6, 7, 3];
+
+const LOWER_L_2_VALUES: [u16; 18] = [
+    0x290C, // lbarr
+    0x2772, // lbbrk
+    0x007B, // lbrace
+    0x005B, // lbrack
+    0x298B, // lbrke
+    0x298F, // lbrksld
+    0x298D, // lbrkslu
+    0x013E, // lcaron
+    0x013C, // lcedil
+    0x2308, // lceil
+    0x007B, // lcub
+    0x043B, // lcy
+    0x2936, // ldca
+    0x201C, // ldquo
+    0x201E, // ldquor
+    0x2967, // ldrdhar
+    0x294B, // ldrushar
+    0x21B2, // ldsh
+];
+
+// What `l` and `rest` stand for, where `rest` begins with a byte from 62 to 64 hex.
+fn lower_l_2(rest: &[u8]) -> Meaning
+    ensures { λ r. ⌜ meaningBytes r ≡ lookup (seconds (0x62, 0x64) lower-l) (0x6C ∷ now (rest .entry)) ⌝ }
+{
+    names_search::find(
+        rest,
+        &LOWER_L_2_NAMES,
+        &LOWER_L_2_LENGTHS,
+        &LOWER_L_2_VALUES,
+    )
+}
+
+const LOWER_L_3_NAMES: [u8; 236] = *b"\
+    eeftarroweftarrowtaileftharpoondowneftharpoonupeftleftarrowseftrightarroweftrightarrowseftrightharpoons\
+    eftrightsquigarroweftthreetimesegeqeqqeqslantesesccesdotesdotoesdotoresgesgesessapproxessdotesseqgtresseqqgtr\
+    essgtresssimfishtfloorfr";
+
+const LOWER_L_3_LENGTHS: [u8; 31] = [
+    1,
+    8,
+    12,
+    14,
+    12,
+    13,
+    13,
+    14,
+    16,
+    18,
+    13,
+    2,
+    2,
+    3,
+    7,
+    2,
+    4,
+    5,
+    6,
+    7,
+    3,
+    5,
+    9,
+    6,
+    8,
+    9,
+    6,
+    6,
+    5,
+    5,
+    2,
+];
+
+const LOWER_L_3_VALUES: [u16; 31] = [
+    0x2264, // le
+    0x2190, // leftarrow
+    0x21A2, // leftarrowtail
+    0x21BD, // leftharpoondown
+    0x21BC, // leftharpoonup
+    0x21C7, // leftleftarrows
+    0x2194, // leftrightarrow
+    0x21C6, // leftrightarrows
+    0x21CB, // leftrightharpoons
+    0x21AD, // leftrightsquigarrow
+    0x22CB, // leftthreetimes
+    0x22DA, // leg
+    0x2264, // leq
+    0x2266, // leqq
+    0x2A7D, // leqslant
+    0x2A7D, // les
+    0x2AA8, // lescc
+    0x2A7F, // lesdot
+    0x2A81, // lesdoto
+    0x2A83, // lesdotor
+    0xF022, // lesg
+    0x2A93, // lesges
+    0x2A85, // lessapprox
+    0x22D6, // lessdot
+    0x22DA, // lesseqgtr
+    0x2A8B, // lesseqqgtr
+    0x2276, // lessgtr
+    0x2272, // lesssim
+    0x297C, // lfisht
+    0x230A, // lfloor
+    0xE129, // lfr
+];
+
+// What `l` and `rest` stand for, where `rest` begins with a byte from 65 to 66 hex.
+fn lower_l_3(rest: &[u8]) -> Meaning
+    ensures { λ r. ⌜ meaningBytes r ≡ lookup (seconds (0x65, 0x66) lower-l) (0x6C ∷ now (rest .entry)) ⌝ }
+{
+    names_search::find(
+        rest,
+        &LOWER_L_3_NAMES,
+        &LOWER_L_3_LENGTHS,
+        &LOWER_L_3_VALUES,
+    )
+}
+
+const LOWER_L_4_NAMES: [u8; 88] = *b"\
+    ggEhardharuharulhblkjcyllarrlcornerlhardltrimidotmoustmoustachenEnapnapproxneneqneqqnsim";
+
+const LOWER_L_4_LENGTHS: [u8; 22] = [
+    1,
+    2,
+    4,
+    4,
+    5,
+    4,
+    3,
+    1,
+    4,
+    7,
+    5,
+    4,
+    5,
+    5,
+    9,
+    2,
+    3,
+    7,
+    2,
+    3,
+    4,
+    4,
+];
+
+const LOWER_L_4_VALUES: [u16; 22] = [
+    0x2276, // lg
+    0x2A91, // lgE
+    0x21BD, // lhard
+    0x21BC, // lharu
+    0x296A, // lharul
+    0x2584, // lhblk
+    0x0459, // ljcy
+    0x226A, // ll
+    0x21C7, // llarr
+    0x231E, // llcorner
+    0x296B, // llhard
+    0x25FA, // lltri
+    0x0140, // lmidot
+    0x23B0, // lmoust
+    0x23B0, // lmoustache
+    0x2268, // lnE
+    0x2A89, // lnap
+    0x2A89, // lnapprox
+    0x2A87, // lne
+    0x2A87, // lneq
+    0x2268, // lneqq
+    0x22E6, // lnsim
+];
+
+// What `l` and `rest` stand for, where `rest` begins with a byte from 67 to 6E hex.
+fn lower_l_4(rest: &[u8]) -> Meaning
+    ensures { λ r. ⌜ meaningBytes r ≡ lookup (seconds (0x67, 0x6E) lower-l) (0x6C ∷ now (rest .entry)) ⌝ }
+{
+    names_search::find(
+        rest,
+        &LOWER_L_4_NAMES,
+        &LOWER_L_4_LENGTHS,
+        &LOWER_L_4_VALUES,
+    )
+}
+
+const LOWER_L_5_NAMES: [u8; 161] = *b"\
+    oangoarrobrkongleftarrowongleftrightarrowongmapstoongrightarrowooparrowleftooparrowrightoparopfoplusotimes\
+    owastowbarozozengeozfparparltrarrrcornerrharrhardrmrtri";
+
+const LOWER_L_5_LENGTHS: [u8; 26] = [
+    4,
+    4,
+    4,
+    12,
+    17,
+    9,
+    13,
+    12,
+    13,
+    4,
+    3,
+    5,
+    6,
+    5,
+    5,
+    2,
+    6,
+    3,
+    3,
+    5,
+    4,
+    7,
+    4,
+    5,
+    2,
+    4,
+];
+
+const LOWER_L_5_VALUES: [u16; 26] = [
+    0x27EC, // loang
+    0x21FD, // loarr
+    0x27E6, // lobrk
+    0x27F5, // longleftarrow
+    0x27F7, // longleftrightarrow
+    0x27FC, // longmapsto
+    0x27F6, // longrightarrow
+    0x21AB, // looparrowleft
+    0x21AC, // looparrowright
+    0x2985, // lopar
+    0xE15D, // lopf
+    0x2A2D, // loplus
+    0x2A34, // lotimes
+    0x2217, // lowast
+    0x005F, // lowbar
+    0x25CA, // loz
+    0x25CA, // lozenge
+    0x29EB, // lozf
+    0x0028, // lpar
+    0x2993, // lparlt
+    0x21C6, // lrarr
+    0x231F, // lrcorner
+    0x21CB, // lrhar
+    0x296D, // lrhard
+    0x200E, // lrm
+    0x22BF, // lrtri
+];
+
+// What `l` and `rest` stand for, where `rest` begins with a byte from 6F to 72 hex.
+fn lower_l_5(rest: &[u8]) -> Meaning
+    ensures { λ r. ⌜ meaningBytes r ≡ lookup (seconds (0x6F, 0x72) lower-l) (0x6C ∷ now (rest .entry)) ⌝ }
+{
+    names_search::find(
+        rest,
+        &LOWER_L_5_NAMES,
+        &LOWER_L_5_LENGTHS,
+        &LOWER_L_5_VALUES,
+    )
+}
+
+const LOWER_L_6_NAMES: [u8; 111] = *b"\
+    saquoscrshsimsimesimgsqbsquosquorstrokttcctcirtdotthreetimestlarrtquesttrPartritrietrifurdsharuruharvertneqq\
+    vnE";
+
+const LOWER_L_6_LENGTHS: [u8; 26] = [
+    5,
+    3,
+    2,
+    3,
+    4,
+    4,
+    3,
+    4,
+    5,
+    5,
+    1,
+    3,
+    4,
+    4,
+    5,
+    5,
+    5,
+    6,
+    5,
+    3,
+    4,
+    4,
+    7,
+    6,
+    8,
+    3,
+];
+
+const LOWER_L_6_VALUES: [u16; 26] = [
+    0x2039, // lsaquo
+    0xE0C1, // lscr
+    0x21B0, // lsh
+    0x2272, // lsim
+    0x2A8D, // lsime
+    0x2A8F, // lsimg
+    0x005B, // lsqb
+    0x2018, // lsquo
+    0x201A, // lsquor
+    0x0142, // lstrok
+    0x003C, // lt
+    0x2AA6, // ltcc
+    0x2A79, // ltcir
+    0x22D6, // ltdot
+    0x22CB, // lthree
+    0x22C9, // ltimes
+    0x2976, // ltlarr
+    0x2A7B, // ltquest
+    0x2996, // ltrPar
+    0x25C3, // ltri
+    0x22B4, // ltrie
+    0x25C2, // ltrif
+    0x294A, // lurdshar
+    0x2966, // luruhar
+    0xF023, // lvertneqq
+    0xF023, // lvnE
+];
+
+// What `l` and `rest` stand for, where `rest` begins with a byte from 73 to FF hex.
+fn lower_l_6(rest: &[u8]) -> Meaning
+    ensures { λ r. ⌜ meaningBytes r ≡ lookup (seconds (0x73, 0xFF) lower-l) (0x6C ∷ now (rest .entry)) ⌝ }
+{
+    names_search::find(
+        rest,
+        &LOWER_L_6_NAMES,
+        &LOWER_L_6_LENGTHS,
+        &LOWER_L_6_VALUES,
+    )
+}
+
+// What `l` and `rest` stand for. `second` is the first byte of `rest`, 0 if it has none.
+pub fn lower_l(second: u8, rest: &[u8]) -> Meaning
+    requires { ⌜ (getD (now rest) 0 0 ≡ second) × (second ≤ 255) ⌝ }
+    ensures { λ r. ⌜ meaningBytes r ≡ lookup lower-l (0x6C ∷ now (rest .entry)) ⌝ }
+{
+    if second < b'b' {
+        return lower_l_1(rest);
+    }
+    if second < b'e' {
+        return lower_l_2(rest);
+    }
+    if second < b'g' {
+        return lower_l_3(rest);
+    }
+    if second < b'o' {
+        return lower_l_4(rest);
+    }
+    if second < b's' {
+        return lower_l_5(rest);
+    }
+    lower_l_6(rest)
+}
+
+const LOWER_M_1_NAMES: [u8; 144] = *b"\
+    DDotacralealtalteseapapstoapstodownapstoleftapstouparkercommacydasheasuredanglefrhoicroididastidciriddotinus\
+    inusbinusdinusdulcpldrnplusodelsopfp";
+
+const LOWER_M_1_LENGTHS: [u8; 32] = [
+    4,
+    3,
+    3,
+    3,
+    6,
+    2,
+    5,
+    9,
+    9,
+    7,
+    5,
+    5,
+    2,
+    4,
+    12,
+    2,
+    2,
+    4,
+    2,
+    5,
+    5,
+    5,
+    4,
+    5,
+    5,
+    6,
+    3,
+    3,
+    5,
+    5,
+    3,
+    1,
+];
+
+const LOWER_M_1_VALUES: [u16; 32] = [
+    0x223A, // mDDot
+    0x00AF, // macr
+    0x2642, // male
+    0x2720, // malt
+    0x2720, // maltese
+    0x21A6, // map
+    0x21A6, // mapsto
+    0x21A7, // mapstodown
+    0x21A4, // mapstoleft
+    0x21A5, // mapstoup
+    0x25AE, // marker
+    0x2A29, // mcomma
+    0x043C, // mcy
+    0x2014, // mdash
+    0x2221, // measuredangle
+    0xE12A, // mfr
+    0x2127, // mho
+    0x00B5, // micro
+    0x2223, // mid
+    0x002A, // midast
+    0x2AF0, // midcir
+    0x00B7, // middot
+    0x2212, // minus
+    0x229F, // minusb
+    0x2238, // minusd
+    0x2A2A, // minusdu
+    0x2ADB, // mlcp
+    0x2026, // mldr
+    0x2213, // mnplus
+    0x22A7, // models
+    0xE15E, // mopf
+    0x2213, // mp
+];
+
+// What `m` and `rest` stand for, where `rest` begins with a byte from 00 to 72 hex.
+fn lower_m_1(rest: &[u8]) -> Meaning
+    ensures { λ r. ⌜ meaningBytes r ≡ lookup (seconds (0x00, 0x72) lower-m) (0x6D ∷ now (rest .entry)) ⌝ }
+{
+    names_search::find(
+        rest,
+        &LOWER_M_1_NAMES,
+        &LOWER_M_1_LENGTHS,
+        &LOWER_M_1_VALUES,
+    )
+}
+
+const LOWER_M_2_NAMES: [u8; 20] = *b"\
+    scrstposuultimapumap";
+
+const LOWER_M_2_LENGTHS: [u8; 5] = [3, 5, 1, 7, 4];
+
+const LOWER_M_2_VALUES: [u16; 5] = [
+    0xE0C2, // mscr
+    0x223E, // mstpos
+    0x03BC, // mu
+    0x22B8, // multimap
+    0x22B8, // mumap
+];
+
+// What `m` and `rest` stand for, where `rest` begins with a byte from 73 to FF hex.
+fn lower_m_2(rest: &[u8]) -> Meaning
+    ensures { λ r. ⌜ meaningBytes r ≡ lookup (seconds (0x73, 0xFF) lower-m) (0x6D ∷ now (rest .entry)) ⌝ }
+{
+    names_search::find(
+        rest,
+        &LOWER_M_2_NAMES,
+        &LOWER_M_2_LENGTHS,
+        &LOWER_M_2_VALUES,
+    )
+}
+
+// What `m` and `rest` stand for. `second` is the first byte of `rest`, 0 if it has none.
+pub fn lower_m(second: u8, rest: &[u8]) -> Meaning
+    requires { ⌜ (getD (now rest) 0 0 ≡ second) × (second ≤ 255) ⌝ }
+    ensures { λ r. ⌜ meaningBytes r ≡ lookup lower-m (0x6D ∷ now (rest .entry)) ⌝ }
+{
+    if second < b's' {
+        return lower_m_1(rest);
+    }
+    lower_m_2(rest)
+}
+
+const LOWER_N_1_NAMES: [u8; 146] = *b"\
+    GgGtGtvLeftarrowLeftrightarrowLlLtLtvRightarrowVDashVdashablaacuteangapapEapidaposapproxaturaturalaturalsbsp\
+    bumpbumpecapcaroncedilcongcongdotcupcy";
+
+const LOWER_N_1_LENGTHS: [u8; 32] = [
+    2,
+    2,
+    3,
+    9,
+    14,
+    2,
+    2,
+    3,
+    10,
+    5,
+    5,
+    4,
+    5,
+    3,
+    2,
+    3,
+    4,
+    4,
+    6,
+    4,
+    6,
+    7,
+    3,
+    4,
+    5,
+    3,
+    5,
+    5,
+    4,
+    7,
+    3,
+    2,
+];
+
+const LOWER_N_1_VALUES: [u16; 32] = [
+    0xF024, // nGg
+    0xF025, // nGt
+    0xF002, // nGtv
+    0x21CD, // nLeftarrow
+    0x21CE, // nLeftrightarrow
+    0xF026, // nLl
+    0xF027, // nLt
+    0xF007, // nLtv
+    0x21CF, // nRightarrow
+    0x22AF, // nVDash
+    0x22AE, // nVdash
+    0x2207, // nabla
+    0x0144, // nacute
+    0xF028, // nang
+    0x2249, // nap
+    0xF029, // napE
+    0xF02A, // napid
+    0x0149, // napos
+    0x2249, // napprox
+    0x266E, // natur
+    0x266E, // natural
+    0x2115, // naturals
+    0x00A0, // nbsp
+    0xF004, // nbump
+    0xF005, // nbumpe
+    0x2A43, // ncap
+    0x0148, // ncaron
+    0x0146, // ncedil
+    0x2247, // ncong
+    0xF02B, // ncongdot
+    0x2A42, // ncup
+    0x043D, // ncy
+];
+
+// What `n` and `rest` stand for, where `rest` begins with a byte from 00 to 63 hex.
+fn lower_n_1(rest: &[u8]) -> Meaning
+    ensures { λ r. ⌜ meaningBytes r ≡ lookup (seconds (0x00, 0x63) lower-n) (0x6E ∷ now (rest .entry)) ⌝ }
+{
+    names_search::find(
+        rest,
+        &LOWER_N_1_NAMES,
+        &LOWER_N_1_LENGTHS,
+        &LOWER_N_1_VALUES,
+    )
+}
+
+const LOWER_N_2_NAMES: [u8; 109] = *b"\
+    dasheeArrearhkearrearrowedotequivesearesimexistexistsfrgEgegeqgeqqgeqslantgesgsimgtgtrhArrharrhpariisisdivjcy";
+
+const LOWER_N_2_LENGTHS: [u8; 30] = [
+    4,
+    1,
+    4,
+    5,
+    4,
+    6,
+    4,
+    5,
+    5,
+    4,
+    5,
+    6,
+    2,
+    2,
+    2,
+    3,
+    4,
+    8,
+    3,
+    4,
+    2,
+    3,
+    4,
+    4,
+    4,
+    1,
+    2,
+    3,
+    2,
+    3,
+];
+
+const LOWER_N_2_VALUES: [u16; 30] = [
+    0x2013, // ndash
+    0x2260, // ne
+    0x21D7, // neArr
+    0x2924, // nearhk
+    0x2197, // nearr
+    0x2197, // nearrow
+    0xF02C, // nedot
+    0x2262, // nequiv
+    0x2928, // nesear
+    0xF000, // nesim
+    0x2204, // nexist
+    0x2204, // nexists
+    0xE12B, // nfr
+    0xF001, // ngE
+    0x2271, // nge
+    0x2271, // ngeq
+    0xF001, // ngeqq
+    0xF003, // ngeqslant
+    0xF003, // nges
+    0x2275, // ngsim
+    0x226F, // ngt
+    0x226F, // ngtr
+    0x21CE, // nhArr
+    0x21AE, // nharr
+    0x2AF2, // nhpar
+    0x220B, // ni
+    0x22FC, // nis
+    0x22FA, // nisd
+    0x220B, // niv
+    0x045A, // njcy
+];
+
+// What `n` and `rest` stand for, where `rest` begins with a byte from 64 to 6B hex.
+fn lower_n_2(rest: &[u8]) -> Meaning
+    ensures { λ r. ⌜ meaningBytes r ≡ lookup (seconds (0x64, 0x6B) lower-n) (0x6E ∷ now (rest .entry)) ⌝ }
+{
+    names_search::find(
+        rest,
+        &LOWER_N_2_NAMES,
+        &LOWER_N_2_LENGTHS,
+        &LOWER_N_2_VALUES,
+    )
+}
+
+const LOWER_N_3_NAMES: [u8; 139] = *b"\
+    lArrlElarrldrleleftarrowleftrightarrowleqleqqleqslantleslesslsimltltriltriemidopfototinotinEotindototinva\
+    otinvbotinvcotniotnivaotnivbotnivc";
+
+const LOWER_N_3_LENGTHS: [u8; 29] = [
+    4,
+    2,
+    4,
+    3,
+    2,
+    9,
+    14,
+    3,
+    4,
+    8,
+    3,
+    4,
+    4,
+    2,
+    4,
+    5,
+    3,
+    3,
+    2,
+    4,
+    5,
+    7,
+    6,
+    6,
+    6,
+    4,
+    6,
+    6,
+    6,
+];
+
+const LOWER_N_3_VALUES: [u16; 29] = [
+    0x21CD, // nlArr
+    0xF02D, // nlE
+    0x219A, // nlarr
+    0x2025, // nldr
+    0x2270, // nle
+    0x219A, // nleftarrow
+    0x21AE, // nleftrightarrow
+    0x2270, // nleq
+    0xF02D, // nleqq
+    0xF008, // nleqslant
+    0xF008, // nles
+    0x226E, // nless
+    0x2274, // nlsim
+    0x226E, // nlt
+    0x22EA, // nltri
+    0x22EC, // nltrie
+    0x2224, // nmid
+    0xE15F, // nopf
+    0x00AC, // not
+    0x2209, // notin
+    0xF02E, // notinE
+    0xF02F, // notindot
+    0x2209, // notinva
+    0x22F7, // notinvb
+    0x22F6, // notinvc
+    0x220C, // notni
+    0x220C, // notniva
+    0x22FE, // notnivb
+    0x22FD, // notnivc
+];
+
+// What `n` and `rest` stand for, where `rest` begins with a byte from 6C to 6F hex.
+fn lower_n_3(rest: &[u8]) -> Meaning
+    ensures { λ r. ⌜ meaningBytes r ≡ lookup (seconds (0x6C, 0x6F) lower-n) (0x6E ∷ now (rest .entry)) ⌝ }
+{
+    names_search::find(
+        rest,
+        &LOWER_N_3_NAMES,
+        &LOWER_N_3_LENGTHS,
+        &LOWER_N_3_VALUES,
+    )
+}
+
+const LOWER_N_4_NAMES: [u8; 83] = *b"\
+    parparallelparslpartpolintprprcuepreprecpreceqrArrrarrrarrcrarrwrightarrowrtrirtrie";
+
+const LOWER_N_4_LENGTHS: [u8; 17] = [3, 8, 5, 4, 6, 2, 5, 3, 4, 6, 4, 4, 5, 5, 10, 4, 5];
+
+const LOWER_N_4_VALUES: [u16; 17] = [
+    0x2226, // npar
+    0x2226, // nparallel
+    0xF030, // nparsl
+    0xF031, // npart
+    0x2A14, // npolint
+    0x2280, // npr
+    0x22E0, // nprcue
+    0xF00B, // npre
+    0x2280, // nprec
+    0xF00B, // npreceq
+    0x21CF, // nrArr
+    0x219B, // nrarr
+    0xF032, // nrarrc
+    0xF033, // nrarrw
+    0x219B, // nrightarrow
+    0x22EB, // nrtri
+    0x22ED, // nrtrie
+];
+
+// What `n` and `rest` stand for, where `rest` begins with a byte from 70 to 72 hex.
+fn lower_n_4(rest: &[u8]) -> Meaning
+    ensures { λ r. ⌜ meaningBytes r ≡ lookup (seconds (0x70, 0x72) lower-n) (0x6E ∷ now (rest .entry)) ⌝ }
+{
+    names_search::find(
+        rest,
+        &LOWER_N_4_NAMES,
+        &LOWER_N_4_LENGTHS,
+        &LOWER_N_4_VALUES,
+    )
+}
+
+const LOWER_N_5_NAMES: [u8; 144] = *b"\
+    scsccuescescrshortmidshortparallelsimsimesimeqsmidsparsqsubesqsupesubsubEsubesubsetsubseteqsubseteqqsuccsucceq\
+    supsupEsupesupsetsupseteqsupseteqq";
+
+const LOWER_N_5_LENGTHS: [u8; 27] = [
+    2,
+    5,
+    3,
+    3,
+    8,
+    13,
+    3,
+    4,
+    5,
+    4,
+    4,
+    6,
+    6,
+    3,
+    4,
+    4,
+    6,
+    8,
+    9,
+    4,
+    6,
+    3,
+    4,
+    4,
+    6,
+    8,
+    9,
+];
+
+const LOWER_N_5_VALUES: [u16; 27] = [
+    0x2281, // nsc
+    0x22E1, // nsccue
+    0xF010, // nsce
+    0xE0C3, // nscr
+    0x2224, // nshortmid
+    0x2226, // nshortparallel
+    0x2241, // nsim
+    0x2244, // nsime
+    0x2244, // nsimeq
+    0x2224, // nsmid
+    0x2226, // nspar
+    0x22E2, // nsqsube
+    0x22E3, // nsqsupe
+    0x2284, // nsub
+    0xF034, // nsubE
+    0x2288, // nsube
+    0xF00F, // nsubset
+    0x2288, // nsubseteq
+    0xF034, // nsubseteqq
+    0x2281, // nsucc
+    0xF010, // nsucceq
+    0x2285, // nsup
+    0xF035, // nsupE
+    0x2289, // nsupe
+    0xF012, // nsupset
+    0x2289, // nsupseteq
+    0xF035, // nsupseteqq
+];
+
+// What `n` and `rest` stand for, where `rest` begins with a byte from 73 to 73 hex.
+fn lower_n_5(rest: &[u8]) -> Meaning
+    ensures { λ r. ⌜ meaningBytes r ≡ lookup (seconds (0x73, 0x73) lower-n) (0x6E ∷ now (rest .entry)) ⌝ }
+{
+    names_search::find(
+        rest,
+        &LOWER_N_5_NAMES,
+        &LOWER_N_5_LENGTHS,
+        &LOWER_N_5_VALUES,
+    )
+}
+
+const LOWER_N_6_NAMES: [u8; 163] = *b"\
+    tgltildetlgtrianglelefttrianglelefteqtrianglerighttrianglerightequumumeroumspvDashvHarrvapvdashvgevgtvinfin\
+    vlArrvlevltvltrievrArrvrtrievsimwArrwarhkwarrwarrowwnear";
+
+const LOWER_N_6_LENGTHS: [u8; 30] = [
+    3,
+    5,
+    3,
+    12,
+    14,
+    13,
+    15,
+    1,
+    2,
+    5,
+    4,
+    5,
+    5,
+    3,
+    5,
+    3,
+    3,
+    6,
+    5,
+    3,
+    3,
+    6,
+    5,
+    6,
+    4,
+    4,
+    5,
+    4,
+    6,
+    5,
+];
+
+const LOWER_N_6_VALUES: [u16; 30] = [
+    0x2279, // ntgl
+    0x00F1, // ntilde
+    0x2278, // ntlg
+    0x22EA, // ntriangleleft
+    0x22EC, // ntrianglelefteq
+    0x22EB, // ntriangleright
+    0x22ED, // ntrianglerighteq
+    0x03BD, // nu
+    0x0023, // num
+    0x2116, // numero
+    0x2007, // numsp
+    0x22AD, // nvDash
+    0x2904, // nvHarr
+    0xF036, // nvap
+    0x22AC, // nvdash
+    0xF037, // nvge
+    0xF038, // nvgt
+    0x29DE, // nvinfin
+    0x2902, // nvlArr
+    0xF039, // nvle
+    0xF03A, // nvlt
+    0xF03B, // nvltrie
+    0x2903, // nvrArr
+    0xF03C, // nvrtrie
+    0xF03D, // nvsim
+    0x21D6, // nwArr
+    0x2923, // nwarhk
+    0x2196, // nwarr
+    0x2196, // nwarrow
+    0x2927, // nwnear
+];
+
+// What `n` and `rest` stand for, where `rest` begins with a byte from 74 to FF hex.
+fn lower_n_6(rest: &[u8]) -> Meaning
+    ensures { λ r. ⌜ meaningBytes r ≡ lookup (seconds (0x74, 0xFF) lower-n) (0x6E ∷ now (rest .entry)) ⌝ }
+{
+    names_search::find(
+        rest,
+        &LOWER_N_6_NAMES,
+        &LOWER_N_6_LENGTHS,
+        &LOWER_N_6_VALUES,
+    )
+}
+
+// What `n` and `rest` stand for. `second` is the first byte of `rest`, 0 if it has none.
+pub fn lower_n(second: u8, rest: &[u8]) -> Meaning
+    requires { ⌜ (getD (now rest) 0 0 ≡ second) × (second ≤ 255) ⌝ }
+    ensures { λ r. ⌜ meaningBytes r ≡ lookup lower-n (0x6E ∷ now (rest .entry)) ⌝ }
+{
+    if second < b'd' {
+        return lower_n_1(rest);
+    }
+    if second < b'l' {
+        return lower_n_2(rest);
+    }
+    if second < b'p' {
+        return lower_n_3(rest);
+    }
+    if second < b's' {
+        return lower_n_4(rest);
+    }
+    if second < b't' {
+        return lower_n_5(rest);
+    }
+    lower_n_6(rest)
+}
+
+const LOWER_O_1_NAMES: [u8; 112] = *b"\
+    Sacuteastcircirccydashdblacdivdotdsoldeligfcirfrgongravegthbarhmintlarrlcirlcrosslineltmacrmegamicronmidminus\
+    opf";
+
+const LOWER_O_1_LENGTHS: [u8; 31] = [
+    1,
+    5,
+    3,
+    3,
+    4,
+    2,
+    4,
+    5,
+    3,
+    3,
+    5,
+    4,
+    4,
+    2,
+    3,
+    5,
+    2,
+    4,
+    2,
+    3,
+    4,
+    4,
+    6,
+    4,
+    2,
+    4,
+    4,
+    6,
+    3,
+    5,
+    3,
+];
+
+const LOWER_O_1_VALUES: [u16; 31] = [
+    0x24C8, // oS
+    0x00F3, // oacute
+    0x229B, // oast
+    0x229A, // ocir
+    0x00F4, // ocirc
+    0x043E, // ocy
+    0x229D, // odash
+    0x0151, // odblac
+    0x2A38, // odiv
+    0x2299, // odot
+    0x29BC, // odsold
+    0x0153, // oelig
+    0x29BF, // ofcir
+    0xE12C, // ofr
+    0x02DB, // ogon
+    0x00F2, // ograve
+    0x29C1, // ogt
+    0x29B5, // ohbar
+    0x03A9, // ohm
+    0x222E, // oint
+    0x21BA, // olarr
+    0x29BE, // olcir
+    0x29BB, // olcross
+    0x203E, // oline
+    0x29C0, // olt
+    0x014D, // omacr
+    0x03C9, // omega
+    0x03BF, // omicron
+    0x29B6, // omid
+    0x2296, // ominus
+    0xE160, // oopf
+];
+
+// What `o` and `rest` stand for, where `rest` begins with a byte from 00 to 6F hex.
+fn lower_o_1(rest: &[u8]) -> Meaning
+    ensures { λ r. ⌜ meaningBytes r ≡ lookup (seconds (0x00, 0x6F) lower-o) (0x6F ∷ now (rest .entry)) ⌝ }
+{
+    names_search::find(
+        rest,
+        &LOWER_O_1_NAMES,
+        &LOWER_O_1_LENGTHS,
+        &LOWER_O_1_VALUES,
+    )
+}
+
+const LOWER_O_2_NAMES: [u8; 85] = *b"\
+    parperpplusrrarrrdrderrderofrdfrdmrigofrorrslopervscrslashsoltildetimestimesasumlvbar";
+
+const LOWER_O_2_LENGTHS: [u8; 22] = [
+    3,
+    4,
+    4,
+    1,
+    4,
+    2,
+    4,
+    6,
+    3,
+    3,
+    5,
+    3,
+    6,
+    2,
+    3,
+    5,
+    3,
+    5,
+    5,
+    7,
+    3,
+    4,
+];
+
+const LOWER_O_2_VALUES: [u16; 22] = [
+    0x29B7, // opar
+    0x29B9, // operp
+    0x2295, // oplus
+    0x2228, // or
+    0x21BB, // orarr
+    0x2A5D, // ord
+    0x2134, // order
+    0x2134, // orderof
+    0x00AA, // ordf
+    0x00BA, // ordm
+    0x22B6, // origof
+    0x2A56, // oror
+    0x2A57, // orslope
+    0x2A5B, // orv
+    0x2134, // oscr
+    0x00F8, // oslash
+    0x2298, // osol
+    0x00F5, // otilde
+    0x2297, // otimes
+    0x2A36, // otimesas
+    0x00F6, // ouml
+    0x233D, // ovbar
+];
+
+// What `o` and `rest` stand for, where `rest` begins with a byte from 70 to FF hex.
+fn lower_o_2(rest: &[u8]) -> Meaning
+    ensures { λ r. ⌜ meaningBytes r ≡ lookup (seconds (0x70, 0xFF) lower-o) (0x6F ∷ now (rest .entry)) ⌝ }
+{
+    names_search::find(
+        rest,
+        &LOWER_O_2_NAMES,
+        &LOWER_O_2_LENGTHS,
+        &LOWER_O_2_VALUES,
+    )
+}
+
+// What `o` and `rest` stand for. `second` is the first byte of `rest`, 0 if it has none.
+pub fn lower_o(second: u8, rest: &[u8]) -> Meaning
+    requires { ⌜ (getD (now rest) 0 0 ≡ second) × (second ≤ 255) ⌝ }
+    ensures { λ r. ⌜ meaningBytes r ≡ lookup lower-o (0x6F ∷ now (rest .entry)) ⌝ }
+{
+    if second < b'p' {
+        return lower_o_1(rest);
+    }
+    lower_o_2(rest)
+}
+
+const LOWER_P_1_NAMES: [u8; 77] = *b"\
+    araraarallelarsimarslartcyercnteriodermilerpertenkfrhihivhmmathoneiitchforkiv";
+
+const LOWER_P_1_LENGTHS: [u8; 20] = [2, 3, 7, 5, 4, 3, 2, 5, 5, 5, 3, 6, 2, 2, 3, 5, 4, 1, 8, 2];
+
+const LOWER_P_1_VALUES: [u16; 20] = [
+    0x2225, // par
+    0x00B6, // para
+    0x2225, // parallel
+    0x2AF3, // parsim
+    0x2AFD, // parsl
+    0x2202, // part
+    0x043F, // pcy
+    0x0025, // percnt
+    0x002E, // period
+    0x2030, // permil
+    0x22A5, // perp
+    0x2031, // pertenk
+    0xE12D, // pfr
+    0x03C6, // phi
+    0x03D5, // phiv
+    0x2133, // phmmat
+    0x260E, // phone
+    0x03C0, // pi
+    0x22D4, // pitchfork
+    0x03D6, // piv
+];
+
+// What `p` and `rest` stand for, where `rest` begins with a byte from 00 to 6B hex.
+fn lower_p_1(rest: &[u8]) -> Meaning
+    ensures { λ r. ⌜ meaningBytes r ≡ lookup (seconds (0x00, 0x6B) lower-p) (0x70 ∷ now (rest .entry)) ⌝ }
+{
+    names_search::find(
+        rest,
+        &LOWER_P_1_NAMES,
+        &LOWER_P_1_LENGTHS,
+        &LOWER_P_1_VALUES,
+    )
+}
+
+const LOWER_P_2_NAMES: [u8; 82] = *b"\
+    lancklanckhlankvluslusacirlusbluscirlusdolusduluselusmnlussimlustwomointintopfound";
+
+const LOWER_P_2_LENGTHS: [u8; 17] = [5, 6, 5, 3, 7, 4, 6, 5, 5, 4, 5, 6, 6, 1, 7, 3, 4];
+
+const LOWER_P_2_VALUES: [u16; 17] = [
+    0x210F, // planck
+    0x210E, // planckh
+    0x210F, // plankv
+    0x002B, // plus
+    0x2A23, // plusacir
+    0x229E, // plusb
+    0x2A22, // pluscir
+    0x2214, // plusdo
+    0x2A25, // plusdu
+    0x2A72, // pluse
+    0x00B1, // plusmn
+    0x2A26, // plussim
+    0x2A27, // plustwo
+    0x00B1, // pm
+    0x2A15, // pointint
+    0xE161, // popf
+    0x00A3, // pound
+];
+
+// What `p` and `rest` stand for, where `rest` begins with a byte from 6C to 71 hex.
+fn lower_p_2(rest: &[u8]) -> Meaning
+    ensures { λ r. ⌜ meaningBytes r ≡ lookup (seconds (0x6C, 0x71) lower-p) (0x70 ∷ now (rest .entry)) ⌝ }
+{
+    names_search::find(
+        rest,
+        &LOWER_P_2_NAMES,
+        &LOWER_P_2_LENGTHS,
+        &LOWER_P_2_VALUES,
+    )
+}
+
+const LOWER_P_3_NAMES: [u8; 141] = *b"\
+    rrEraprcuererecrecapproxreccurlyeqreceqrecnapproxrecneqqrecnsimrecsimrimerimesrnErnaprnsimrodrofalarrofline\
+    rofsurfroproptorsimrurelscrsiuncsp";
+
+const LOWER_P_3_LENGTHS: [u8; 29] = [
+    1,
+    2,
+    3,
+    4,
+    2,
+    3,
+    9,
+    10,
+    5,
+    10,
+    7,
+    7,
+    6,
+    4,
+    5,
+    3,
+    4,
+    5,
+    3,
+    7,
+    7,
+    7,
+    3,
+    5,
+    4,
+    5,
+    3,
+    2,
+    5,
+];
+
+const LOWER_P_3_VALUES: [u16; 29] = [
+    0x227A, // pr
+    0x2AB3, // prE
+    0x2AB7, // prap
+    0x227C, // prcue
+    0x2AAF, // pre
+    0x227A, // prec
+    0x2AB7, // precapprox
+    0x227C, // preccurlyeq
+    0x2AAF, // preceq
+    0x2AB9, // precnapprox
+    0x2AB5, // precneqq
+    0x22E8, // precnsim
+    0x227E, // precsim
+    0x2032, // prime
+    0x2119, // primes
+    0x2AB5, // prnE
+    0x2AB9, // prnap
+    0x22E8, // prnsim
+    0x220F, // prod
+    0x232E, // profalar
+    0x2312, // profline
+    0x2313, // profsurf
+    0x221D, // prop
+    0x221D, // propto
+    0x227E, // prsim
+    0x22B0, // prurel
+    0xE0C5, // pscr
+    0x03C8, // psi
+    0x2008, // puncsp
+];
+
+// What `p` and `rest` stand for, where `rest` begins with a byte from 72 to FF hex.
+fn lower_p_3(rest: &[u8]) -> Meaning
+    ensures { λ r. ⌜ meaningBytes r ≡ lookup (seconds (0x72, 0xFF) lower-p) (0x70 ∷ now (rest .entry)) ⌝ }
+{
+    names_search::find(
+        rest,
+        &LOWER_P_3_NAMES,
+        &LOWER_P_3_LENGTHS,
+        &LOWER_P_3_VALUES,
+    )
+}
+
+// What `p` and `rest` stand for. `second` is the first byte of `rest`, 0 if it has none.
+pub fn lower_p(second: u8, rest: &[u8]) -> Meaning
+    requires { ⌜ (getD (now rest) 0 0 ≡ second) × (second ≤ 255) ⌝ }
+    ensures { λ r. ⌜ meaningBytes r ≡ lookup lower-p (0x70 ∷ now (rest .entry)) ⌝ }
+{
+    if second < b'l' {
+        return lower_p_1(rest);
+    }
+    if second < b'r' {
+        return lower_p_2(rest);
+    }
+    lower_p_3(rest)
+}
+
+const LOWER_Q_NAMES: [u8; 45] = *b"\
+    frintopfprimescruaternionsuatintuestuestequot";
+
+const LOWER_Q_LENGTHS: [u8; 10] = [2, 3, 3, 5, 3, 10, 6, 4, 6, 3];
+
+const LOWER_Q_VALUES: [u16; 10] = [
+    0xE12E, // qfr
+    0x2A0C, // qint
+    0xE162, // qopf
+    0x2057, // qprime
+    0xE0C6, // qscr
+    0x210D, // quaternions
+    0x2A16, // quatint
+    0x003F, // quest
+    0x225F, // questeq
+    0x0022, // quot
+];
+
+// What `q` and `rest` stand for.
+pub fn lower_q(rest: &[u8]) -> Meaning
+    ensures { λ r. ⌜ meaningBytes r ≡ lookup lower-q (0x71 ∷ now (rest .entry)) ⌝ }
+{
+    names_search::find(rest, &LOWER_Q_NAMES, &LOWER_Q_LENGTHS, &LOWER_Q_VALUES)
+}
+
+const LOWER_R_1_NAMES: [u8; 132] = *b"\
+    AarrArrAtailBarrHaraceacuteadicaemptyvangangdangeangleaquoarrarraparrbarrbfsarrcarrfsarrhkarrlparrplarrsim\
+    arrtlarrwatailatioationals";
+
+const LOWER_R_1_LENGTHS: [u8; 29] = [
+    4,
+    3,
+    5,
+    4,
+    3,
+    3,
+    5,
+    4,
+    7,
+    3,
+    4,
+    4,
+    5,
+    4,
+    3,
+    5,
+    4,
+    6,
+    4,
+    5,
+    5,
+    5,
+    5,
+    6,
+    5,
+    4,
+    5,
+    4,
+    8,
+];
+
+const LOWER_R_1_VALUES: [u16; 29] = [
+    0x21DB, // rAarr
+    0x21D2, // rArr
+    0x291C, // rAtail
+    0x290F, // rBarr
+    0x2964, // rHar
+    0xF03E, // race
+    0x0155, // racute
+    0x221A, // radic
+    0x29B3, // raemptyv
+    0x27E9, // rang
+    0x2992, // rangd
+    0x29A5, // range
+    0x27E9, // rangle
+    0x00BB, // raquo
+    0x2192, // rarr
+    0x2975, // rarrap
+    0x21E5, // rarrb
+    0x2920, // rarrbfs
+    0x2933, // rarrc
+    0x291E, // rarrfs
+    0x21AA, // rarrhk
+    0x21AC, // rarrlp
+    0x2945, // rarrpl
+    0x2974, // rarrsim
+    0x21A3, // rarrtl
+    0x219D, // rarrw
+    0x291A, // ratail
+    0x2236, // ratio
+    0x211A, // rationals
+];
+
+// What `r` and `rest` stand for, where `rest` begins with a byte from 00 to 61 hex.
+fn lower_r_1(rest: &[u8]) -> Meaning
+    ensures { λ r. ⌜ meaningBytes r ≡ lookup (seconds (0x00, 0x61) lower-r) (0x72 ∷ now (rest .entry)) ⌝ }
+{
+    names_search::find(
+        rest,
+        &LOWER_R_1_NAMES,
+        &LOWER_R_1_LENGTHS,
+        &LOWER_R_1_VALUES,
+    )
+}
+
+const LOWER_R_2_NAMES: [u8; 129] = *b"\
+    barrbbrkbracebrackbrkebrksldbrkslucaroncedilceilcubcydcadldhardquodquordshealealineealpartealsectegfishtfloor\
+    frhardharuharulhohov";
+
+const LOWER_R_2_LENGTHS: [u8; 31] = [
+    4,
+    4,
+    5,
+    5,
+    4,
+    6,
+    6,
+    5,
+    5,
+    4,
+    3,
+    2,
+    3,
+    6,
+    4,
+    5,
+    3,
+    3,
+    6,
+    7,
+    4,
+    3,
+    2,
+    5,
+    5,
+    2,
+    4,
+    4,
+    5,
+    2,
+    3,
+];
+
+const LOWER_R_2_VALUES: [u16; 31] = [
+    0x290D, // rbarr
+    0x2773, // rbbrk
+    0x007D, // rbrace
+    0x005D, // rbrack
+    0x298C, // rbrke
+    0x298E, // rbrksld
+    0x2990, // rbrkslu
+    0x0159, // rcaron
+    0x0157, // rcedil
+    0x2309, // rceil
+    0x007D, // rcub
+    0x0440, // rcy
+    0x2937, // rdca
+    0x2969, // rdldhar
+    0x201D, // rdquo
+    0x201D, // rdquor
+    0x21B3, // rdsh
+    0x211C, // real
+    0x211B, // realine
+    0x211C, // realpart
+    0x211D, // reals
+    0x25AD, // rect
+    0x00AE, // reg
+    0x297D, // rfisht
+    0x230B, // rfloor
+    0xE12F, // rfr
+    0x21C1, // rhard
+    0x21C0, // rharu
+    0x296C, // rharul
+    0x03C1, // rho
+    0x03F1, // rhov
+];
+
+// What `r` and `rest` stand for, where `rest` begins with a byte from 62 to 68 hex.
+fn lower_r_2(rest: &[u8]) -> Meaning
+    ensures { λ r. ⌜ meaningBytes r ≡ lookup (seconds (0x62, 0x68) lower-r) (0x72 ∷ now (rest .entry)) ⌝ }
+{
+    names_search::find(
+        rest,
+        &LOWER_R_2_NAMES,
+        &LOWER_R_2_LENGTHS,
+        &LOWER_R_2_VALUES,
+    )
+}
+
+const LOWER_R_3_NAMES: [u8; 214] = *b"\
+    ightarrowightarrowtailightharpoondownightharpoonupightleftarrowsightleftharpoonsightrightarrowsightsquigarrow\
+    ightthreetimesingisingdotseqlarrlharlmmoustmoustachenmidoangoarrobrkoparopfoplusotimesparpargtppolintrarr";
+
+const LOWER_R_3_LENGTHS: [u8; 28] = [
+    9,
+    13,
+    15,
+    13,
+    14,
+    16,
+    15,
+    14,
+    14,
+    3,
+    11,
+    4,
+    4,
+    2,
+    5,
+    9,
+    4,
+    4,
+    4,
+    4,
+    4,
+    3,
+    5,
+    6,
+    3,
+    5,
+    7,
+    4,
+];
+
+const LOWER_R_3_VALUES: [u16; 28] = [
+    0x2192, // rightarrow
+    0x21A3, // rightarrowtail
+    0x21C1, // rightharpoondown
+    0x21C0, // rightharpoonup
+    0x21C4, // rightleftarrows
+    0x21CC, // rightleftharpoons
+    0x21C9, // rightrightarrows
+    0x219D, // rightsquigarrow
+    0x22CC, // rightthreetimes
+    0x02DA, // ring
+    0x2253, // risingdotseq
+    0x21C4, // rlarr
+    0x21CC, // rlhar
+    0x200F, // rlm
+    0x23B1, // rmoust
+    0x23B1, // rmoustache
+    0x2AEE, // rnmid
+    0x27ED, // roang
+    0x21FE, // roarr
+    0x27E7, // robrk
+    0x2986, // ropar
+    0xE163, // ropf
+    0x2A2E, // roplus
+    0x2A35, // rotimes
+    0x0029, // rpar
+    0x2994, // rpargt
+    0x2A12, // rppolint
+    0x21C9, // rrarr
+];
+
+// What `r` and `rest` stand for, where `rest` begins with a byte from 69 to 72 hex.
+fn lower_r_3(rest: &[u8]) -> Meaning
+    ensures { λ r. ⌜ meaningBytes r ≡ lookup (seconds (0x69, 0x72) lower-r) (0x72 ∷ now (rest .entry)) ⌝ }
+{
+    names_search::find(
+        rest,
+        &LOWER_R_3_NAMES,
+        &LOWER_R_3_LENGTHS,
+        &LOWER_R_3_VALUES,
+    )
+}
+
+const LOWER_R_4_NAMES: [u8; 57] = *b"\
+    saquoscrshsqbsquosquorthreetimestritrietriftriltriuluharx";
+
+const LOWER_R_4_LENGTHS: [u8; 14] = [5, 3, 2, 3, 4, 5, 5, 5, 3, 4, 4, 7, 6, 1];
+
+const LOWER_R_4_VALUES: [u16; 14] = [
+    0x203A, // rsaquo
+    0xE0C7, // rscr
+    0x21B1, // rsh
+    0x005D, // rsqb
+    0x2019, // rsquo
+    0x2019, // rsquor
+    0x22CC, // rthree
+    0x22CA, // rtimes
+    0x25B9, // rtri
+    0x22B5, // rtrie
+    0x25B8, // rtrif
+    0x29CE, // rtriltri
+    0x2968, // ruluhar
+    0x211E, // rx
+];
+
+// What `r` and `rest` stand for, where `rest` begins with a byte from 73 to FF hex.
+fn lower_r_4(rest: &[u8]) -> Meaning
+    ensures { λ r. ⌜ meaningBytes r ≡ lookup (seconds (0x73, 0xFF) lower-r) (0x72 ∷ now (rest .entry)) ⌝ }
+{
+    names_search::find(
+        rest,
+        &LOWER_R_4_NAMES,
+        &LOWER_R_4_LENGTHS,
+        &LOWER_R_4_VALUES,
+    )
+}
+
+// What `r` and `rest` stand for. `second` is the first byte of `rest`, 0 if it has none.
+pub fn lower_r(second: u8, rest: &[u8]) -> Meaning
+    requires { ⌜ (getD (now rest) 0 0 ≡ second) × (second ≤ 255) ⌝ }
+    ensures { λ r. ⌜ meaningBytes r ≡ lookup lower-r (0x72 ∷ now (rest .entry)) ⌝ }
+{
+    if second < b'b' {
+        return lower_r_1(rest);
+    }
+    if second < b'i' {
+        return lower_r_2(rest);
+    }
+    if second < b's' {
+        return lower_r_3(rest);
+    }
+    lower_r_4(rest)
+}
+
+const LOWER_S_1_NAMES: [u8; 122] = *b"\
+    acutebquoccEcapcaronccuececedilcirccnEcnapcnsimcpolintcsimcydotdotbdoteeArrearhkearrearrowectemieswaretminus\
+    etmnextfrfrown";
+
+const LOWER_S_1_LENGTHS: [u8; 31] = [
+    5,
+    4,
+    1,
+    2,
+    3,
+    5,
+    4,
+    2,
+    5,
+    4,
+    3,
+    4,
+    5,
+    7,
+    4,
+    2,
+    3,
+    4,
+    4,
+    4,
+    5,
+    4,
+    6,
+    3,
+    3,
+    5,
+    7,
+    4,
+    3,
+    2,
+    5,
+];
+
+const LOWER_S_1_VALUES: [u16; 31] = [
+    0x015B, // sacute
+    0x201A, // sbquo
+    0x227B, // sc
+    0x2AB4, // scE
+    0x2AB8, // scap
+    0x0161, // scaron
+    0x227D, // sccue
+    0x2AB0, // sce
+    0x015F, // scedil
+    0x015D, // scirc
+    0x2AB6, // scnE
+    0x2ABA, // scnap
+    0x22E9, // scnsim
+    0x2A13, // scpolint
+    0x227F, // scsim
+    0x0441, // scy
+    0x22C5, // sdot
+    0x22A1, // sdotb
+    0x2A66, // sdote
+    0x21D8, // seArr
+    0x2925, // searhk
+    0x2198, // searr
+    0x2198, // searrow
+    0x00A7, // sect
+    0x003B, // semi
+    0x2929, // seswar
+    0x2216, // setminus
+    0x2216, // setmn
+    0x2736, // sext
+    0xE130, // sfr
+    0x2322, // sfrown
+];
+
+// What `s` and `rest` stand for, where `rest` begins with a byte from 00 to 67 hex.
+fn lower_s_1(rest: &[u8]) -> Meaning
+    ensures { λ r. ⌜ meaningBytes r ≡ lookup (seconds (0x00, 0x67) lower-s) (0x73 ∷ now (rest .entry)) ⌝ }
+{
+    names_search::find(
+        rest,
+        &LOWER_S_1_NAMES,
+        &LOWER_S_1_LENGTHS,
+        &LOWER_S_1_VALUES,
+    )
+}
+
+const LOWER_S_2_NAMES: [u8; 135] = *b"\
+    harphchcyhcyhortmidhortparallelhyigmaigmafigmavimimdotimeimeqimgimgEimlimlEimneimplusimrarrlarrmallsetminus\
+    mashpmeparslmidmilemtmtemtes";
+
+const LOWER_S_2_LENGTHS: [u8; 29] = [
+    4,
+    5,
+    3,
+    7,
+    12,
+    2,
+    4,
+    5,
+    5,
+    2,
+    5,
+    3,
+    4,
+    3,
+    4,
+    3,
+    4,
+    4,
+    6,
+    6,
+    4,
+    12,
+    5,
+    7,
+    3,
+    4,
+    2,
+    3,
+    4,
+];
+
+const LOWER_S_2_VALUES: [u16; 29] = [
+    0x266F, // sharp
+    0x0449, // shchcy
+    0x0448, // shcy
+    0x2223, // shortmid
+    0x2225, // shortparallel
+    0x00AD, // shy
+    0x03C3, // sigma
+    0x03C2, // sigmaf
+    0x03C2, // sigmav
+    0x223C, // sim
+    0x2A6A, // simdot
+    0x2243, // sime
+    0x2243, // simeq
+    0x2A9E, // simg
+    0x2AA0, // simgE
+    0x2A9D, // siml
+    0x2A9F, // simlE
+    0x2246, // simne
+    0x2A24, // simplus
+    0x2972, // simrarr
+    0x2190, // slarr
+    0x2216, // smallsetminus
+    0x2A33, // smashp
+    0x29E4, // smeparsl
+    0x2223, // smid
+    0x2323, // smile
+    0x2AAA, // smt
+    0x2AAC, // smte
+    0xF03F, // smtes
+];
+
+// What `s` and `rest` stand for, where `rest` begins with a byte from 68 to 6E hex.
+fn lower_s_2(rest: &[u8]) -> Meaning
+    ensures { λ r. ⌜ meaningBytes r ≡ lookup (seconds (0x68, 0x6E) lower-s) (0x73 ∷ now (rest .entry)) ⌝ }
+{
+    names_search::find(
+        rest,
+        &LOWER_S_2_NAMES,
+        &LOWER_S_2_LENGTHS,
+        &LOWER_S_2_VALUES,
+    )
+}
+
+const LOWER_S_3_NAMES: [u8; 139] = *b"\
+    oftcyololbolbaropfpadespadesuitparqcapqcapsqcupqcupsqsubqsubeqsubsetqsubseteqqsupqsupeqsupsetqsupseteqququare\
+    quarfqufrarrscrsetmnsmilestarf";
+
+const LOWER_S_3_LENGTHS: [u8; 29] = [
+    5,
+    2,
+    3,
+    5,
+    3,
+    5,
+    8,
+    3,
+    4,
+    5,
+    4,
+    5,
+    4,
+    5,
+    7,
+    9,
+    4,
+    5,
+    7,
+    9,
+    2,
+    5,
+    5,
+    3,
+    4,
+    3,
+    5,
+    5,
+    5,
+];
+
+const LOWER_S_3_VALUES: [u16; 29] = [
+    0x044C, // softcy
+    0x002F, // sol
+    0x29C4, // solb
+    0x233F, // solbar
+    0xE164, // sopf
+    0x2660, // spades
+    0x2660, // spadesuit
+    0x2225, // spar
+    0x2293, // sqcap
+    0xF040, // sqcaps
+    0x2294, // sqcup
+    0xF041, // sqcups
+    0x228F, // sqsub
+    0x2291, // sqsube
+    0x228F, // sqsubset
+    0x2291, // sqsubseteq
+    0x2290, // sqsup
+    0x2292, // sqsupe
+    0x2290, // sqsupset
+    0x2292, // sqsupseteq
+    0x25A1, // squ
+    0x25A1, // square
+    0x25AA, // squarf
+    0x25AA, // squf
+    0x2192, // srarr
+    0xE0C8, // sscr
+    0x2216, // ssetmn
+    0x2323, // ssmile
+    0x22C6, // sstarf
+];
+
+// What `s` and `rest` stand for, where `rest` begins with a byte from 6F to 73 hex.
+fn lower_s_3(rest: &[u8]) -> Meaning
+    ensures { λ r. ⌜ meaningBytes r ≡ lookup (seconds (0x6F, 0x73) lower-s) (0x73 ∷ now (rest .entry)) ⌝ }
+{
+    names_search::find(
+        rest,
+        &LOWER_S_3_NAMES,
+        &LOWER_S_3_LENGTHS,
+        &LOWER_S_3_VALUES,
+    )
+}
+
+const LOWER_S_4_NAMES: [u8; 35] = *b"\
+    tartarftraightepsilontraightphitrns";
+
+const LOWER_S_4_LENGTHS: [u8; 5] = [3, 4, 14, 10, 4];
+
+const LOWER_S_4_VALUES: [u16; 5] = [
+    0x2606, // star
+    0x2605, // starf
+    0x03F5, // straightepsilon
+    0x03D5, // straightphi
+    0x00AF, // strns
+];
+
+// What `s` and `rest` stand for, where `rest` begins with a byte from 74 to 74 hex.
+fn lower_s_4(rest: &[u8]) -> Meaning
+    ensures { λ r. ⌜ meaningBytes r ≡ lookup (seconds (0x74, 0x74) lower-s) (0x73 ∷ now (rest .entry)) ⌝ }
+{
+    names_search::find(
+        rest,
+        &LOWER_S_4_NAMES,
+        &LOWER_S_4_LENGTHS,
+        &LOWER_S_4_VALUES,
+    )
+}
+
+const LOWER_S_5_NAMES: [u8; 283] = *b"\
+    ububEubdotubeubedotubmultubnEubneubplusubrarrubsetubsetequbseteqqubsetnequbsetneqqubsimubsububsupuccuccapprox\
+    ucccurlyequccequccnapproxuccneqquccnsimuccsimumungupup1up2up3upEupdotupdsubupeupedotuphsoluphsubuplarrupmult\
+    upnEupneupplusupsetupsetequpseteqqupsetnequpsetneqqupsimupsubupsup";
+
+const LOWER_S_5_LENGTHS: [u8; 52] = [
+    2,
+    3,
+    5,
+    3,
+    6,
+    6,
+    4,
+    4,
+    6,
+    6,
+    5,
+    7,
+    8,
+    8,
+    9,
+    5,
+    5,
+    5,
+    3,
+    9,
+    10,
+    5,
+    10,
+    7,
+    7,
+    6,
+    2,
+    3,
+    2,
+    3,
+    3,
+    3,
+    3,
+    5,
+    6,
+    3,
+    6,
+    6,
+    6,
+    6,
+    6,
+    4,
+    4,
+    6,
+    5,
+    7,
+    8,
+    8,
+    9,
+    5,
+    5,
+    5,
+];
+
+const LOWER_S_5_VALUES: [u16; 52] = [
+    0x2282, // sub
+    0x2AC5, // subE
+    0x2ABD, // subdot
+    0x2286, // sube
+    0x2AC3, // subedot
+    0x2AC1, // submult
+    0x2ACB, // subnE
+    0x228A, // subne
+    0x2ABF, // subplus
+    0x2979, // subrarr
+    0x2282, // subset
+    0x2286, // subseteq
+    0x2AC5, // subseteqq
+    0x228A, // subsetneq
+    0x2ACB, // subsetneqq
+    0x2AC7, // subsim
+    0x2AD5, // subsub
+    0x2AD3, // subsup
+    0x227B, // succ
+    0x2AB8, // succapprox
+    0x227D, // succcurlyeq
+    0x2AB0, // succeq
+    0x2ABA, // succnapprox
+    0x2AB6, // succneqq
+    0x22E9, // succnsim
+    0x227F, // succsim
+    0x2211, // sum
+    0x266A, // sung
+    0x2283, // sup
+    0x00B9, // sup1
+    0x00B2, // sup2
+    0x00B3, // sup3
+    0x2AC6, // supE
+    0x2ABE, // supdot
+    0x2AD8, // supdsub
+    0x2287, // supe
+    0x2AC4, // supedot
+    0x27C9, // suphsol
+    0x2AD7, // suphsub
+    0x297B, // suplarr
+    0x2AC2, // supmult
+    0x2ACC, // supnE
+    0x228B, // supne
+    0x2AC0, // supplus
+    0x2283, // supset
+    0x2287, // supseteq
+    0x2AC6, // supseteqq
+    0x228B, // supsetneq
+    0x2ACC, // supsetneqq
+    0x2AC8, // supsim
+    0x2AD4, // supsub
+    0x2AD6, // supsup
+];
+
+// What `s` and `rest` stand for, where `rest` begins with a byte from 75 to 76 hex.
+fn lower_s_5(rest: &[u8]) -> Meaning
+    ensures { λ r. ⌜ meaningBytes r ≡ lookup (seconds (0x75, 0x76) lower-s) (0x73 ∷ now (rest .entry)) ⌝ }
+{
+    names_search::find(
+        rest,
+        &LOWER_S_5_NAMES,
+        &LOWER_S_5_LENGTHS,
+        &LOWER_S_5_VALUES,
+    )
+}
+
+const LOWER_S_6_NAMES: [u8; 28] = *b"\
+    wArrwarhkwarrwarrowwnwarzlig";
+
+const LOWER_S_6_LENGTHS: [u8; 6] = [4, 5, 4, 6, 5, 4];
+
+const LOWER_S_6_VALUES: [u16; 6] = [
+    0x21D9, // swArr
+    0x2926, // swarhk
+    0x2199, // swarr
+    0x2199, // swarrow
+    0x292A, // swnwar
+    0x00DF, // szlig
+];
+
+// What `s` and `rest` stand for, where `rest` begins with a byte from 77 to FF hex.
+fn lower_s_6(rest: &[u8]) -> Meaning
+    ensures { λ r. ⌜ meaningBytes r ≡ lookup (seconds (0x77, 0xFF) lower-s) (0x73 ∷ now (rest .entry)) ⌝ }
+{
+    names_search::find(
+        rest,
+        &LOWER_S_6_NAMES,
+        &LOWER_S_6_LENGTHS,
+        &LOWER_S_6_VALUES,
+    )
+}
+
+// What `s` and `rest` stand for. `second` is the first byte of `rest`, 0 if it has none.
+pub fn lower_s(second: u8, rest: &[u8]) -> Meaning
+    requires { ⌜ (getD (now rest) 0 0 ≡ second) × (second ≤ 255) ⌝ }
+    ensures { λ r. ⌜ meaningBytes r ≡ lookup lower-s (0x73 ∷ now (rest .entry)) ⌝ }
+{
+    if second < b'h' {
+        return lower_s_1(rest);
+    }
+    if second < b'o' {
+        return lower_s_2(rest);
+    }
+    if second < b't' {
+        return lower_s_3(rest);
+    }
+    if second < b'u' {
+        return lower_s_4(rest);
+    }
+    if second < b'w' {
+        return lower_s_5(rest);
+    }
+    lower_s_6(rest)
+}
+
+const LOWER_T_1_NAMES: [u8; 124] = *b"\
+    argetaubrkcaroncedilcydotelrecfrhere4hereforehetahetasymhetavhickapproxhicksimhinsphkaphksimhornildeimesimesb\
+    imesbarimesdint";
+
+const LOWER_T_1_LENGTHS: [u8; 26] = [
+    5,
+    2,
+    3,
+    5,
+    5,
+    2,
+    3,
+    5,
+    2,
+    5,
+    8,
+    4,
+    7,
+    5,
+    10,
+    7,
+    5,
+    4,
+    5,
+    4,
+    4,
+    4,
+    5,
+    7,
+    5,
+    3,
+];
+
+const LOWER_T_1_VALUES: [u16; 26] = [
+    0x2316, // target
+    0x03C4, // tau
+    0x23B4, // tbrk
+    0x0165, // tcaron
+    0x0163, // tcedil
+    0x0442, // tcy
+    0x20DB, // tdot
+    0x2315, // telrec
+    0xE131, // tfr
+    0x2234, // there4
+    0x2234, // therefore
+    0x03B8, // theta
+    0x03D1, // thetasym
+    0x03D1, // thetav
+    0x2248, // thickapprox
+    0x223C, // thicksim
+    0x2009, // thinsp
+    0x2248, // thkap
+    0x223C, // thksim
+    0x00FE, // thorn
+    0x02DC, // tilde
+    0x00D7, // times
+    0x22A0, // timesb
+    0x2A31, // timesbar
+    0x2A30, // timesd
+    0x222D, // tint
+];
+
+// What `t` and `rest` stand for, where `rest` begins with a byte from 00 to 6E hex.
+fn lower_t_1(rest: &[u8]) -> Meaning
+    ensures { λ r. ⌜ meaningBytes r ≡ lookup (seconds (0x00, 0x6E) lower-t) (0x74 ∷ now (rest .entry)) ⌝ }
+{
+    names_search::find(
+        rest,
+        &LOWER_T_1_NAMES,
+        &LOWER_T_1_LENGTHS,
+        &LOWER_T_1_VALUES,
+    )
+}
+
+const LOWER_T_2_NAMES: [u8; 200] = *b"\
+    oeaopopbotopciropfopforkosaprimeraderiangleriangledownriangleleftrianglelefteqriangleqriangleright\
+    rianglerighteqridotrieriminusriplusrisbritimerpeziumscrscyshcystrokwixtwoheadleftarrowwoheadrightarrow";
+
+const LOWER_T_2_LENGTHS: [u8; 30] = [
+    3,
+    2,
+    5,
+    5,
+    3,
+    6,
+    3,
+    5,
+    4,
+    7,
+    11,
+    11,
+    13,
+    8,
+    12,
+    14,
+    5,
+    3,
+    7,
+    6,
+    4,
+    6,
+    7,
+    3,
+    3,
+    4,
+    5,
+    4,
+    15,
+    16,
+];
+
+const LOWER_T_2_VALUES: [u16; 30] = [
+    0x2928, // toea
+    0x22A4, // top
+    0x2336, // topbot
+    0x2AF1, // topcir
+    0xE165, // topf
+    0x2ADA, // topfork
+    0x2929, // tosa
+    0x2034, // tprime
+    0x2122, // trade
+    0x25B5, // triangle
+    0x25BF, // triangledown
+    0x25C3, // triangleleft
+    0x22B4, // trianglelefteq
+    0x225C, // triangleq
+    0x25B9, // triangleright
+    0x22B5, // trianglerighteq
+    0x25EC, // tridot
+    0x225C, // trie
+    0x2A3A, // triminus
+    0x2A39, // triplus
+    0x29CD, // trisb
+    0x2A3B, // tritime
+    0x23E2, // trpezium
+    0xE0C9, // tscr
+    0x0446, // tscy
+    0x045B, // tshcy
+    0x0167, // tstrok
+    0x226C, // twixt
+    0x219E, // twoheadleftarrow
+    0x21A0, // twoheadrightarrow
+];
+
+// What `t` and `rest` stand for, where `rest` begins with a byte from 6F to FF hex.
+fn lower_t_2(rest: &[u8]) -> Meaning
+    ensures { λ r. ⌜ meaningBytes r ≡ lookup (seconds (0x6F, 0xFF) lower-t) (0x74 ∷ now (rest .entry)) ⌝ }
+{
+    names_search::find(
+        rest,
+        &LOWER_T_2_NAMES,
+        &LOWER_T_2_LENGTHS,
+        &LOWER_T_2_VALUES,
+    )
+}
+
+// What `t` and `rest` stand for. `second` is the first byte of `rest`, 0 if it has none.
+pub fn lower_t(second: u8, rest: &[u8]) -> Meaning
+    requires { ⌜ (getD (now rest) 0 0 ≡ second) × (second ≤ 255) ⌝ }
+    ensures { λ r. ⌜ meaningBytes r ≡ lookup lower-t (0x74 ∷ now (rest .entry)) ⌝ }
+{
+    if second < b'o' {
+        return lower_t_1(rest);
+    }
+    lower_t_2(rest)
+}
+
+const LOWER_U_1_NAMES: [u8; 100] = *b"\
+    ArrHaracutearrbrcybrevecirccydarrdblacdharfishtfrgraveharlharrhblklcornlcornerlcropltrimacrmlogonopf";
+
+const LOWER_U_1_LENGTHS: [u8; 25] = [
+    3,
+    3,
+    5,
+    3,
+    4,
+    5,
+    4,
+    2,
+    4,
+    5,
+    4,
+    5,
+    2,
+    5,
+    4,
+    4,
+    4,
+    5,
+    7,
+    5,
+    4,
+    4,
+    2,
+    4,
+    3,
+];
+
+const LOWER_U_1_VALUES: [u16; 25] = [
+    0x21D1, // uArr
+    0x2963, // uHar
+    0x00FA, // uacute
+    0x2191, // uarr
+    0x045E, // ubrcy
+    0x016D, // ubreve
+    0x00FB, // ucirc
+    0x0443, // ucy
+    0x21C5, // udarr
+    0x0171, // udblac
+    0x296E, // udhar
+    0x297E, // ufisht
+    0xE132, // ufr
+    0x00F9, // ugrave
+    0x21BF, // uharl
+    0x21BE, // uharr
+    0x2580, // uhblk
+    0x231C, // ulcorn
+    0x231C, // ulcorner
+    0x230F, // ulcrop
+    0x25F8, // ultri
+    0x016B, // umacr
+    0x00A8, // uml
+    0x0173, // uogon
+    0xE166, // uopf
+];
+
+// What `u` and `rest` stand for, where `rest` begins with a byte from 00 to 6F hex.
+fn lower_u_1(rest: &[u8]) -> Meaning
+    ensures { λ r. ⌜ meaningBytes r ≡ lookup (seconds (0x00, 0x6F) lower-u) (0x75 ∷ now (rest .entry)) ⌝ }
+{
+    names_search::find(
+        rest,
+        &LOWER_U_1_NAMES,
+        &LOWER_U_1_LENGTHS,
+        &LOWER_U_1_VALUES,
+    )
+}
+
+const LOWER_U_2_NAMES: [u8; 124] = *b"\
+    parrowpdownarrowpharpoonleftpharpoonrightpluspsipsihpsilonpuparrowsrcornrcornerrcropringrtriscrtdottildetri\
+    trifuarrumlwangle";
+
+const LOWER_U_2_LENGTHS: [u8; 22] = [
+    6,
+    10,
+    12,
+    13,
+    4,
+    3,
+    4,
+    6,
+    9,
+    5,
+    7,
+    5,
+    4,
+    4,
+    3,
+    4,
+    5,
+    3,
+    4,
+    4,
+    3,
+    6,
+];
+
+const LOWER_U_2_VALUES: [u16; 22] = [
+    0x2191, // uparrow
+    0x2195, // updownarrow
+    0x21BF, // upharpoonleft
+    0x21BE, // upharpoonright
+    0x228E, // uplus
+    0x03C5, // upsi
+    0x03D2, // upsih
+    0x03C5, // upsilon
+    0x21C8, // upuparrows
+    0x231D, // urcorn
+    0x231D, // urcorner
+    0x230E, // urcrop
+    0x016F, // uring
+    0x25F9, // urtri
+    0xE0CA, // uscr
+    0x22F0, // utdot
+    0x0169, // utilde
+    0x25B5, // utri
+    0x25B4, // utrif
+    0x21C8, // uuarr
+    0x00FC, // uuml
+    0x29A7, // uwangle
+];
+
+// What `u` and `rest` stand for, where `rest` begins with a byte from 70 to FF hex.
+fn lower_u_2(rest: &[u8]) -> Meaning
+    ensures { λ r. ⌜ meaningBytes r ≡ lookup (seconds (0x70, 0xFF) lower-u) (0x75 ∷ now (rest .entry)) ⌝ }
+{
+    names_search::find(
+        rest,
+        &LOWER_U_2_NAMES,
+        &LOWER_U_2_LENGTHS,
+        &LOWER_U_2_VALUES,
+    )
+}
+
+// What `u` and `rest` stand for. `second` is the first byte of `rest`, 0 if it has none.
+pub fn lower_u(second: u8, rest: &[u8]) -> Meaning
+    requires { ⌜ (getD (now rest) 0 0 ≡ second) × (second ≤ 255) ⌝ }
+    ensures { λ r. ⌜ meaningBytes r ≡ lookup lower-u (0x75 ∷ now (rest .entry)) ⌝ }
+{
+    if second < b'p' {
+        return lower_u_1(rest);
+    }
+    lower_u_2(rest)
+}
+
+const LOWER_V_1_NAMES: [u8; 194] = *b"\
+    ArrBarBarvDashangrtarepsilonarkappaarnothingarphiarpiarproptoarrarrhoarsigmaarsubsetneqarsubsetneqqarsupsetneq\
+    arsupsetneqqarthetaartriangleleftartrianglerightcydasheeeebareeeqelliperbarertfrltri";
+
+const LOWER_V_1_LENGTHS: [u8; 31] = [
+    3,
+    3,
+    4,
+    4,
+    5,
+    9,
+    7,
+    9,
+    5,
+    4,
+    8,
+    3,
+    5,
+    7,
+    11,
+    12,
+    11,
+    12,
+    7,
+    14,
+    15,
+    2,
+    4,
+    2,
+    5,
+    4,
+    5,
+    5,
+    3,
+    2,
+    4,
+];
+
+const LOWER_V_1_VALUES: [u16; 31] = [
+    0x21D5, // vArr
+    0x2AE8, // vBar
+    0x2AE9, // vBarv
+    0x22A8, // vDash
+    0x299C, // vangrt
+    0x03F5, // varepsilon
+    0x03F0, // varkappa
+    0x2205, // varnothing
+    0x03D5, // varphi
+    0x03D6, // varpi
+    0x221D, // varpropto
+    0x2195, // varr
+    0x03F1, // varrho
+    0x03C2, // varsigma
+    0xF042, // varsubsetneq
+    0xF043, // varsubsetneqq
+    0xF044, // varsupsetneq
+    0xF045, // varsupsetneqq
+    0x03D1, // vartheta
+    0x22B2, // vartriangleleft
+    0x22B3, // vartriangleright
+    0x0432, // vcy
+    0x22A2, // vdash
+    0x2228, // vee
+    0x22BB, // veebar
+    0x225A, // veeeq
+    0x22EE, // vellip
+    0x007C, // verbar
+    0x007C, // vert
+    0xE133, // vfr
+    0x22B2, // vltri
+];
+
+// What `v` and `rest` stand for, where `rest` begins with a byte from 00 to 6D hex.
+fn lower_v_1(rest: &[u8]) -> Meaning
+    ensures { λ r. ⌜ meaningBytes r ≡ lookup (seconds (0x00, 0x6D) lower-v) (0x76 ∷ now (rest .entry)) ⌝ }
+{
+    names_search::find(
+        rest,
+        &LOWER_V_1_NAMES,
+        &LOWER_V_1_LENGTHS,
+        &LOWER_V_1_VALUES,
+    )
+}
+
+const LOWER_V_2_NAMES: [u8; 48] = *b"\
+    nsubnsupopfproprtriscrsubnEsubnesupnEsupnezigzag";
+
+const LOWER_V_2_LENGTHS: [u8; 11] = [4, 4, 3, 4, 4, 3, 5, 5, 5, 5, 6];
+
+const LOWER_V_2_VALUES: [u16; 11] = [
+    0xF00F, // vnsub
+    0xF012, // vnsup
+    0xE167, // vopf
+    0x221D, // vprop
+    0x22B3, // vrtri
+    0xE0CB, // vscr
+    0xF043, // vsubnE
+    0xF042, // vsubne
+    0xF045, // vsupnE
+    0xF044, // vsupne
+    0x299A, // vzigzag
+];
+
+// What `v` and `rest` stand for, where `rest` begins with a byte from 6E to FF hex.
+fn lower_v_2(rest: &[u8]) -> Meaning
+    ensures { λ r. ⌜ meaningBytes r ≡ lookup (seconds (0x6E, 0xFF) lower-v) (0x76 ∷ now (rest .entry)) ⌝ }
+{
+    names_search::find(
+        rest,
+        &LOWER_V_2_NAMES,
+        &LOWER_V_2_LENGTHS,
+        &LOWER_V_2_VALUES,
+    )
+}
+
+// What `v` and `rest` stand for. `second` is the first byte of `rest`, 0 if it has none.
+pub fn lower_v(second: u8, rest: &[u8]) -> Meaning
+    requires { ⌜ (getD (now rest) 0 0 ≡ second) × (second ≤ 255) ⌝ }
+    ensures { λ r. ⌜ meaningBytes r ≡ lookup lower-v (0x76 ∷ now (rest .entry)) ⌝ }
+{
+    if second < b'n' {
+        return lower_v_1(rest);
+    }
+    lower_v_2(rest)
+}
+
+const LOWER_W_NAMES: [u8; 38] = *b"\
+    circedbaredgeedgeqeierpfropfprreathscr";
+
+const LOWER_W_LENGTHS: [u8; 11] = [4, 5, 4, 5, 5, 2, 3, 1, 1, 5, 3];
+
+const LOWER_W_VALUES: [u16; 11] = [
+    0x0175, // wcirc
+    0x2A5F, // wedbar
+    0x2227, // wedge
+    0x2259, // wedgeq
+    0x2118, // weierp
+    0xE134, // wfr
+    0xE168, // wopf
+    0x2118, // wp
+    0x2240, // wr
+    0x2240, // wreath
+    0xE0CC, // wscr
+];
+
+// What `w` and `rest` stand for.
+pub fn lower_w(rest: &[u8]) -> Meaning
+    ensures { λ r. ⌜ meaningBytes r ≡ lookup lower-w (0x77 ∷ now (rest .entry)) ⌝ }
+{
+    names_search::find(rest, &LOWER_W_NAMES, &LOWER_W_LENGTHS, &LOWER_W_VALUES)
+}
+
+const LOWER_X_NAMES: [u8; 89] = *b"\
+    capcirccupdtrifrhArrharrilArrlarrmapnisodotopfoplusotimerArrrarrscrsqcupuplusutriveewedge";
+
+const LOWER_X_LENGTHS: [u8; 24] = [
+    3,
+    4,
+    3,
+    4,
+    2,
+    4,
+    4,
+    1,
+    4,
+    4,
+    3,
+    3,
+    4,
+    3,
+    5,
+    5,
+    4,
+    4,
+    3,
+    5,
+    5,
+    4,
+    3,
+    5,
+];
+
+const LOWER_X_VALUES: [u16; 24] = [
+    0x22C2, // xcap
+    0x25EF, // xcirc
+    0x22C3, // xcup
+    0x25BD, // xdtri
+    0xE135, // xfr
+    0x27FA, // xhArr
+    0x27F7, // xharr
+    0x03BE, // xi
+    0x27F8, // xlArr
+    0x27F5, // xlarr
+    0x27FC, // xmap
+    0x22FB, // xnis
+    0x2A00, // xodot
+    0xE169, // xopf
+    0x2A01, // xoplus
+    0x2A02, // xotime
+    0x27F9, // xrArr
+    0x27F6, // xrarr
+    0xE0CD, // xscr
+    0x2A06, // xsqcup
+    0x2A04, // xuplus
+    0x25B3, // xutri
+    0x22C1, // xvee
+    0x22C0, // xwedge
+];
+
+// What `x` and `rest` stand for.
+pub fn lower_x(rest: &[u8]) -> Meaning
+    ensures { λ r. ⌜ meaningBytes r ≡ lookup lower-x (0x78 ∷ now (rest .entry)) ⌝ }
+{
+    names_search::find(rest, &LOWER_X_NAMES, &LOWER_X_LENGTHS, &LOWER_X_VALUES)
+}
+
+const LOWER_Y_NAMES: [u8; 33] = *b"\
+    acuteacycirccyenfricyopfscrucyuml";
+
+const LOWER_Y_LENGTHS: [u8; 11] = [5, 3, 4, 2, 2, 2, 3, 3, 3, 3, 3];
+
+const LOWER_Y_VALUES: [u16; 11] = [
+    0x00FD, // yacute
+    0x044F, // yacy
+    0x0177, // ycirc
+    0x044B, // ycy
+    0x00A5, // yen
+    0xE136, // yfr
+    0x0457, // yicy
+    0xE16A, // yopf
+    0xE0CE, // yscr
+    0x044E, // yucy
+    0x00FF, // yuml
+];
+
+// What `y` and `rest` stand for.
+pub fn lower_y(rest: &[u8]) -> Meaning
+    ensures { λ r. ⌜ meaningBytes r ≡ lookup lower-y (0x79 ∷ now (rest .entry)) ⌝ }
+{
+    names_search::find(rest, &LOWER_Y_NAMES, &LOWER_Y_LENGTHS, &LOWER_Y_VALUES)
+}
+
+const LOWER_Z_NAMES: [u8; 45] = *b"\
+    acutecaroncydoteetrfetafrhcyigrarropfscrwjwnj";
+
+const LOWER_Z_LENGTHS: [u8; 13] = [5, 5, 2, 3, 5, 3, 2, 3, 6, 3, 3, 2, 3];
+
+const LOWER_Z_VALUES: [u16; 13] = [
+    0x017A, // zacute
+    0x017E, // zcaron
+    0x0437, // zcy
+    0x017C, // zdot
+    0x2128, // zeetrf
+    0x03B6, // zeta
+    0xE137, // zfr
+    0x0436, // zhcy
+    0x21DD, // zigrarr
+    0xE16B, // zopf
+    0xE0CF, // zscr
+    0x200D, // zwj
+    0x200C, // zwnj
+];
+
+// What `z` and `rest` stand for.
+pub fn lower_z(rest: &[u8]) -> Meaning
+    ensures { λ r. ⌜ meaningBytes r ≡ lookup lower-z (0x7A ∷ now (rest .entry)) ⌝ }
+{
+    names_search::find(rest, &LOWER_Z_NAMES, &LOWER_Z_LENGTHS, &LOWER_Z_VALUES)
 }

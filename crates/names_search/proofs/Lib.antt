@@ -1,3 +1,3 @@
-pub mod Orders
+pub mod Arms
 pub mod Lookups
-pub mod Halving
+pub mod Scanning

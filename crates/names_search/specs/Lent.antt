@@ -1,46 +1,29 @@
 -- A lent table: the rows that its numbers hold, and when they are a table.
 -- Assumes nothing.
-use mathlib.Core.Bool.{Bool, false, _&&_}
-use mathlib.Core.Path.{_≡_}
+use mathlib.Core.Bool.{Bool, true, false, _&&_, cond}
 use mathlib.Core.List.{List, [], _∷_}
-use Prim.Native.Nat.{ℕ, _-_}
-use lib.Dec.{T, leb}
+use Prim.Native.Nat.{ℕ, _+_, _-_}
+use lib.Dec.{leb, ltb}
 use lib.ListN.{length, take, drop}
 use Rattle.rules.specs.Tables.{Row}
+use Rattle.rules.specs.Utf8.{utf8}
 use Rattle.rules.specs.Answers.{unpackTo}
-use Rattle.rules.specs.Names.{below, rising}
-use Rattle.names_search.specs.declared.Order.{Order}
-use Rattle.names_search.specs.declared.Order.the-variants.{Before, Same, After}
+use Rattle.names_search.specs.Pairs.{beside}
+use Rattle.names_search.specs.Listed.{listed}
 
--- The order of two names by their bytes.
-abbrev pub Ordered : Order → List ℕ → List ℕ → Type 0
-Ordered Before a b = T (below a b)
-Ordered Same a b = a ≡ b
-Ordered After a b = T (below b a)
+-- The value of a number: below E000 the character of that number, below F000 the character as far from 1D400 as it is from E000, and else a listed one.
+abbrev pub codeBytes : ℕ → List ℕ
+codeBytes n = cond (ltb n 0xE000) (utf8 n) (cond (ltb n 0xF000) (utf8 (0x1D400 + (n - 0xE000))) (unpackTo 6 (beside 0 listed n)))
 
--- The rows from the one that starts at offset a: `bytes` are those from there on, `ends` the offsets where each name ends.
-abbrev pub rowsFrom : List ℕ → ℕ → List ℕ → List ℕ → List Row
-rowsFrom bytes a [] values = []
-rowsFrom bytes a (e ∷ ends) [] = []
-rowsFrom bytes a (e ∷ ends) (v ∷ values) = (take (e - a) bytes, unpackTo 6 v) ∷ rowsFrom (drop (e - a) bytes) e ends values
+-- The rows of a table whose names all begin with the byte b and go on with `bytes`, as many as `lengths` says for each.
+abbrev pub rowsOf : ℕ → List ℕ → List ℕ → List ℕ → List Row
+rowsOf b bytes [] values = []
+rowsOf b bytes (n ∷ lengths) [] = []
+rowsOf b bytes (n ∷ lengths) (v ∷ values) = (b ∷ take n bytes, codeBytes v) ∷ rowsOf b (drop n bytes) lengths values
 
--- The rows of a table.
-abbrev pub rowsOf : List ℕ → List ℕ → List ℕ → List Row
-rowsOf bytes [] values = []
-rowsOf bytes (a ∷ ends) values = rowsFrom (drop a bytes) a ends values
-
--- From the offset a on, each name ends where it starts or later, none past the n bytes, and there are as many values.
-abbrev pub cutsFrom : ℕ → ℕ → List ℕ → List ℕ → Bool
-cutsFrom n a [] [] = leb a n
-cutsFrom n a [] (v ∷ values) = false
-cutsFrom n a (e ∷ ends) [] = false
-cutsFrom n a (e ∷ ends) (v ∷ values) = leb a e && cutsFrom n e ends values
-
--- The offsets cut n bytes into a name for each value.
-abbrev pub cuts : ℕ → List ℕ → List ℕ → Bool
-cuts n [] values = false
-cuts n (a ∷ ends) values = cutsFrom n a ends values
-
--- The numbers are a table, and its names rise.
+-- There are bytes for each length, and as many values as lengths.
 abbrev pub isTable : List ℕ → List ℕ → List ℕ → Bool
-isTable bytes offsets values = cuts (length bytes) offsets values && rising (rowsOf bytes offsets values)
+isTable bytes [] [] = true
+isTable bytes [] (v ∷ values) = false
+isTable bytes (n ∷ lengths) [] = false
+isTable bytes (n ∷ lengths) (v ∷ values) = leb n (length bytes) && isTable (drop n bytes) lengths values

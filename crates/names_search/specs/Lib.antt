@@ -1,2 +1,4 @@
+pub mod Pairs
+pub mod Listed
 pub mod Lent
-pub mod Starting
+pub mod Seconds

@@ -1,89 +1,64 @@
-// Binary search for a name in a lent table. The table is three slices of numbers: the bytes of the names one after the other, the offset at which
-// each name starts and the last one ends, and the values, each packed into one number.
+// Search for a name in a lent table. The table is three slices of numbers: the bytes of the names one after the other, the length of each, and the
+// number of the value of each. The names of one table begin with the same byte, which it does not have.
 ghost use mathlib.Core.Path.{_≡_};
-ghost use Prim.Native.Nat.{_≤_, _<_};
+ghost use mathlib.Core.List.{_∷_};
+ghost use Prim.Native.Nat.{ℕ};
 ghost use lib.Dec.{T};
 ghost use Rattle.rules.specs.Bytes.{sameBytes};
 ghost use Rattle.rules.specs.References.{lookup};
-ghost use Rattle.rules.specs.Answers.{meaningBytes};
-ghost use Rattle.names_search.specs.Lent.{Ordered, rowsOf, isTable};
+ghost use Rattle.rules.specs.Answers.{valueBytes, meaningBytes};
+ghost use Rattle.names_search.specs.Lent.{codeBytes, rowsOf, isTable};
 use rules::DecodedEntityValue;
 use rules::Meaning;
 
-// The order of two names by their bytes.
-enum Order {
-    Before,
-    Same,
-    After,
-}
-
-// Compares two names byte by byte.
-fn compare(a: &[u8], b: &[u8]) -> Order
-    ensures { λ r. ⌜ Ordered r (now (a .entry)) (now (b .entry)) ⌝ }
-{
-    let mut i: usize = 0;
-    while i < a.len() {
-        if b.len() <= i {
-            return Order::After;
-        }
-        if a[i] < b[i] {
-            return Order::Before;
-        }
-        if b[i] < a[i] {
-            return Order::After;
-        }
-        i += 1;
-    }
-    if i < b.len() {
-        Order::Before
-    } else {
-        Order::Same
-    }
-}
-
-// Returns the index half way from `low` to `high`.
-fn middle(low: usize, high: usize) -> usize
-    requires { ⌜ low < high ⌝ }
-    ensures { λ r. ⌜ (low ≤ r) × (r < high) ⌝ }
-{
-    low + (high - low) / 2
-}
-
-// Returns the value of a name in the table, or nothing. Its row, if there is one, is from `low` on and before `high`.
-pub fn find(name: &[u8], bytes: &[u8], offsets: &[u16], values: &[u64]) -> Meaning
-    requires { ⌜ T (isTable (now bytes) (now offsets) (now values)) ⌝ }
-    ensures { λ r. ⌜ meaningBytes r ≡ lookup (rowsOf (now (bytes .entry)) (now (offsets .entry)) (now (values .entry))) (now (name .entry)) ⌝ }
-{
-    let mut low: usize = 0;
-    let mut high: usize = values.len();
-    while low < high {
-        let m = middle(low, high);
-        let a = offsets[m] as usize;
-        let e = offsets[m + 1] as usize;
-        let o = compare(&bytes[a..e], name);
-        match o {
-            Order::Before => {
-                low = m + 1;
-            }
-            Order::After => {
-                high = m;
-            }
-            Order::Same => {
-                return Meaning::Value(DecodedEntityValue::Named(values[m]));
-            }
-        }
-    }
-    Meaning::Nothing
-}
+mod listed;
 
 // Reports whether two names are the same bytes.
 pub fn same(a: &[u8], b: &[u8]) -> bool
     ensures { λ r. ⌜ r ≡ sameBytes (now (a .entry)) (now (b .entry)) ⌝ }
 {
-    let o = compare(a, b);
-    match o {
-        Order::Before => false,
-        Order::Same => true,
-        Order::After => false,
+    if a.len() != b.len() {
+        return false;
     }
+    let mut i: usize = 0;
+    while i < a.len() {
+        if a[i] != b[i] {
+            return false;
+        }
+        i += 1;
+    }
+    true
+}
+
+// Returns the value that a table has as a number of two bytes: the number of a character, that of one above FFFF hex less so much that it fits, or that
+// of a listed value. With the list in line `find` is too long to be compiled into each of its callers.
+fn value_of(code: u16) -> DecodedEntityValue
+    ensures { λ r. ⌜ valueBytes r ≡ codeBytes code ⌝ }
+{
+    if code < 0xE000 {
+        return DecodedEntityValue::Character(code as u32);
+    }
+    if code < 0xF000 {
+        return DecodedEntityValue::Character(0x1D400 + (code - 0xE000) as u32);
+    }
+    DecodedEntityValue::Named(listed::listed_value(code))
+}
+
+// Returns the value of a name in the table, or nothing: the names are compared one by one. The first byte, which the table does not have, is no part of
+// `name` either.
+pub fn find(name: &[u8], bytes: &[u8], lengths: &[u8], values: &[u16]) -> Meaning
+    requires { ⌜ T (isTable (now bytes) (now lengths) (now values)) ⌝ }
+    ensures { λ r. ⌜ ((b : ℕ) → meaningBytes r ≡ lookup (rowsOf b (now (bytes .entry)) (now (lengths .entry)) (now (values .entry))) (b ∷ now (name .entry))) ⌝ }
+{
+    let mut k: usize = 0;
+    let mut start: usize = 0;
+    while k < values.len() {
+        let end = start + lengths[k] as usize;
+        if same(&bytes[start..end], name) {
+            return Meaning::Value(value_of(values[k]));
+        }
+        start = end;
+        k += 1;
+    }
+    Meaning::Nothing
 }

@@ -1,1354 +1,1738 @@
 // Made by tools/make_names.py from the entries of crates/rules/specs/Names.antt; not to be edited.
-// The names that begin with upper-case letters, in groups by first letter. Each group is three number tables: the names' bytes one after the other,
-// where each name begins and the last one ends, and the values, each packed into one number, its first byte lowest.
+// The names that begin with upper-case letters, a function for each letter, and in it groups by the second byte. Each group is three tables: the names one
+// after the other without their first letter, the length of each, and the numbers of their values (`codeBytes` in crates/names_search/specs/Lent.antt).
 ghost use mathlib.Core.Path.{_≡_};
-ghost use Rattle.rules.specs.Names.{names};
+ghost use mathlib.Core.List.{_∷_};
+ghost use Prim.Native.Nat.{_≤_};
+ghost use lib.ListN.{getD};
+ghost use Rattle.rules.specs.Names.{upper-A, upper-B, upper-C, upper-D, upper-E, upper-F, upper-G, upper-H, upper-I, upper-J, upper-K, upper-L, upper-M, upper-N, upper-O, upper-P, upper-Q, upper-R, upper-S, upper-T, upper-U, upper-V, upper-W, upper-X, upper-Y, upper-Z};
 ghost use Rattle.rules.specs.References.{lookup};
 ghost use Rattle.rules.specs.Answers.{meaningBytes};
-ghost use Rattle.names_search.specs.Starting.{starting};
+ghost use Rattle.names_search.specs.Seconds.{seconds};
 use rules::Meaning;
 
-const A_TO_C_NAMES: [u8; 460] = *b"\
-    AEligAMPAacuteAbreveAcircAcyAfrAgraveAlphaAmacrAndAogonAopfApplyFunctionAringAscrAssignAtildeAumlBackslashBarv\
-    BarwedBcyBecauseBernoullisBetaBfrBopfBreveBscrBumpeqCHcyCOPYCacuteCapCapitalDifferentialDCayleysCcaronCcedil\
-    CcircCconintCdotCedillaCenterDotCfrChiCircleDotCircleMinusCirclePlusCircleTimesClockwiseContourIntegral\
-    CloseCurlyDoubleQuoteCloseCurlyQuoteColonColoneCongruentConintContourIntegralCopfCoproduct\
-    CounterClockwiseContourIntegralCrossCscrCupCupCap";
+const UPPER_A_NAMES: [u8; 78] = *b"\
+    EligMPacutebrevecirccyfrgravelphamacrndogonopfpplyFunctionringscrssigntildeuml";
 
-const A_TO_C_OFFSETS: [u16; 66] = [
-    0,
+const UPPER_A_LENGTHS: [u8; 19] = [4, 2, 5, 5, 4, 2, 2, 5, 4, 4, 2, 4, 3, 12, 4, 3, 5, 5, 3];
+
+const UPPER_A_VALUES: [u16; 19] = [
+    0x00C6, // AElig
+    0x0026, // AMP
+    0x00C1, // Aacute
+    0x0102, // Abreve
+    0x00C2, // Acirc
+    0x0410, // Acy
+    0xE104, // Afr
+    0x00C0, // Agrave
+    0x0391, // Alpha
+    0x0100, // Amacr
+    0x2A53, // And
+    0x0104, // Aogon
+    0xE138, // Aopf
+    0x2061, // ApplyFunction
+    0x00C5, // Aring
+    0xE09C, // Ascr
+    0x2254, // Assign
+    0x00C3, // Atilde
+    0x00C4, // Auml
+];
+
+// What `A` and `rest` stand for.
+pub fn upper_a(rest: &[u8]) -> Meaning
+    ensures { λ r. ⌜ meaningBytes r ≡ lookup upper-A (0x41 ∷ now (rest .entry)) ⌝ }
+{
+    names_search::find(rest, &UPPER_A_NAMES, &UPPER_A_LENGTHS, &UPPER_A_VALUES)
+}
+
+const UPPER_B_NAMES: [u8; 53] = *b"\
+    ackslasharvarwedcyecauseernoullisetafropfrevescrumpeq";
+
+const UPPER_B_LENGTHS: [u8; 12] = [8, 3, 5, 2, 6, 9, 3, 2, 3, 4, 3, 5];
+
+const UPPER_B_VALUES: [u16; 12] = [
+    0x2216, // Backslash
+    0x2AE7, // Barv
+    0x2306, // Barwed
+    0x0411, // Bcy
+    0x2235, // Because
+    0x212C, // Bernoullis
+    0x0392, // Beta
+    0xE105, // Bfr
+    0xE139, // Bopf
+    0x02D8, // Breve
+    0x212C, // Bscr
+    0x224E, // Bumpeq
+];
+
+// What `B` and `rest` stand for.
+pub fn upper_b(rest: &[u8]) -> Meaning
+    ensures { λ r. ⌜ meaningBytes r ≡ lookup upper-B (0x42 ∷ now (rest .entry)) ⌝ }
+{
+    names_search::find(rest, &UPPER_B_NAMES, &UPPER_B_LENGTHS, &UPPER_B_VALUES)
+}
+
+const UPPER_C_1_NAMES: [u8; 257] = *b"\
+    HcyOPYacuteapapitalDifferentialDayleyscaroncedilcircconintdotedillaenterDotfrhiircleDotircleMinusirclePlus\
+    ircleTimeslockwiseContourIntegralloseCurlyDoubleQuoteloseCurlyQuoteolonoloneongruentonintontourIntegralopf\
+    oproductounterClockwiseContourIntegralrossscr";
+
+const UPPER_C_1_LENGTHS: [u8; 32] = [
+    3,
+    3,
+    5,
+    2,
+    19,
+    6,
+    5,
+    5,
+    4,
+    6,
+    3,
+    6,
+    8,
+    2,
+    2,
+    8,
+    10,
+    9,
+    10,
+    23,
+    20,
+    14,
+    4,
     5,
     8,
+    5,
     14,
-    20,
-    25,
-    28,
-    31,
-    37,
-    42,
-    47,
-    50,
-    55,
-    59,
-    72,
-    77,
-    81,
-    87,
-    93,
-    97,
-    106,
-    110,
-    116,
-    119,
-    126,
-    136,
-    140,
-    143,
-    147,
-    152,
-    156,
-    162,
-    166,
-    170,
-    176,
-    179,
-    199,
-    206,
-    212,
-    218,
-    223,
-    230,
-    234,
-    241,
-    250,
-    253,
-    256,
-    265,
-    276,
-    286,
-    297,
-    321,
-    342,
-    357,
-    362,
-    368,
-    377,
-    383,
-    398,
-    402,
-    411,
-    442,
-    447,
-    451,
-    454,
-    460,
-];
-
-const A_TO_C_VALUES: [u64; 65] = [
-    0x86C3, // AElig
-    0x26, // AMP
-    0x81C3, // Aacute
-    0x82C4, // Abreve
-    0x82C3, // Acirc
-    0x90D0, // Acy
-    0x84949DF0, // Afr
-    0x80C3, // Agrave
-    0x91CE, // Alpha
-    0x80C4, // Amacr
-    0x93A9E2, // And
-    0x84C4, // Aogon
-    0xB8949DF0, // Aopf
-    0xA181E2, // ApplyFunction
-    0x85C3, // Aring
-    0x9C929DF0, // Ascr
-    0x9489E2, // Assign
-    0x83C3, // Atilde
-    0x84C3, // Auml
-    0x9688E2, // Backslash
-    0xA7ABE2, // Barv
-    0x868CE2, // Barwed
-    0x91D0, // Bcy
-    0xB588E2, // Because
-    0xAC84E2, // Bernoullis
-    0x92CE, // Beta
-    0x85949DF0, // Bfr
-    0xB9949DF0, // Bopf
-    0x98CB, // Breve
-    0xAC84E2, // Bscr
-    0x8E89E2, // Bumpeq
-    0xA7D0, // CHcy
-    0xA9C2, // COPY
-    0x86C4, // Cacute
-    0x928BE2, // Cap
-    0x8585E2, // CapitalDifferentialD
-    0xAD84E2, // Cayleys
-    0x8CC4, // Ccaron
-    0x87C3, // Ccedil
-    0x88C4, // Ccirc
-    0xB088E2, // Cconint
-    0x8AC4, // Cdot
-    0xB8C2, // Cedilla
-    0xB7C2, // CenterDot
-    0xAD84E2, // Cfr
-    0xA7CE, // Chi
-    0x998AE2, // CircleDot
-    0x968AE2, // CircleMinus
-    0x958AE2, // CirclePlus
-    0x978AE2, // CircleTimes
-    0xB288E2, // ClockwiseContourIntegral
-    0x9D80E2, // CloseCurlyDoubleQuote
-    0x9980E2, // CloseCurlyQuote
-    0xB788E2, // Colon
-    0xB4A9E2, // Colone
-    0xA189E2, // Congruent
-    0xAF88E2, // Conint
-    0xAE88E2, // ContourIntegral
-    0x8284E2, // Copf
-    0x9088E2, // Coproduct
-    0xB388E2, // CounterClockwiseContourIntegral
-    0xAFA8E2, // Cross
-    0x9E929DF0, // Cscr
-    0x938BE2, // Cup
-    0x8D89E2, // CupCap
-];
-
-// What `name` stands for among the names that begin with `A` to `C`.
-pub fn in_a_to_c(name: &[u8]) -> Meaning
-    ensures { λ r. ⌜ meaningBytes r ≡ lookup (starting (0x41, 0x43) names) (now (name .entry)) ⌝ }
-{
-    names_search::find(name, &A_TO_C_NAMES, &A_TO_C_OFFSETS, &A_TO_C_VALUES)
-}
-
-const D_TO_F_NAMES: [u8; 847] = *b"\
-    DDDDotrahdDJcyDScyDZcyDaggerDarrDashvDcaronDcyDelDeltaDfrDiacriticalAcuteDiacriticalDotDiacriticalDoubleAcute\
-    DiacriticalGraveDiacriticalTildeDiamondDifferentialDDopfDotDotDotDotEqualDoubleContourIntegralDoubleDot\
-    DoubleDownArrowDoubleLeftArrowDoubleLeftRightArrowDoubleLeftTeeDoubleLongLeftArrowDoubleLongLeftRightArrow\
-    DoubleLongRightArrowDoubleRightArrowDoubleRightTeeDoubleUpArrowDoubleUpDownArrowDoubleVerticalBarDownArrow\
-    DownArrowBarDownArrowUpArrowDownBreveDownLeftRightVectorDownLeftTeeVectorDownLeftVectorDownLeftVectorBar\
-    DownRightTeeVectorDownRightVectorDownRightVectorBarDownTeeDownTeeArrowDownarrowDscrDstrokENGETHEacuteEcaron\
-    EcircEcyEdotEfrEgraveElementEmacrEmptySmallSquareEmptyVerySmallSquareEogonEopfEpsilonEqualEqualTilde\
-    EquilibriumEscrEsimEtaEumlExistsExponentialEFcyFfrFilledSmallSquareFilledVerySmallSquareFopfForAllFouriertrf\
-    Fscr";
-
-const D_TO_F_OFFSETS: [u16; 88] = [
-    0,
-    2,
-    10,
-    14,
-    18,
-    22,
-    28,
-    32,
-    37,
-    43,
-    46,
-    49,
-    54,
-    57,
-    73,
-    87,
-    109,
-    125,
-    141,
-    148,
-    161,
-    165,
-    168,
-    174,
-    182,
-    203,
-    212,
-    227,
-    242,
-    262,
-    275,
-    294,
-    318,
-    338,
-    354,
-    368,
-    381,
-    398,
-    415,
-    424,
-    436,
-    452,
-    461,
-    480,
-    497,
-    511,
-    528,
-    546,
-    561,
-    579,
-    586,
-    598,
-    607,
-    611,
-    617,
-    620,
-    623,
-    629,
-    635,
-    640,
-    643,
-    647,
-    650,
-    656,
-    663,
-    668,
-    684,
-    704,
-    709,
-    713,
-    720,
-    725,
-    735,
-    746,
-    750,
-    754,
-    757,
-    761,
-    767,
-    779,
-    782,
-    785,
-    802,
-    823,
-    827,
-    833,
-    843,
-    847,
-];
-
-const D_TO_F_VALUES: [u64; 87] = [
-    0x8585E2, // DD
-    0x91A4E2, // DDotrahd
-    0x82D0, // DJcy
-    0x85D0, // DScy
-    0x8FD0, // DZcy
-    0xA180E2, // Dagger
-    0xA186E2, // Darr
-    0xA4ABE2, // Dashv
-    0x8EC4, // Dcaron
-    0x94D0, // Dcy
-    0x8788E2, // Del
-    0x94CE, // Delta
-    0x87949DF0, // Dfr
-    0xB4C2, // DiacriticalAcute
-    0x99CB, // DiacriticalDot
-    0x9DCB, // DiacriticalDoubleAcute
-    0x60, // DiacriticalGrave
-    0x9CCB, // DiacriticalTilde
-    0x848BE2, // Diamond
-    0x8685E2, // DifferentialD
-    0xBB949DF0, // Dopf
-    0xA8C2, // Dot
-    0x9C83E2, // DotDot
-    0x9089E2, // DotEqual
-    0xAF88E2, // DoubleContourIntegral
-    0xA8C2, // DoubleDot
-    0x9387E2, // DoubleDownArrow
-    0x9087E2, // DoubleLeftArrow
-    0x9487E2, // DoubleLeftRightArrow
-    0xA4ABE2, // DoubleLeftTee
-    0xB89FE2, // DoubleLongLeftArrow
-    0xBA9FE2, // DoubleLongLeftRightArrow
-    0xB99FE2, // DoubleLongRightArrow
-    0x9287E2, // DoubleRightArrow
-    0xA88AE2, // DoubleRightTee
-    0x9187E2, // DoubleUpArrow
-    0x9587E2, // DoubleUpDownArrow
-    0xA588E2, // DoubleVerticalBar
-    0x9386E2, // DownArrow
-    0x93A4E2, // DownArrowBar
-    0xB587E2, // DownArrowUpArrow
-    0x91CC, // DownBreve
-    0x90A5E2, // DownLeftRightVector
-    0x9EA5E2, // DownLeftTeeVector
-    0xBD86E2, // DownLeftVector
-    0x96A5E2, // DownLeftVectorBar
-    0x9FA5E2, // DownRightTeeVector
-    0x8187E2, // DownRightVector
-    0x97A5E2, // DownRightVectorBar
-    0xA48AE2, // DownTee
-    0xA786E2, // DownTeeArrow
-    0x9387E2, // Downarrow
-    0x9F929DF0, // Dscr
-    0x90C4, // Dstrok
-    0x8AC5, // ENG
-    0x90C3, // ETH
-    0x89C3, // Eacute
-    0x9AC4, // Ecaron
-    0x8AC3, // Ecirc
-    0xADD0, // Ecy
-    0x96C4, // Edot
-    0x88949DF0, // Efr
-    0x88C3, // Egrave
-    0x8888E2, // Element
-    0x92C4, // Emacr
-    0xBB97E2, // EmptySmallSquare
-    0xAB96E2, // EmptyVerySmallSquare
-    0x98C4, // Eogon
-    0xBC949DF0, // Eopf
-    0x95CE, // Epsilon
-    0xB5A9E2, // Equal
-    0x8289E2, // EqualTilde
-    0x8C87E2, // Equilibrium
-    0xB084E2, // Escr
-    0xB3A9E2, // Esim
-    0x97CE, // Eta
-    0x8BC3, // Euml
-    0x8388E2, // Exists
-    0x8785E2, // ExponentialE
-    0xA4D0, // Fcy
-    0x89949DF0, // Ffr
-    0xBC97E2, // FilledSmallSquare
-    0xAA96E2, // FilledVerySmallSquare
-    0xBD949DF0, // Fopf
-    0x8088E2, // ForAll
-    0xB184E2, // Fouriertrf
-    0xB184E2, // Fscr
-];
-
-// What `name` stands for among the names that begin with `D` to `F`.
-pub fn in_d_to_f(name: &[u8]) -> Meaning
-    ensures { λ r. ⌜ meaningBytes r ≡ lookup (starting (0x44, 0x46) names) (now (name .entry)) ⌝ }
-{
-    names_search::find(name, &D_TO_F_NAMES, &D_TO_F_OFFSETS, &D_TO_F_VALUES)
-}
-
-const G_TO_M_NAMES: [u8; 1126] = *b"\
-    GJcyGTGammaGammadGbreveGcedilGcircGcyGdotGfrGgGopfGreaterEqualGreaterEqualLessGreaterFullEqualGreaterGreater\
-    GreaterLessGreaterSlantEqualGreaterTildeGscrGtHARDcyHacekHatHcircHfrHilbertSpaceHopfHorizontalLineHscrHstrok\
-    HumpDownHumpHumpEqualIEcyIJligIOcyIacuteIcircIcyIdotIfrIgraveImImacrImaginaryIImpliesIntIntegralIntersection\
-    InvisibleCommaInvisibleTimesIogonIopfIotaIscrItildeIukcyIumlJcircJcyJfrJopfJscrJsercyJukcyKHcyKJcyKappaKcedil\
-    KcyKfrKopfKscrLJcyLTLacuteLambdaLangLaplacetrfLarrLcaronLcedilLcyLeftAngleBracketLeftArrowLeftArrowBar\
-    LeftArrowRightArrowLeftCeilingLeftDoubleBracketLeftDownTeeVectorLeftDownVectorLeftDownVectorBarLeftFloor\
-    LeftRightArrowLeftRightVectorLeftTeeLeftTeeArrowLeftTeeVectorLeftTriangleLeftTriangleBarLeftTriangleEqual\
-    LeftUpDownVectorLeftUpTeeVectorLeftUpVectorLeftUpVectorBarLeftVectorLeftVectorBarLeftarrowLeftrightarrow\
-    LessEqualGreaterLessFullEqualLessGreaterLessLessLessSlantEqualLessTildeLfrLlLleftarrowLmidotLongLeftArrow\
-    LongLeftRightArrowLongRightArrowLongleftarrowLongleftrightarrowLongrightarrowLopfLowerLeftArrowLowerRightArrow\
-    LscrLshLstrokLtMapMcyMediumSpaceMellintrfMfrMinusPlusMopfMscrMu";
-
-const G_TO_M_OFFSETS: [u16; 142] = [
-    0,
+    3,
+    8,
+    30,
     4,
+    3,
+];
+
+const UPPER_C_1_VALUES: [u16; 32] = [
+    0x0427, // CHcy
+    0x00A9, // COPY
+    0x0106, // Cacute
+    0x22D2, // Cap
+    0x2145, // CapitalDifferentialD
+    0x212D, // Cayleys
+    0x010C, // Ccaron
+    0x00C7, // Ccedil
+    0x0108, // Ccirc
+    0x2230, // Cconint
+    0x010A, // Cdot
+    0x00B8, // Cedilla
+    0x00B7, // CenterDot
+    0x212D, // Cfr
+    0x03A7, // Chi
+    0x2299, // CircleDot
+    0x2296, // CircleMinus
+    0x2295, // CirclePlus
+    0x2297, // CircleTimes
+    0x2232, // ClockwiseContourIntegral
+    0x201D, // CloseCurlyDoubleQuote
+    0x2019, // CloseCurlyQuote
+    0x2237, // Colon
+    0x2A74, // Colone
+    0x2261, // Congruent
+    0x222F, // Conint
+    0x222E, // ContourIntegral
+    0x2102, // Copf
+    0x2210, // Coproduct
+    0x2233, // CounterClockwiseContourIntegral
+    0x2A2F, // Cross
+    0xE09E, // Cscr
+];
+
+// What `C` and `rest` stand for, where `rest` begins with a byte from 00 to 74 hex.
+fn upper_c_1(rest: &[u8]) -> Meaning
+    ensures { λ r. ⌜ meaningBytes r ≡ lookup (seconds (0x00, 0x74) upper-C) (0x43 ∷ now (rest .entry)) ⌝ }
+{
+    names_search::find(
+        rest,
+        &UPPER_C_1_NAMES,
+        &UPPER_C_1_LENGTHS,
+        &UPPER_C_1_VALUES,
+    )
+}
+
+const UPPER_C_2_NAMES: [u8; 7] = *b"\
+    upupCap";
+
+const UPPER_C_2_LENGTHS: [u8; 2] = [2, 5];
+
+const UPPER_C_2_VALUES: [u16; 2] = [
+    0x22D3, // Cup
+    0x224D, // CupCap
+];
+
+// What `C` and `rest` stand for, where `rest` begins with a byte from 75 to FF hex.
+fn upper_c_2(rest: &[u8]) -> Meaning
+    ensures { λ r. ⌜ meaningBytes r ≡ lookup (seconds (0x75, 0xFF) upper-C) (0x43 ∷ now (rest .entry)) ⌝ }
+{
+    names_search::find(
+        rest,
+        &UPPER_C_2_NAMES,
+        &UPPER_C_2_LENGTHS,
+        &UPPER_C_2_VALUES,
+    )
+}
+
+// What `C` and `rest` stand for. `second` is the first byte of `rest`, 0 if it has none.
+pub fn upper_c(second: u8, rest: &[u8]) -> Meaning
+    requires { ⌜ (getD (now rest) 0 0 ≡ second) × (second ≤ 255) ⌝ }
+    ensures { λ r. ⌜ meaningBytes r ≡ lookup upper-C (0x43 ∷ now (rest .entry)) ⌝ }
+{
+    if second < b'u' {
+        return upper_c_1(rest);
+    }
+    upper_c_2(rest)
+}
+
+const UPPER_D_1_NAMES: [u8; 141] = *b"\
+    DDotrahdJcyScyZcyaggerarrashvcaroncyeleltafriacriticalAcuteiacriticalDotiacriticalDoubleAcuteiacriticalGrave\
+    iacriticalTildeiamondifferentialD";
+
+const UPPER_D_1_LENGTHS: [u8; 20] = [
+    1,
+    7,
+    3,
+    3,
+    3,
+    5,
+    3,
+    4,
+    5,
+    2,
+    2,
+    4,
+    2,
+    15,
+    13,
+    21,
+    15,
+    15,
+    6,
+    12,
+];
+
+const UPPER_D_1_VALUES: [u16; 20] = [
+    0x2145, // DD
+    0x2911, // DDotrahd
+    0x0402, // DJcy
+    0x0405, // DScy
+    0x040F, // DZcy
+    0x2021, // Dagger
+    0x21A1, // Darr
+    0x2AE4, // Dashv
+    0x010E, // Dcaron
+    0x0414, // Dcy
+    0x2207, // Del
+    0x0394, // Delta
+    0xE107, // Dfr
+    0x00B4, // DiacriticalAcute
+    0x02D9, // DiacriticalDot
+    0x02DD, // DiacriticalDoubleAcute
+    0x0060, // DiacriticalGrave
+    0x02DC, // DiacriticalTilde
+    0x22C4, // Diamond
+    0x2146, // DifferentialD
+];
+
+// What `D` and `rest` stand for, where `rest` begins with a byte from 00 to 6E hex.
+fn upper_d_1(rest: &[u8]) -> Meaning
+    ensures { λ r. ⌜ meaningBytes r ≡ lookup (seconds (0x00, 0x6E) upper-D) (0x44 ∷ now (rest .entry)) ⌝ }
+{
+    names_search::find(
+        rest,
+        &UPPER_D_1_NAMES,
+        &UPPER_D_1_LENGTHS,
+        &UPPER_D_1_VALUES,
+    )
+}
+
+const UPPER_D_2_NAMES: [u8; 414] = *b"\
+    opfototDototEqualoubleContourIntegraloubleDotoubleDownArrowoubleLeftArrowoubleLeftRightArrowoubleLeftTee\
+    oubleLongLeftArrowoubleLongLeftRightArrowoubleLongRightArrowoubleRightArrowoubleRightTeeoubleUpArrow\
+    oubleUpDownArrowoubleVerticalBarownArrowownArrowBarownArrowUpArrowownBreveownLeftRightVectorownLeftTeeVector\
+    ownLeftVectorownLeftVectorBarownRightTeeVectorownRightVectorownRightVectorBarownTeeownTeeArrowownarrow";
+
+const UPPER_D_2_LENGTHS: [u8; 32] = [
+    3,
+    2,
+    5,
+    7,
+    20,
+    8,
+    14,
+    14,
+    19,
+    12,
+    18,
+    23,
+    19,
+    15,
+    13,
+    12,
+    16,
+    16,
+    8,
+    11,
+    15,
+    8,
+    18,
+    16,
+    13,
+    16,
+    17,
+    14,
+    17,
     6,
     11,
-    17,
-    23,
-    29,
-    34,
-    37,
-    41,
-    44,
-    46,
-    50,
-    62,
-    78,
-    94,
-    108,
-    119,
-    136,
-    148,
-    152,
-    154,
-    160,
-    165,
-    168,
-    173,
-    176,
-    188,
-    192,
-    206,
-    210,
-    216,
-    228,
-    237,
-    241,
-    246,
-    250,
-    256,
-    261,
-    264,
-    268,
-    271,
-    277,
-    279,
-    284,
-    294,
-    301,
-    304,
-    312,
-    324,
-    338,
-    352,
-    357,
-    361,
-    365,
-    369,
-    375,
-    380,
-    384,
-    389,
-    392,
-    395,
-    399,
-    403,
-    409,
-    414,
-    418,
-    422,
-    427,
-    433,
-    436,
-    439,
-    443,
-    447,
-    451,
-    453,
-    459,
-    465,
-    469,
-    479,
-    483,
-    489,
-    495,
-    498,
-    514,
-    523,
-    535,
-    554,
-    565,
-    582,
-    599,
-    613,
-    630,
-    639,
-    653,
-    668,
-    675,
-    687,
-    700,
-    712,
-    727,
-    744,
-    760,
-    775,
-    787,
-    802,
-    812,
-    825,
-    834,
-    848,
-    864,
-    877,
-    888,
-    896,
-    910,
-    919,
-    922,
-    924,
-    934,
-    940,
-    953,
-    971,
-    985,
-    998,
-    1016,
-    1030,
-    1034,
-    1048,
-    1063,
-    1067,
-    1070,
-    1076,
-    1078,
-    1081,
-    1084,
-    1095,
-    1104,
-    1107,
-    1116,
-    1120,
-    1124,
-    1126,
+    8,
 ];
 
-const G_TO_M_VALUES: [u64; 141] = [
-    0x83D0, // GJcy
-    0x3E, // GT
-    0x93CE, // Gamma
-    0x9CCF, // Gammad
-    0x9EC4, // Gbreve
-    0xA2C4, // Gcedil
-    0x9CC4, // Gcirc
-    0x93D0, // Gcy
-    0xA0C4, // Gdot
-    0x8A949DF0, // Gfr
-    0x998BE2, // Gg
-    0xBE949DF0, // Gopf
-    0xA589E2, // GreaterEqual
-    0x9B8BE2, // GreaterEqualLess
-    0xA789E2, // GreaterFullEqual
-    0xA2AAE2, // GreaterGreater
-    0xB789E2, // GreaterLess
-    0xBEA9E2, // GreaterSlantEqual
-    0xB389E2, // GreaterTilde
-    0xA2929DF0, // Gscr
-    0xAB89E2, // Gt
-    0xAAD0, // HARDcy
-    0x87CB, // Hacek
-    0x5E, // Hat
-    0xA4C4, // Hcirc
-    0x8C84E2, // Hfr
-    0x8B84E2, // HilbertSpace
-    0x8D84E2, // Hopf
-    0x8094E2, // HorizontalLine
-    0x8B84E2, // Hscr
-    0xA6C4, // Hstrok
-    0x8E89E2, // HumpDownHump
-    0x8F89E2, // HumpEqual
-    0x95D0, // IEcy
-    0xB2C4, // IJlig
-    0x81D0, // IOcy
-    0x8DC3, // Iacute
-    0x8EC3, // Icirc
-    0x98D0, // Icy
-    0xB0C4, // Idot
-    0x9184E2, // Ifr
-    0x8CC3, // Igrave
-    0x9184E2, // Im
-    0xAAC4, // Imacr
-    0x8885E2, // ImaginaryI
-    0x9287E2, // Implies
-    0xAC88E2, // Int
-    0xAB88E2, // Integral
-    0x828BE2, // Intersection
-    0xA381E2, // InvisibleComma
-    0xA281E2, // InvisibleTimes
-    0xAEC4, // Iogon
-    0x80959DF0, // Iopf
-    0x99CE, // Iota
-    0x9084E2, // Iscr
-    0xA8C4, // Itilde
-    0x86D0, // Iukcy
-    0x8FC3, // Iuml
-    0xB4C4, // Jcirc
-    0x99D0, // Jcy
-    0x8D949DF0, // Jfr
-    0x81959DF0, // Jopf
-    0xA5929DF0, // Jscr
-    0x88D0, // Jsercy
-    0x84D0, // Jukcy
-    0xA5D0, // KHcy
-    0x8CD0, // KJcy
-    0x9ACE, // Kappa
-    0xB6C4, // Kcedil
-    0x9AD0, // Kcy
-    0x8E949DF0, // Kfr
-    0x82959DF0, // Kopf
-    0xA6929DF0, // Kscr
-    0x89D0, // LJcy
-    0x3C, // LT
-    0xB9C4, // Lacute
-    0x9BCE, // Lambda
-    0xAA9FE2, // Lang
-    0x9284E2, // Laplacetrf
-    0x9E86E2, // Larr
-    0xBDC4, // Lcaron
-    0xBBC4, // Lcedil
-    0x9BD0, // Lcy
-    0xA89FE2, // LeftAngleBracket
-    0x9086E2, // LeftArrow
-    0xA487E2, // LeftArrowBar
-    0x8687E2, // LeftArrowRightArrow
-    0x888CE2, // LeftCeiling
-    0xA69FE2, // LeftDoubleBracket
-    0xA1A5E2, // LeftDownTeeVector
-    0x8387E2, // LeftDownVector
-    0x99A5E2, // LeftDownVectorBar
-    0x8A8CE2, // LeftFloor
-    0x9486E2, // LeftRightArrow
-    0x8EA5E2, // LeftRightVector
-    0xA38AE2, // LeftTee
-    0xA486E2, // LeftTeeArrow
-    0x9AA5E2, // LeftTeeVector
-    0xB28AE2, // LeftTriangle
-    0x8FA7E2, // LeftTriangleBar
-    0xB48AE2, // LeftTriangleEqual
-    0x91A5E2, // LeftUpDownVector
-    0xA0A5E2, // LeftUpTeeVector
-    0xBF86E2, // LeftUpVector
-    0x98A5E2, // LeftUpVectorBar
-    0xBC86E2, // LeftVector
-    0x92A5E2, // LeftVectorBar
-    0x9087E2, // Leftarrow
-    0x9487E2, // Leftrightarrow
-    0x9A8BE2, // LessEqualGreater
-    0xA689E2, // LessFullEqual
-    0xB689E2, // LessGreater
-    0xA1AAE2, // LessLess
-    0xBDA9E2, // LessSlantEqual
-    0xB289E2, // LessTilde
-    0x8F949DF0, // Lfr
-    0x988BE2, // Ll
-    0x9A87E2, // Lleftarrow
-    0xBFC4, // Lmidot
-    0xB59FE2, // LongLeftArrow
-    0xB79FE2, // LongLeftRightArrow
-    0xB69FE2, // LongRightArrow
-    0xB89FE2, // Longleftarrow
-    0xBA9FE2, // Longleftrightarrow
-    0xB99FE2, // Longrightarrow
-    0x83959DF0, // Lopf
-    0x9986E2, // LowerLeftArrow
-    0x9886E2, // LowerRightArrow
-    0x9284E2, // Lscr
-    0xB086E2, // Lsh
-    0x81C5, // Lstrok
-    0xAA89E2, // Lt
-    0x85A4E2, // Map
-    0x9CD0, // Mcy
-    0x9F81E2, // MediumSpace
-    0xB384E2, // Mellintrf
-    0x90949DF0, // Mfr
-    0x9388E2, // MinusPlus
-    0x84959DF0, // Mopf
-    0xB384E2, // Mscr
-    0x9CCE, // Mu
+const UPPER_D_2_VALUES: [u16; 32] = [
+    0xE13B, // Dopf
+    0x00A8, // Dot
+    0x20DC, // DotDot
+    0x2250, // DotEqual
+    0x222F, // DoubleContourIntegral
+    0x00A8, // DoubleDot
+    0x21D3, // DoubleDownArrow
+    0x21D0, // DoubleLeftArrow
+    0x21D4, // DoubleLeftRightArrow
+    0x2AE4, // DoubleLeftTee
+    0x27F8, // DoubleLongLeftArrow
+    0x27FA, // DoubleLongLeftRightArrow
+    0x27F9, // DoubleLongRightArrow
+    0x21D2, // DoubleRightArrow
+    0x22A8, // DoubleRightTee
+    0x21D1, // DoubleUpArrow
+    0x21D5, // DoubleUpDownArrow
+    0x2225, // DoubleVerticalBar
+    0x2193, // DownArrow
+    0x2913, // DownArrowBar
+    0x21F5, // DownArrowUpArrow
+    0x0311, // DownBreve
+    0x2950, // DownLeftRightVector
+    0x295E, // DownLeftTeeVector
+    0x21BD, // DownLeftVector
+    0x2956, // DownLeftVectorBar
+    0x295F, // DownRightTeeVector
+    0x21C1, // DownRightVector
+    0x2957, // DownRightVectorBar
+    0x22A4, // DownTee
+    0x21A7, // DownTeeArrow
+    0x21D3, // Downarrow
 ];
 
-// What `name` stands for among the names that begin with `G` to `M`.
-pub fn in_g_to_m(name: &[u8]) -> Meaning
-    ensures { λ r. ⌜ meaningBytes r ≡ lookup (starting (0x47, 0x4D) names) (now (name .entry)) ⌝ }
+// What `D` and `rest` stand for, where `rest` begins with a byte from 6F to 72 hex.
+fn upper_d_2(rest: &[u8]) -> Meaning
+    ensures { λ r. ⌜ meaningBytes r ≡ lookup (seconds (0x6F, 0x72) upper-D) (0x44 ∷ now (rest .entry)) ⌝ }
 {
-    names_search::find(name, &G_TO_M_NAMES, &G_TO_M_OFFSETS, &G_TO_M_VALUES)
+    names_search::find(
+        rest,
+        &UPPER_D_2_NAMES,
+        &UPPER_D_2_LENGTHS,
+        &UPPER_D_2_VALUES,
+    )
 }
 
-const N_NAMES: [u8; 944] = *b"\
-    NJcyNacuteNcaronNcedilNcyNegativeMediumSpaceNegativeThickSpaceNegativeThinSpaceNegativeVeryThinSpace\
-    NestedGreaterGreaterNestedLessLessNewLineNfrNoBreakNonBreakingSpaceNopfNotNotCongruentNotCupCap\
-    NotDoubleVerticalBarNotElementNotEqualNotEqualTildeNotExistsNotGreaterNotGreaterEqualNotGreaterFullEqual\
-    NotGreaterGreaterNotGreaterLessNotGreaterSlantEqualNotGreaterTildeNotHumpDownHumpNotHumpEqualNotLeftTriangle\
-    NotLeftTriangleBarNotLeftTriangleEqualNotLessNotLessEqualNotLessGreaterNotLessLessNotLessSlantEqual\
-    NotLessTildeNotNestedGreaterGreaterNotNestedLessLessNotPrecedesNotPrecedesEqualNotPrecedesSlantEqual\
-    NotReverseElementNotRightTriangleNotRightTriangleBarNotRightTriangleEqualNotSquareSubsetNotSquareSubsetEqual\
-    NotSquareSupersetNotSquareSupersetEqualNotSubsetNotSubsetEqualNotSucceedsNotSucceedsEqualNotSucceedsSlantEqual\
-    NotSucceedsTildeNotSupersetNotSupersetEqualNotTildeNotTildeEqualNotTildeFullEqualNotTildeTildeNotVerticalBar\
-    NscrNtildeNu";
+const UPPER_D_3_NAMES: [u8; 8] = *b"\
+    scrstrok";
 
-const N_OFFSETS: [u16; 72] = [
-    0,
+const UPPER_D_3_LENGTHS: [u8; 2] = [3, 5];
+
+const UPPER_D_3_VALUES: [u16; 2] = [
+    0xE09F, // Dscr
+    0x0110, // Dstrok
+];
+
+// What `D` and `rest` stand for, where `rest` begins with a byte from 73 to FF hex.
+fn upper_d_3(rest: &[u8]) -> Meaning
+    ensures { λ r. ⌜ meaningBytes r ≡ lookup (seconds (0x73, 0xFF) upper-D) (0x44 ∷ now (rest .entry)) ⌝ }
+{
+    names_search::find(
+        rest,
+        &UPPER_D_3_NAMES,
+        &UPPER_D_3_LENGTHS,
+        &UPPER_D_3_VALUES,
+    )
+}
+
+// What `D` and `rest` stand for. `second` is the first byte of `rest`, 0 if it has none.
+pub fn upper_d(second: u8, rest: &[u8]) -> Meaning
+    requires { ⌜ (getD (now rest) 0 0 ≡ second) × (second ≤ 255) ⌝ }
+    ensures { λ r. ⌜ meaningBytes r ≡ lookup upper-D (0x44 ∷ now (rest .entry)) ⌝ }
+{
+    if second < b'o' {
+        return upper_d_1(rest);
+    }
+    if second < b's' {
+        return upper_d_2(rest);
+    }
+    upper_d_3(rest)
+}
+
+const UPPER_E_NAMES: [u8; 137] = *b"\
+    NGTHacutecaroncirccydotfrgravelementmacrmptySmallSquaremptyVerySmallSquareogonopfpsilonqualqualTildequilibrium\
+    scrsimtaumlxistsxponentialE";
+
+const UPPER_E_LENGTHS: [u8; 25] = [
+    2,
+    2,
+    5,
+    5,
     4,
+    2,
+    3,
+    2,
+    5,
+    6,
+    4,
+    15,
+    19,
+    4,
+    3,
+    6,
+    4,
+    9,
     10,
-    16,
-    22,
-    25,
-    44,
-    62,
-    79,
-    100,
-    120,
-    134,
-    141,
-    144,
-    151,
-    167,
-    171,
-    174,
-    186,
-    195,
-    215,
-    225,
-    233,
-    246,
-    255,
-    265,
-    280,
-    299,
-    316,
-    330,
-    350,
-    365,
-    380,
-    392,
-    407,
-    425,
-    445,
-    452,
-    464,
-    478,
-    489,
-    506,
-    518,
-    541,
-    558,
-    569,
-    585,
-    606,
-    623,
-    639,
-    658,
-    679,
-    694,
-    714,
-    731,
-    753,
-    762,
-    776,
-    787,
-    803,
-    824,
-    840,
-    851,
-    867,
-    875,
-    888,
-    905,
-    918,
-    932,
-    936,
-    942,
-    944,
-];
-
-const N_VALUES: [u64; 71] = [
-    0x8AD0, // NJcy
-    0x83C5, // Nacute
-    0x87C5, // Ncaron
-    0x85C5, // Ncedil
-    0x9DD0, // Ncy
-    0x8B80E2, // NegativeMediumSpace
-    0x8B80E2, // NegativeThickSpace
-    0x8B80E2, // NegativeThinSpace
-    0x8B80E2, // NegativeVeryThinSpace
-    0xAB89E2, // NestedGreaterGreater
-    0xAA89E2, // NestedLessLess
-    0xA, // NewLine
-    0x91949DF0, // Nfr
-    0xA081E2, // NoBreak
-    0xA0C2, // NonBreakingSpace
-    0x9584E2, // Nopf
-    0xACABE2, // Not
-    0xA289E2, // NotCongruent
-    0xAD89E2, // NotCupCap
-    0xA688E2, // NotDoubleVerticalBar
-    0x8988E2, // NotElement
-    0xA089E2, // NotEqual
-    0xB8CC8289E2, // NotEqualTilde
-    0x8488E2, // NotExists
-    0xAF89E2, // NotGreater
-    0xB189E2, // NotGreaterEqual
-    0xB8CCA789E2, // NotGreaterFullEqual
-    0xB8CCAB89E2, // NotGreaterGreater
-    0xB989E2, // NotGreaterLess
-    0xB8CCBEA9E2, // NotGreaterSlantEqual
-    0xB589E2, // NotGreaterTilde
-    0xB8CC8E89E2, // NotHumpDownHump
-    0xB8CC8F89E2, // NotHumpEqual
-    0xAA8BE2, // NotLeftTriangle
-    0xB8CC8FA7E2, // NotLeftTriangleBar
-    0xAC8BE2, // NotLeftTriangleEqual
-    0xAE89E2, // NotLess
-    0xB089E2, // NotLessEqual
-    0xB889E2, // NotLessGreater
-    0xB8CCAA89E2, // NotLessLess
-    0xB8CCBDA9E2, // NotLessSlantEqual
-    0xB489E2, // NotLessTilde
-    0xB8CCA2AAE2, // NotNestedGreaterGreater
-    0xB8CCA1AAE2, // NotNestedLessLess
-    0x808AE2, // NotPrecedes
-    0xB8CCAFAAE2, // NotPrecedesEqual
-    0xA08BE2, // NotPrecedesSlantEqual
-    0x8C88E2, // NotReverseElement
-    0xAB8BE2, // NotRightTriangle
-    0xB8CC90A7E2, // NotRightTriangleBar
-    0xAD8BE2, // NotRightTriangleEqual
-    0xB8CC8F8AE2, // NotSquareSubset
-    0xA28BE2, // NotSquareSubsetEqual
-    0xB8CC908AE2, // NotSquareSuperset
-    0xA38BE2, // NotSquareSupersetEqual
-    0x9283E2828AE2, // NotSubset
-    0x888AE2, // NotSubsetEqual
-    0x818AE2, // NotSucceeds
-    0xB8CCB0AAE2, // NotSucceedsEqual
-    0xA18BE2, // NotSucceedsSlantEqual
-    0xB8CCBF89E2, // NotSucceedsTilde
-    0x9283E2838AE2, // NotSuperset
-    0x898AE2, // NotSupersetEqual
-    0x8189E2, // NotTilde
-    0x8489E2, // NotTildeEqual
-    0x8789E2, // NotTildeFullEqual
-    0x8989E2, // NotTildeTilde
-    0xA488E2, // NotVerticalBar
-    0xA9929DF0, // Nscr
-    0x91C3, // Ntilde
-    0x9DCE, // Nu
-];
-
-// What `name` stands for among the names that begin with `N`.
-pub fn in_n(name: &[u8]) -> Meaning
-    ensures { λ r. ⌜ meaningBytes r ≡ lookup (starting (0x4E, 0x4E) names) (now (name .entry)) ⌝ }
-{
-    names_search::find(name, &N_NAMES, &N_OFFSETS, &N_VALUES)
-}
-
-const O_TO_R_NAMES: [u8; 791] = *b"\
-    OEligOacuteOcircOcyOdblacOfrOgraveOmacrOmegaOmicronOopfOpenCurlyDoubleQuoteOpenCurlyQuoteOrOscrOslashOtilde\
-    OtimesOumlOverBarOverBraceOverBracketOverParenthesisPartialDPcyPfrPhiPiPlusMinusPoincareplanePopfPrPrecedes\
-    PrecedesEqualPrecedesSlantEqualPrecedesTildePrimeProductProportionProportionalPscrPsiQUOTQfrQopfQscrRBarrREG\
-    RacuteRangRarrRarrtlRcaronRcedilRcyReReverseElementReverseEquilibriumReverseUpEquilibriumRfrRho\
-    RightAngleBracketRightArrowRightArrowBarRightArrowLeftArrowRightCeilingRightDoubleBracketRightDownTeeVector\
-    RightDownVectorRightDownVectorBarRightFloorRightTeeRightTeeArrowRightTeeVectorRightTriangleRightTriangleBar\
-    RightTriangleEqualRightUpDownVectorRightUpTeeVectorRightUpVectorRightUpVectorBarRightVectorRightVectorBar\
-    RightarrowRopfRoundImpliesRrightarrowRscrRshRuleDelayed";
-
-const O_TO_R_OFFSETS: [u16; 91] = [
-    0,
+    3,
+    3,
+    2,
+    3,
     5,
     11,
-    16,
-    19,
-    25,
-    28,
-    34,
-    39,
-    44,
-    51,
-    55,
-    75,
-    89,
-    91,
-    95,
-    101,
-    107,
-    113,
-    117,
-    124,
-    133,
-    144,
-    159,
-    167,
-    170,
-    173,
-    176,
-    178,
-    187,
-    200,
-    204,
-    206,
-    214,
-    227,
-    245,
-    258,
-    263,
-    270,
-    280,
-    292,
-    296,
-    299,
-    303,
-    306,
-    310,
-    314,
-    319,
-    322,
-    328,
-    332,
-    336,
-    342,
-    348,
-    354,
-    357,
-    359,
-    373,
-    391,
-    411,
-    414,
-    417,
-    434,
-    444,
-    457,
-    476,
-    488,
-    506,
-    524,
-    539,
-    557,
-    567,
-    575,
-    588,
-    602,
-    615,
-    631,
-    649,
-    666,
-    682,
-    695,
-    711,
-    722,
-    736,
-    746,
-    750,
-    762,
-    773,
-    777,
-    780,
-    791,
 ];
 
-const O_TO_R_VALUES: [u64; 90] = [
-    0x92C5, // OElig
-    0x93C3, // Oacute
-    0x94C3, // Ocirc
-    0x9ED0, // Ocy
-    0x90C5, // Odblac
-    0x92949DF0, // Ofr
-    0x92C3, // Ograve
-    0x8CC5, // Omacr
-    0xA9CE, // Omega
-    0x9FCE, // Omicron
-    0x86959DF0, // Oopf
-    0x9C80E2, // OpenCurlyDoubleQuote
-    0x9880E2, // OpenCurlyQuote
-    0x94A9E2, // Or
-    0xAA929DF0, // Oscr
-    0x98C3, // Oslash
-    0x95C3, // Otilde
-    0xB7A8E2, // Otimes
-    0x96C3, // Ouml
-    0xBE80E2, // OverBar
-    0x9E8FE2, // OverBrace
-    0xB48EE2, // OverBracket
-    0x9C8FE2, // OverParenthesis
-    0x8288E2, // PartialD
-    0x9FD0, // Pcy
-    0x93949DF0, // Pfr
-    0xA6CE, // Phi
-    0xA0CE, // Pi
-    0xB1C2, // PlusMinus
-    0x8C84E2, // Poincareplane
-    0x9984E2, // Popf
-    0xBBAAE2, // Pr
-    0xBA89E2, // Precedes
-    0xAFAAE2, // PrecedesEqual
-    0xBC89E2, // PrecedesSlantEqual
-    0xBE89E2, // PrecedesTilde
-    0xB380E2, // Prime
-    0x8F88E2, // Product
-    0xB788E2, // Proportion
-    0x9D88E2, // Proportional
-    0xAB929DF0, // Pscr
-    0xA8CE, // Psi
-    0x22, // QUOT
-    0x94949DF0, // Qfr
-    0x9A84E2, // Qopf
-    0xAC929DF0, // Qscr
-    0x90A4E2, // RBarr
-    0xAEC2, // REG
-    0x94C5, // Racute
-    0xAB9FE2, // Rang
-    0xA086E2, // Rarr
-    0x96A4E2, // Rarrtl
-    0x98C5, // Rcaron
-    0x96C5, // Rcedil
-    0xA0D0, // Rcy
-    0x9C84E2, // Re
-    0x8B88E2, // ReverseElement
-    0x8B87E2, // ReverseEquilibrium
-    0xAFA5E2, // ReverseUpEquilibrium
-    0x9C84E2, // Rfr
-    0xA1CE, // Rho
-    0xA99FE2, // RightAngleBracket
-    0x9286E2, // RightArrow
-    0xA587E2, // RightArrowBar
-    0x8487E2, // RightArrowLeftArrow
-    0x898CE2, // RightCeiling
-    0xA79FE2, // RightDoubleBracket
-    0x9DA5E2, // RightDownTeeVector
-    0x8287E2, // RightDownVector
-    0x95A5E2, // RightDownVectorBar
-    0x8B8CE2, // RightFloor
-    0xA28AE2, // RightTee
-    0xA686E2, // RightTeeArrow
-    0x9BA5E2, // RightTeeVector
-    0xB38AE2, // RightTriangle
-    0x90A7E2, // RightTriangleBar
-    0xB58AE2, // RightTriangleEqual
-    0x8FA5E2, // RightUpDownVector
-    0x9CA5E2, // RightUpTeeVector
-    0xBE86E2, // RightUpVector
-    0x94A5E2, // RightUpVectorBar
-    0x8087E2, // RightVector
-    0x93A5E2, // RightVectorBar
-    0x9287E2, // Rightarrow
-    0x9D84E2, // Ropf
-    0xB0A5E2, // RoundImplies
-    0x9B87E2, // Rrightarrow
-    0x9B84E2, // Rscr
-    0xB186E2, // Rsh
-    0xB4A7E2, // RuleDelayed
+const UPPER_E_VALUES: [u16; 25] = [
+    0x014A, // ENG
+    0x00D0, // ETH
+    0x00C9, // Eacute
+    0x011A, // Ecaron
+    0x00CA, // Ecirc
+    0x042D, // Ecy
+    0x0116, // Edot
+    0xE108, // Efr
+    0x00C8, // Egrave
+    0x2208, // Element
+    0x0112, // Emacr
+    0x25FB, // EmptySmallSquare
+    0x25AB, // EmptyVerySmallSquare
+    0x0118, // Eogon
+    0xE13C, // Eopf
+    0x0395, // Epsilon
+    0x2A75, // Equal
+    0x2242, // EqualTilde
+    0x21CC, // Equilibrium
+    0x2130, // Escr
+    0x2A73, // Esim
+    0x0397, // Eta
+    0x00CB, // Euml
+    0x2203, // Exists
+    0x2147, // ExponentialE
 ];
 
-// What `name` stands for among the names that begin with `O` to `R`.
-pub fn in_o_to_r(name: &[u8]) -> Meaning
-    ensures { λ r. ⌜ meaningBytes r ≡ lookup (starting (0x4F, 0x52) names) (now (name .entry)) ⌝ }
+// What `E` and `rest` stand for.
+pub fn upper_e(rest: &[u8]) -> Meaning
+    ensures { λ r. ⌜ meaningBytes r ≡ lookup upper-E (0x45 ∷ now (rest .entry)) ⌝ }
 {
-    names_search::find(name, &O_TO_R_NAMES, &O_TO_R_OFFSETS, &O_TO_R_VALUES)
+    names_search::find(rest, &UPPER_E_NAMES, &UPPER_E_LENGTHS, &UPPER_E_VALUES)
 }
 
-const S_TO_Z_NAMES: [u8; 1003] = *b"\
-    SHCHcySHcySOFTcySacuteScScaronScedilScircScySfrShortDownArrowShortLeftArrowShortRightArrowShortUpArrowSigma\
-    SmallCircleSopfSqrtSquareSquareIntersectionSquareSubsetSquareSubsetEqualSquareSupersetSquareSupersetEqual\
-    SquareUnionSscrStarSubSubsetSubsetEqualSucceedsSucceedsEqualSucceedsSlantEqualSucceedsTildeSuchThatSumSup\
-    SupersetSupersetEqualSupsetTHORNTRADETSHcyTScyTabTauTcaronTcedilTcyTfrThereforeThetaThickSpaceThinSpaceTilde\
-    TildeEqualTildeFullEqualTildeTildeTopfTripleDotTscrTstrokUacuteUarrUarrocirUbrcyUbreveUcircUcyUdblacUfrUgrave\
-    UmacrUnderBarUnderBraceUnderBracketUnderParenthesisUnionUnionPlusUogonUopfUpArrowUpArrowBarUpArrowDownArrow\
-    UpDownArrowUpEquilibriumUpTeeUpTeeArrowUparrowUpdownarrowUpperLeftArrowUpperRightArrowUpsiUpsilonUringUscr\
-    UtildeUumlVDashVbarVcyVdashVdashlVeeVerbarVertVerticalBarVerticalLineVerticalSeparatorVerticalTilde\
-    VeryThinSpaceVfrVopfVscrVvdashWcircWedgeWfrWopfWscrXfrXiXopfXscrYAcyYIcyYUcyYacuteYcircYcyYfrYopfYscrYumlZHcy\
-    ZacuteZcaronZcyZdotZeroWidthSpaceZetaZfrZopfZscr";
+const UPPER_F_NAMES: [u8; 60] = *b"\
+    cyfrilledSmallSquareilledVerySmallSquareopforAllouriertrfscr";
 
-const S_TO_Z_OFFSETS: [u16; 145] = [
-    0,
-    6,
+const UPPER_F_LENGTHS: [u8; 8] = [2, 2, 16, 20, 3, 5, 9, 3];
+
+const UPPER_F_VALUES: [u16; 8] = [
+    0x0424, // Fcy
+    0xE109, // Ffr
+    0x25FC, // FilledSmallSquare
+    0x25AA, // FilledVerySmallSquare
+    0xE13D, // Fopf
+    0x2200, // ForAll
+    0x2131, // Fouriertrf
+    0x2131, // Fscr
+];
+
+// What `F` and `rest` stand for.
+pub fn upper_f(rest: &[u8]) -> Meaning
+    ensures { λ r. ⌜ meaningBytes r ≡ lookup upper-F (0x46 ∷ now (rest .entry)) ⌝ }
+{
+    names_search::find(rest, &UPPER_F_NAMES, &UPPER_F_LENGTHS, &UPPER_F_VALUES)
+}
+
+const UPPER_G_NAMES: [u8; 133] = *b"\
+    JcyTammaammadbrevecedilcirccydotfrgopfreaterEqualreaterEqualLessreaterFullEqualreaterGreaterreaterLess\
+    reaterSlantEqualreaterTildescrt";
+
+const UPPER_G_LENGTHS: [u8; 21] = [
+    3,
+    1,
+    4,
+    5,
+    5,
+    5,
+    4,
+    2,
+    3,
+    2,
+    1,
+    3,
+    11,
+    15,
+    15,
+    13,
     10,
     16,
-    22,
-    24,
-    30,
-    36,
-    41,
-    44,
-    47,
-    61,
-    75,
-    90,
-    102,
-    107,
-    118,
-    122,
-    126,
-    132,
-    150,
-    162,
-    179,
-    193,
-    212,
-    223,
-    227,
-    231,
-    234,
-    240,
-    251,
-    259,
-    272,
-    290,
-    303,
-    311,
-    314,
-    317,
-    325,
-    338,
-    344,
-    349,
-    354,
-    359,
-    363,
-    366,
-    369,
-    375,
-    381,
-    384,
-    387,
-    396,
-    401,
-    411,
-    420,
-    425,
-    435,
-    449,
-    459,
-    463,
-    472,
-    476,
-    482,
-    488,
-    492,
-    500,
-    505,
-    511,
-    516,
-    519,
-    525,
-    528,
-    534,
-    539,
-    547,
-    557,
-    569,
-    585,
-    590,
-    599,
-    604,
-    608,
-    615,
-    625,
-    641,
-    652,
-    665,
-    670,
-    680,
-    687,
-    698,
-    712,
-    727,
-    731,
-    738,
-    743,
-    747,
-    753,
-    757,
-    762,
-    766,
-    769,
-    774,
-    780,
-    783,
-    789,
-    793,
-    804,
-    816,
-    833,
-    846,
-    859,
-    862,
-    866,
-    870,
-    876,
-    881,
-    886,
-    889,
-    893,
-    897,
-    900,
-    902,
-    906,
-    910,
-    914,
-    918,
-    922,
-    928,
-    933,
-    936,
-    939,
-    943,
-    947,
-    951,
-    955,
-    961,
-    967,
-    970,
-    974,
-    988,
-    992,
-    995,
-    999,
-    1003,
+    11,
+    3,
+    1,
 ];
 
-const S_TO_Z_VALUES: [u64; 144] = [
-    0xA9D0, // SHCHcy
-    0xA8D0, // SHcy
-    0xACD0, // SOFTcy
-    0x9AC5, // Sacute
-    0xBCAAE2, // Sc
-    0xA0C5, // Scaron
-    0x9EC5, // Scedil
-    0x9CC5, // Scirc
-    0xA1D0, // Scy
-    0x96949DF0, // Sfr
-    0x9386E2, // ShortDownArrow
-    0x9086E2, // ShortLeftArrow
-    0x9286E2, // ShortRightArrow
-    0x9186E2, // ShortUpArrow
-    0xA3CE, // Sigma
-    0x9888E2, // SmallCircle
-    0x8A959DF0, // Sopf
-    0x9A88E2, // Sqrt
-    0xA196E2, // Square
-    0x938AE2, // SquareIntersection
-    0x8F8AE2, // SquareSubset
-    0x918AE2, // SquareSubsetEqual
-    0x908AE2, // SquareSuperset
-    0x928AE2, // SquareSupersetEqual
-    0x948AE2, // SquareUnion
-    0xAE929DF0, // Sscr
-    0x868BE2, // Star
-    0x908BE2, // Sub
-    0x908BE2, // Subset
-    0x868AE2, // SubsetEqual
-    0xBB89E2, // Succeeds
-    0xB0AAE2, // SucceedsEqual
-    0xBD89E2, // SucceedsSlantEqual
-    0xBF89E2, // SucceedsTilde
-    0x8B88E2, // SuchThat
-    0x9188E2, // Sum
-    0x918BE2, // Sup
-    0x838AE2, // Superset
-    0x878AE2, // SupersetEqual
-    0x918BE2, // Supset
-    0x9EC3, // THORN
-    0xA284E2, // TRADE
-    0x8BD0, // TSHcy
-    0xA6D0, // TScy
-    0x9, // Tab
-    0xA4CE, // Tau
-    0xA4C5, // Tcaron
-    0xA2C5, // Tcedil
-    0xA2D0, // Tcy
-    0x97949DF0, // Tfr
-    0xB488E2, // Therefore
-    0x98CE, // Theta
-    0x8A80E29F81E2, // ThickSpace
-    0x8980E2, // ThinSpace
-    0xBC88E2, // Tilde
-    0x8389E2, // TildeEqual
-    0x8589E2, // TildeFullEqual
-    0x8889E2, // TildeTilde
-    0x8B959DF0, // Topf
-    0x9B83E2, // TripleDot
-    0xAF929DF0, // Tscr
-    0xA6C5, // Tstrok
-    0x9AC3, // Uacute
-    0x9F86E2, // Uarr
-    0x89A5E2, // Uarrocir
-    0x8ED0, // Ubrcy
-    0xACC5, // Ubreve
-    0x9BC3, // Ucirc
-    0xA3D0, // Ucy
-    0xB0C5, // Udblac
-    0x98949DF0, // Ufr
-    0x99C3, // Ugrave
-    0xAAC5, // Umacr
-    0x5F, // UnderBar
-    0x9F8FE2, // UnderBrace
-    0xB58EE2, // UnderBracket
-    0x9D8FE2, // UnderParenthesis
-    0x838BE2, // Union
-    0x8E8AE2, // UnionPlus
-    0xB2C5, // Uogon
-    0x8C959DF0, // Uopf
-    0x9186E2, // UpArrow
-    0x92A4E2, // UpArrowBar
-    0x8587E2, // UpArrowDownArrow
-    0x9586E2, // UpDownArrow
-    0xAEA5E2, // UpEquilibrium
-    0xA58AE2, // UpTee
-    0xA586E2, // UpTeeArrow
-    0x9187E2, // Uparrow
-    0x9587E2, // Updownarrow
-    0x9686E2, // UpperLeftArrow
-    0x9786E2, // UpperRightArrow
-    0x92CF, // Upsi
-    0xA5CE, // Upsilon
-    0xAEC5, // Uring
-    0xB0929DF0, // Uscr
-    0xA8C5, // Utilde
-    0x9CC3, // Uuml
-    0xAB8AE2, // VDash
-    0xABABE2, // Vbar
-    0x92D0, // Vcy
-    0xA98AE2, // Vdash
-    0xA6ABE2, // Vdashl
-    0x818BE2, // Vee
-    0x9680E2, // Verbar
-    0x9680E2, // Vert
-    0xA388E2, // VerticalBar
-    0x7C, // VerticalLine
-    0x989DE2, // VerticalSeparator
-    0x8089E2, // VerticalTilde
-    0x8A80E2, // VeryThinSpace
-    0x99949DF0, // Vfr
-    0x8D959DF0, // Vopf
-    0xB1929DF0, // Vscr
-    0xAA8AE2, // Vvdash
-    0xB4C5, // Wcirc
-    0x808BE2, // Wedge
-    0x9A949DF0, // Wfr
-    0x8E959DF0, // Wopf
-    0xB2929DF0, // Wscr
-    0x9B949DF0, // Xfr
-    0x9ECE, // Xi
-    0x8F959DF0, // Xopf
-    0xB3929DF0, // Xscr
-    0xAFD0, // YAcy
-    0x87D0, // YIcy
-    0xAED0, // YUcy
-    0x9DC3, // Yacute
-    0xB6C5, // Ycirc
-    0xABD0, // Ycy
-    0x9C949DF0, // Yfr
-    0x90959DF0, // Yopf
-    0xB4929DF0, // Yscr
-    0xB8C5, // Yuml
-    0x96D0, // ZHcy
-    0xB9C5, // Zacute
-    0xBDC5, // Zcaron
-    0x97D0, // Zcy
-    0xBBC5, // Zdot
-    0x8B80E2, // ZeroWidthSpace
-    0x96CE, // Zeta
-    0xA884E2, // Zfr
-    0xA484E2, // Zopf
-    0xB5929DF0, // Zscr
+const UPPER_G_VALUES: [u16; 21] = [
+    0x0403, // GJcy
+    0x003E, // GT
+    0x0393, // Gamma
+    0x03DC, // Gammad
+    0x011E, // Gbreve
+    0x0122, // Gcedil
+    0x011C, // Gcirc
+    0x0413, // Gcy
+    0x0120, // Gdot
+    0xE10A, // Gfr
+    0x22D9, // Gg
+    0xE13E, // Gopf
+    0x2265, // GreaterEqual
+    0x22DB, // GreaterEqualLess
+    0x2267, // GreaterFullEqual
+    0x2AA2, // GreaterGreater
+    0x2277, // GreaterLess
+    0x2A7E, // GreaterSlantEqual
+    0x2273, // GreaterTilde
+    0xE0A2, // Gscr
+    0x226B, // Gt
 ];
 
-// What `name` stands for among the names that begin with `S` to `Z`.
-pub fn in_s_to_z(name: &[u8]) -> Meaning
-    ensures { λ r. ⌜ meaningBytes r ≡ lookup (starting (0x53, 0x5A) names) (now (name .entry)) ⌝ }
+// What `G` and `rest` stand for.
+pub fn upper_g(rest: &[u8]) -> Meaning
+    ensures { λ r. ⌜ meaningBytes r ≡ lookup upper-G (0x47 ∷ now (rest .entry)) ⌝ }
 {
-    names_search::find(name, &S_TO_Z_NAMES, &S_TO_Z_OFFSETS, &S_TO_Z_VALUES)
+    names_search::find(rest, &UPPER_G_NAMES, &UPPER_G_LENGTHS, &UPPER_G_VALUES)
+}
+
+const UPPER_H_NAMES: [u8; 71] = *b"\
+    ARDcyacekatcircfrilbertSpaceopforizontalLinescrstrokumpDownHumpumpEqual";
+
+const UPPER_H_LENGTHS: [u8; 12] = [5, 4, 2, 4, 2, 11, 3, 13, 3, 5, 11, 8];
+
+const UPPER_H_VALUES: [u16; 12] = [
+    0x042A, // HARDcy
+    0x02C7, // Hacek
+    0x005E, // Hat
+    0x0124, // Hcirc
+    0x210C, // Hfr
+    0x210B, // HilbertSpace
+    0x210D, // Hopf
+    0x2500, // HorizontalLine
+    0x210B, // Hscr
+    0x0126, // Hstrok
+    0x224E, // HumpDownHump
+    0x224F, // HumpEqual
+];
+
+// What `H` and `rest` stand for.
+pub fn upper_h(rest: &[u8]) -> Meaning
+    ensures { λ r. ⌜ meaningBytes r ≡ lookup upper-H (0x48 ∷ now (rest .entry)) ⌝ }
+{
+    names_search::find(rest, &UPPER_H_NAMES, &UPPER_H_LENGTHS, &UPPER_H_VALUES)
+}
+
+const UPPER_I_NAMES: [u8; 122] = *b"\
+    EcyJligOcyacutecirccydotfrgravemmacrmaginaryImpliesntntegralntersectionnvisibleCommanvisibleTimesogonopfotascr\
+    tildeukcyuml";
+
+const UPPER_I_LENGTHS: [u8; 25] = [
+    3,
+    4,
+    3,
+    5,
+    4,
+    2,
+    3,
+    2,
+    5,
+    1,
+    4,
+    9,
+    6,
+    2,
+    7,
+    11,
+    13,
+    13,
+    4,
+    3,
+    3,
+    3,
+    5,
+    4,
+    3,
+];
+
+const UPPER_I_VALUES: [u16; 25] = [
+    0x0415, // IEcy
+    0x0132, // IJlig
+    0x0401, // IOcy
+    0x00CD, // Iacute
+    0x00CE, // Icirc
+    0x0418, // Icy
+    0x0130, // Idot
+    0x2111, // Ifr
+    0x00CC, // Igrave
+    0x2111, // Im
+    0x012A, // Imacr
+    0x2148, // ImaginaryI
+    0x21D2, // Implies
+    0x222C, // Int
+    0x222B, // Integral
+    0x22C2, // Intersection
+    0x2063, // InvisibleComma
+    0x2062, // InvisibleTimes
+    0x012E, // Iogon
+    0xE140, // Iopf
+    0x0399, // Iota
+    0x2110, // Iscr
+    0x0128, // Itilde
+    0x0406, // Iukcy
+    0x00CF, // Iuml
+];
+
+// What `I` and `rest` stand for.
+pub fn upper_i(rest: &[u8]) -> Meaning
+    ensures { λ r. ⌜ meaningBytes r ≡ lookup upper-I (0x49 ∷ now (rest .entry)) ⌝ }
+{
+    names_search::find(rest, &UPPER_I_NAMES, &UPPER_I_LENGTHS, &UPPER_I_VALUES)
+}
+
+const UPPER_J_NAMES: [u8; 23] = *b"\
+    circcyfropfscrsercyukcy";
+
+const UPPER_J_LENGTHS: [u8; 7] = [4, 2, 2, 3, 3, 5, 4];
+
+const UPPER_J_VALUES: [u16; 7] = [
+    0x0134, // Jcirc
+    0x0419, // Jcy
+    0xE10D, // Jfr
+    0xE141, // Jopf
+    0xE0A5, // Jscr
+    0x0408, // Jsercy
+    0x0404, // Jukcy
+];
+
+// What `J` and `rest` stand for.
+pub fn upper_j(rest: &[u8]) -> Meaning
+    ensures { λ r. ⌜ meaningBytes r ≡ lookup upper-J (0x4A ∷ now (rest .entry)) ⌝ }
+{
+    names_search::find(rest, &UPPER_J_NAMES, &UPPER_J_LENGTHS, &UPPER_J_VALUES)
+}
+
+const UPPER_K_NAMES: [u8; 25] = *b"\
+    HcyJcyappacedilcyfropfscr";
+
+const UPPER_K_LENGTHS: [u8; 8] = [3, 3, 4, 5, 2, 2, 3, 3];
+
+const UPPER_K_VALUES: [u16; 8] = [
+    0x0425, // KHcy
+    0x040C, // KJcy
+    0x039A, // Kappa
+    0x0136, // Kcedil
+    0x041A, // Kcy
+    0xE10E, // Kfr
+    0xE142, // Kopf
+    0xE0A6, // Kscr
+];
+
+// What `K` and `rest` stand for.
+pub fn upper_k(rest: &[u8]) -> Meaning
+    ensures { λ r. ⌜ meaningBytes r ≡ lookup upper-K (0x4B ∷ now (rest .entry)) ⌝ }
+{
+    names_search::find(rest, &UPPER_K_NAMES, &UPPER_K_LENGTHS, &UPPER_K_VALUES)
+}
+
+const UPPER_L_1_NAMES: [u8; 41] = *b"\
+    JcyTacuteambdaangaplacetrfarrcaroncedilcy";
+
+const UPPER_L_1_LENGTHS: [u8; 10] = [3, 1, 5, 5, 3, 9, 3, 5, 5, 2];
+
+const UPPER_L_1_VALUES: [u16; 10] = [
+    0x0409, // LJcy
+    0x003C, // LT
+    0x0139, // Lacute
+    0x039B, // Lambda
+    0x27EA, // Lang
+    0x2112, // Laplacetrf
+    0x219E, // Larr
+    0x013D, // Lcaron
+    0x013B, // Lcedil
+    0x041B, // Lcy
+];
+
+// What `L` and `rest` stand for, where `rest` begins with a byte from 00 to 64 hex.
+fn upper_l_1(rest: &[u8]) -> Meaning
+    ensures { λ r. ⌜ meaningBytes r ≡ lookup (seconds (0x00, 0x64) upper-L) (0x4C ∷ now (rest .entry)) ⌝ }
+{
+    names_search::find(
+        rest,
+        &UPPER_L_1_NAMES,
+        &UPPER_L_1_LENGTHS,
+        &UPPER_L_1_VALUES,
+    )
+}
+
+const UPPER_L_2_NAMES: [u8; 389] = *b"\
+    eftAngleBracketeftArroweftArrowBareftArrowRightArroweftCeilingeftDoubleBracketeftDownTeeVectoreftDownVector\
+    eftDownVectorBareftFlooreftRightArroweftRightVectoreftTeeeftTeeArroweftTeeVectoreftTriangleeftTriangleBar\
+    eftTriangleEqualeftUpDownVectoreftUpTeeVectoreftUpVectoreftUpVectorBareftVectoreftVectorBareftarrow\
+    eftrightarrowessEqualGreateressFullEqualessGreateressLessessSlantEqualessTilde";
+
+const UPPER_L_2_LENGTHS: [u8; 32] = [
+    15,
+    8,
+    11,
+    18,
+    10,
+    16,
+    16,
+    13,
+    16,
+    8,
+    13,
+    14,
+    6,
+    11,
+    12,
+    11,
+    14,
+    16,
+    15,
+    14,
+    11,
+    14,
+    9,
+    12,
+    8,
+    13,
+    15,
+    12,
+    10,
+    7,
+    13,
+    8,
+];
+
+const UPPER_L_2_VALUES: [u16; 32] = [
+    0x27E8, // LeftAngleBracket
+    0x2190, // LeftArrow
+    0x21E4, // LeftArrowBar
+    0x21C6, // LeftArrowRightArrow
+    0x2308, // LeftCeiling
+    0x27E6, // LeftDoubleBracket
+    0x2961, // LeftDownTeeVector
+    0x21C3, // LeftDownVector
+    0x2959, // LeftDownVectorBar
+    0x230A, // LeftFloor
+    0x2194, // LeftRightArrow
+    0x294E, // LeftRightVector
+    0x22A3, // LeftTee
+    0x21A4, // LeftTeeArrow
+    0x295A, // LeftTeeVector
+    0x22B2, // LeftTriangle
+    0x29CF, // LeftTriangleBar
+    0x22B4, // LeftTriangleEqual
+    0x2951, // LeftUpDownVector
+    0x2960, // LeftUpTeeVector
+    0x21BF, // LeftUpVector
+    0x2958, // LeftUpVectorBar
+    0x21BC, // LeftVector
+    0x2952, // LeftVectorBar
+    0x21D0, // Leftarrow
+    0x21D4, // Leftrightarrow
+    0x22DA, // LessEqualGreater
+    0x2266, // LessFullEqual
+    0x2276, // LessGreater
+    0x2AA1, // LessLess
+    0x2A7D, // LessSlantEqual
+    0x2272, // LessTilde
+];
+
+// What `L` and `rest` stand for, where `rest` begins with a byte from 65 to 65 hex.
+fn upper_l_2(rest: &[u8]) -> Meaning
+    ensures { λ r. ⌜ meaningBytes r ≡ lookup (seconds (0x65, 0x65) upper-L) (0x4C ∷ now (rest .entry)) ⌝ }
+{
+    names_search::find(
+        rest,
+        &UPPER_L_2_NAMES,
+        &UPPER_L_2_LENGTHS,
+        &UPPER_L_2_VALUES,
+    )
+}
+
+const UPPER_L_3_NAMES: [u8; 142] = *b"\
+    frlleftarrowmidotongLeftArrowongLeftRightArrowongRightArrowongleftarrowongleftrightarrowongrightarrowopf\
+    owerLeftArrowowerRightArrowscrshstrokt";
+
+const UPPER_L_3_LENGTHS: [u8; 17] = [2, 1, 9, 5, 12, 17, 13, 12, 17, 13, 3, 13, 14, 3, 2, 5, 1];
+
+const UPPER_L_3_VALUES: [u16; 17] = [
+    0xE10F, // Lfr
+    0x22D8, // Ll
+    0x21DA, // Lleftarrow
+    0x013F, // Lmidot
+    0x27F5, // LongLeftArrow
+    0x27F7, // LongLeftRightArrow
+    0x27F6, // LongRightArrow
+    0x27F8, // Longleftarrow
+    0x27FA, // Longleftrightarrow
+    0x27F9, // Longrightarrow
+    0xE143, // Lopf
+    0x2199, // LowerLeftArrow
+    0x2198, // LowerRightArrow
+    0x2112, // Lscr
+    0x21B0, // Lsh
+    0x0141, // Lstrok
+    0x226A, // Lt
+];
+
+// What `L` and `rest` stand for, where `rest` begins with a byte from 66 to FF hex.
+fn upper_l_3(rest: &[u8]) -> Meaning
+    ensures { λ r. ⌜ meaningBytes r ≡ lookup (seconds (0x66, 0xFF) upper-L) (0x4C ∷ now (rest .entry)) ⌝ }
+{
+    names_search::find(
+        rest,
+        &UPPER_L_3_NAMES,
+        &UPPER_L_3_LENGTHS,
+        &UPPER_L_3_VALUES,
+    )
+}
+
+// What `L` and `rest` stand for. `second` is the first byte of `rest`, 0 if it has none.
+pub fn upper_l(second: u8, rest: &[u8]) -> Meaning
+    requires { ⌜ (getD (now rest) 0 0 ≡ second) × (second ≤ 255) ⌝ }
+    ensures { λ r. ⌜ meaningBytes r ≡ lookup upper-L (0x4C ∷ now (rest .entry)) ⌝ }
+{
+    if second < b'e' {
+        return upper_l_1(rest);
+    }
+    if second < b'f' {
+        return upper_l_2(rest);
+    }
+    upper_l_3(rest)
+}
+
+const UPPER_M_NAMES: [u8; 39] = *b"\
+    apcyediumSpaceellintrffrinusPlusopfscru";
+
+const UPPER_M_LENGTHS: [u8; 9] = [2, 2, 10, 8, 2, 8, 3, 3, 1];
+
+const UPPER_M_VALUES: [u16; 9] = [
+    0x2905, // Map
+    0x041C, // Mcy
+    0x205F, // MediumSpace
+    0x2133, // Mellintrf
+    0xE110, // Mfr
+    0x2213, // MinusPlus
+    0xE144, // Mopf
+    0x2133, // Mscr
+    0x039C, // Mu
+];
+
+// What `M` and `rest` stand for.
+pub fn upper_m(rest: &[u8]) -> Meaning
+    ensures { λ r. ⌜ meaningBytes r ≡ lookup upper-M (0x4D ∷ now (rest .entry)) ⌝ }
+{
+    names_search::find(rest, &UPPER_M_NAMES, &UPPER_M_LENGTHS, &UPPER_M_VALUES)
+}
+
+const UPPER_N_1_NAMES: [u8; 131] = *b"\
+    JcyacutecaroncedilcyegativeMediumSpaceegativeThickSpaceegativeThinSpaceegativeVeryThinSpaceestedGreaterGreater\
+    estedLessLessewLinefr";
+
+const UPPER_N_1_LENGTHS: [u8; 13] = [3, 5, 5, 5, 2, 18, 17, 16, 20, 19, 13, 6, 2];
+
+const UPPER_N_1_VALUES: [u16; 13] = [
+    0x040A, // NJcy
+    0x0143, // Nacute
+    0x0147, // Ncaron
+    0x0145, // Ncedil
+    0x041D, // Ncy
+    0x200B, // NegativeMediumSpace
+    0x200B, // NegativeThickSpace
+    0x200B, // NegativeThinSpace
+    0x200B, // NegativeVeryThinSpace
+    0x226B, // NestedGreaterGreater
+    0x226A, // NestedLessLess
+    0x000A, // NewLine
+    0xE111, // Nfr
+];
+
+// What `N` and `rest` stand for, where `rest` begins with a byte from 00 to 6E hex.
+fn upper_n_1(rest: &[u8]) -> Meaning
+    ensures { λ r. ⌜ meaningBytes r ≡ lookup (seconds (0x00, 0x6E) upper-N) (0x4E ∷ now (rest .entry)) ⌝ }
+{
+    names_search::find(
+        rest,
+        &UPPER_N_1_NAMES,
+        &UPPER_N_1_LENGTHS,
+        &UPPER_N_1_VALUES,
+    )
+}
+
+const UPPER_N_2_NAMES: [u8; 733] = *b"\
+    oBreakonBreakingSpaceopfototCongruentotCupCapotDoubleVerticalBarotElementotEqualotEqualTildeotExistsotGreater\
+    otGreaterEqualotGreaterFullEqualotGreaterGreaterotGreaterLessotGreaterSlantEqualotGreaterTildeotHumpDownHump\
+    otHumpEqualotLeftTriangleotLeftTriangleBarotLeftTriangleEqualotLessotLessEqualotLessGreaterotLessLess\
+    otLessSlantEqualotLessTildeotNestedGreaterGreaterotNestedLessLessotPrecedesotPrecedesEqualotPrecedesSlantEqual\
+    otReverseElementotRightTriangleotRightTriangleBarotRightTriangleEqualotSquareSubsetotSquareSubsetEqual\
+    otSquareSupersetotSquareSupersetEqualotSubsetotSubsetEqualotSucceedsotSucceedsEqualotSucceedsSlantEqual\
+    otSucceedsTildeotSupersetotSupersetEqualotTildeotTildeEqualotTildeFullEqualotTildeTildeotVerticalBar";
+
+const UPPER_N_2_LENGTHS: [u8; 55] = [
+    6,
+    15,
+    3,
+    2,
+    11,
+    8,
+    19,
+    9,
+    7,
+    12,
+    8,
+    9,
+    14,
+    18,
+    16,
+    13,
+    19,
+    14,
+    14,
+    11,
+    14,
+    17,
+    19,
+    6,
+    11,
+    13,
+    10,
+    16,
+    11,
+    22,
+    16,
+    10,
+    15,
+    20,
+    16,
+    15,
+    18,
+    20,
+    14,
+    19,
+    16,
+    21,
+    8,
+    13,
+    10,
+    15,
+    20,
+    15,
+    10,
+    15,
+    7,
+    12,
+    16,
+    12,
+    13,
+];
+
+const UPPER_N_2_VALUES: [u16; 55] = [
+    0x2060, // NoBreak
+    0x00A0, // NonBreakingSpace
+    0x2115, // Nopf
+    0x2AEC, // Not
+    0x2262, // NotCongruent
+    0x226D, // NotCupCap
+    0x2226, // NotDoubleVerticalBar
+    0x2209, // NotElement
+    0x2260, // NotEqual
+    0xF000, // NotEqualTilde
+    0x2204, // NotExists
+    0x226F, // NotGreater
+    0x2271, // NotGreaterEqual
+    0xF001, // NotGreaterFullEqual
+    0xF002, // NotGreaterGreater
+    0x2279, // NotGreaterLess
+    0xF003, // NotGreaterSlantEqual
+    0x2275, // NotGreaterTilde
+    0xF004, // NotHumpDownHump
+    0xF005, // NotHumpEqual
+    0x22EA, // NotLeftTriangle
+    0xF006, // NotLeftTriangleBar
+    0x22EC, // NotLeftTriangleEqual
+    0x226E, // NotLess
+    0x2270, // NotLessEqual
+    0x2278, // NotLessGreater
+    0xF007, // NotLessLess
+    0xF008, // NotLessSlantEqual
+    0x2274, // NotLessTilde
+    0xF009, // NotNestedGreaterGreater
+    0xF00A, // NotNestedLessLess
+    0x2280, // NotPrecedes
+    0xF00B, // NotPrecedesEqual
+    0x22E0, // NotPrecedesSlantEqual
+    0x220C, // NotReverseElement
+    0x22EB, // NotRightTriangle
+    0xF00C, // NotRightTriangleBar
+    0x22ED, // NotRightTriangleEqual
+    0xF00D, // NotSquareSubset
+    0x22E2, // NotSquareSubsetEqual
+    0xF00E, // NotSquareSuperset
+    0x22E3, // NotSquareSupersetEqual
+    0xF00F, // NotSubset
+    0x2288, // NotSubsetEqual
+    0x2281, // NotSucceeds
+    0xF010, // NotSucceedsEqual
+    0x22E1, // NotSucceedsSlantEqual
+    0xF011, // NotSucceedsTilde
+    0xF012, // NotSuperset
+    0x2289, // NotSupersetEqual
+    0x2241, // NotTilde
+    0x2244, // NotTildeEqual
+    0x2247, // NotTildeFullEqual
+    0x2249, // NotTildeTilde
+    0x2224, // NotVerticalBar
+];
+
+// What `N` and `rest` stand for, where `rest` begins with a byte from 6F to 72 hex.
+fn upper_n_2(rest: &[u8]) -> Meaning
+    ensures { λ r. ⌜ meaningBytes r ≡ lookup (seconds (0x6F, 0x72) upper-N) (0x4E ∷ now (rest .entry)) ⌝ }
+{
+    names_search::find(
+        rest,
+        &UPPER_N_2_NAMES,
+        &UPPER_N_2_LENGTHS,
+        &UPPER_N_2_VALUES,
+    )
+}
+
+const UPPER_N_3_NAMES: [u8; 9] = *b"\
+    scrtildeu";
+
+const UPPER_N_3_LENGTHS: [u8; 3] = [3, 5, 1];
+
+const UPPER_N_3_VALUES: [u16; 3] = [
+    0xE0A9, // Nscr
+    0x00D1, // Ntilde
+    0x039D, // Nu
+];
+
+// What `N` and `rest` stand for, where `rest` begins with a byte from 73 to FF hex.
+fn upper_n_3(rest: &[u8]) -> Meaning
+    ensures { λ r. ⌜ meaningBytes r ≡ lookup (seconds (0x73, 0xFF) upper-N) (0x4E ∷ now (rest .entry)) ⌝ }
+{
+    names_search::find(
+        rest,
+        &UPPER_N_3_NAMES,
+        &UPPER_N_3_LENGTHS,
+        &UPPER_N_3_VALUES,
+    )
+}
+
+// What `N` and `rest` stand for. `second` is the first byte of `rest`, 0 if it has none.
+pub fn upper_n(second: u8, rest: &[u8]) -> Meaning
+    requires { ⌜ (getD (now rest) 0 0 ≡ second) × (second ≤ 255) ⌝ }
+    ensures { λ r. ⌜ meaningBytes r ≡ lookup upper-N (0x4E ∷ now (rest .entry)) ⌝ }
+{
+    if second < b'o' {
+        return upper_n_1(rest);
+    }
+    if second < b's' {
+        return upper_n_2(rest);
+    }
+    upper_n_3(rest)
+}
+
+const UPPER_O_NAMES: [u8; 136] = *b"\
+    EligacutecirccydblacfrgravemacrmegamicronopfpenCurlyDoubleQuotepenCurlyQuoterscrslashtildetimesumlverBar\
+    verBraceverBracketverParenthesis";
+
+const UPPER_O_LENGTHS: [u8; 23] = [
+    4,
+    5,
+    4,
+    2,
+    5,
+    2,
+    5,
+    4,
+    4,
+    6,
+    3,
+    19,
+    13,
+    1,
+    3,
+    5,
+    5,
+    5,
+    3,
+    6,
+    8,
+    10,
+    14,
+];
+
+const UPPER_O_VALUES: [u16; 23] = [
+    0x0152, // OElig
+    0x00D3, // Oacute
+    0x00D4, // Ocirc
+    0x041E, // Ocy
+    0x0150, // Odblac
+    0xE112, // Ofr
+    0x00D2, // Ograve
+    0x014C, // Omacr
+    0x03A9, // Omega
+    0x039F, // Omicron
+    0xE146, // Oopf
+    0x201C, // OpenCurlyDoubleQuote
+    0x2018, // OpenCurlyQuote
+    0x2A54, // Or
+    0xE0AA, // Oscr
+    0x00D8, // Oslash
+    0x00D5, // Otilde
+    0x2A37, // Otimes
+    0x00D6, // Ouml
+    0x203E, // OverBar
+    0x23DE, // OverBrace
+    0x23B4, // OverBracket
+    0x23DC, // OverParenthesis
+];
+
+// What `O` and `rest` stand for.
+pub fn upper_o(rest: &[u8]) -> Meaning
+    ensures { λ r. ⌜ meaningBytes r ≡ lookup upper-O (0x4F ∷ now (rest .entry)) ⌝ }
+{
+    names_search::find(rest, &UPPER_O_NAMES, &UPPER_O_LENGTHS, &UPPER_O_VALUES)
+}
+
+const UPPER_P_NAMES: [u8; 121] = *b"\
+    artialDcyfrhiilusMinusoincareplaneopfrrecedesrecedesEqualrecedesSlantEqualrecedesTilderimeroductroportion\
+    roportionalscrsi";
+
+const UPPER_P_LENGTHS: [u8; 19] = [7, 2, 2, 2, 1, 8, 12, 3, 1, 7, 12, 17, 12, 4, 6, 9, 11, 3, 2];
+
+const UPPER_P_VALUES: [u16; 19] = [
+    0x2202, // PartialD
+    0x041F, // Pcy
+    0xE113, // Pfr
+    0x03A6, // Phi
+    0x03A0, // Pi
+    0x00B1, // PlusMinus
+    0x210C, // Poincareplane
+    0x2119, // Popf
+    0x2ABB, // Pr
+    0x227A, // Precedes
+    0x2AAF, // PrecedesEqual
+    0x227C, // PrecedesSlantEqual
+    0x227E, // PrecedesTilde
+    0x2033, // Prime
+    0x220F, // Product
+    0x2237, // Proportion
+    0x221D, // Proportional
+    0xE0AB, // Pscr
+    0x03A8, // Psi
+];
+
+// What `P` and `rest` stand for.
+pub fn upper_p(rest: &[u8]) -> Meaning
+    ensures { λ r. ⌜ meaningBytes r ≡ lookup upper-P (0x50 ∷ now (rest .entry)) ⌝ }
+{
+    names_search::find(rest, &UPPER_P_NAMES, &UPPER_P_LENGTHS, &UPPER_P_VALUES)
+}
+
+const UPPER_Q_NAMES: [u8; 11] = *b"\
+    UOTfropfscr";
+
+const UPPER_Q_LENGTHS: [u8; 4] = [3, 2, 3, 3];
+
+const UPPER_Q_VALUES: [u16; 4] = [
+    0x0022, // QUOT
+    0xE114, // Qfr
+    0x211A, // Qopf
+    0xE0AC, // Qscr
+];
+
+// What `Q` and `rest` stand for.
+pub fn upper_q(rest: &[u8]) -> Meaning
+    ensures { λ r. ⌜ meaningBytes r ≡ lookup upper-Q (0x51 ∷ now (rest .entry)) ⌝ }
+{
+    names_search::find(rest, &UPPER_Q_NAMES, &UPPER_Q_LENGTHS, &UPPER_Q_VALUES)
+}
+
+const UPPER_R_1_NAMES: [u8; 88] = *b"\
+    BarrEGacuteangarrarrtlcaroncedilcyeeverseElementeverseEquilibriumeverseUpEquilibriumfrho";
+
+const UPPER_R_1_LENGTHS: [u8; 15] = [4, 2, 5, 3, 3, 5, 5, 5, 2, 1, 13, 17, 19, 2, 2];
+
+const UPPER_R_1_VALUES: [u16; 15] = [
+    0x2910, // RBarr
+    0x00AE, // REG
+    0x0154, // Racute
+    0x27EB, // Rang
+    0x21A0, // Rarr
+    0x2916, // Rarrtl
+    0x0158, // Rcaron
+    0x0156, // Rcedil
+    0x0420, // Rcy
+    0x211C, // Re
+    0x220B, // ReverseElement
+    0x21CB, // ReverseEquilibrium
+    0x296F, // ReverseUpEquilibrium
+    0x211C, // Rfr
+    0x03A1, // Rho
+];
+
+// What `R` and `rest` stand for, where `rest` begins with a byte from 00 to 68 hex.
+fn upper_r_1(rest: &[u8]) -> Meaning
+    ensures { λ r. ⌜ meaningBytes r ≡ lookup (seconds (0x00, 0x68) upper-R) (0x52 ∷ now (rest .entry)) ⌝ }
+{
+    names_search::find(
+        rest,
+        &UPPER_R_1_NAMES,
+        &UPPER_R_1_LENGTHS,
+        &UPPER_R_1_VALUES,
+    )
+}
+
+const UPPER_R_2_NAMES: [u8; 345] = *b"\
+    ightAngleBracketightArrowightArrowBarightArrowLeftArrowightCeilingightDoubleBracketightDownTeeVector\
+    ightDownVectorightDownVectorBarightFloorightTeeightTeeArrowightTeeVectorightTriangleightTriangleBar\
+    ightTriangleEqualightUpDownVectorightUpTeeVectorightUpVectorightUpVectorBarightVectorightVectorBarightarrowopf\
+    oundImpliesrightarrowscrshuleDelayed";
+
+const UPPER_R_2_LENGTHS: [u8; 29] = [
+    16,
+    9,
+    12,
+    18,
+    11,
+    17,
+    17,
+    14,
+    17,
+    9,
+    7,
+    12,
+    13,
+    12,
+    15,
+    17,
+    16,
+    15,
+    12,
+    15,
+    10,
+    13,
+    9,
+    3,
+    11,
+    10,
+    3,
+    2,
+    10,
+];
+
+const UPPER_R_2_VALUES: [u16; 29] = [
+    0x27E9, // RightAngleBracket
+    0x2192, // RightArrow
+    0x21E5, // RightArrowBar
+    0x21C4, // RightArrowLeftArrow
+    0x2309, // RightCeiling
+    0x27E7, // RightDoubleBracket
+    0x295D, // RightDownTeeVector
+    0x21C2, // RightDownVector
+    0x2955, // RightDownVectorBar
+    0x230B, // RightFloor
+    0x22A2, // RightTee
+    0x21A6, // RightTeeArrow
+    0x295B, // RightTeeVector
+    0x22B3, // RightTriangle
+    0x29D0, // RightTriangleBar
+    0x22B5, // RightTriangleEqual
+    0x294F, // RightUpDownVector
+    0x295C, // RightUpTeeVector
+    0x21BE, // RightUpVector
+    0x2954, // RightUpVectorBar
+    0x21C0, // RightVector
+    0x2953, // RightVectorBar
+    0x21D2, // Rightarrow
+    0x211D, // Ropf
+    0x2970, // RoundImplies
+    0x21DB, // Rrightarrow
+    0x211B, // Rscr
+    0x21B1, // Rsh
+    0x29F4, // RuleDelayed
+];
+
+// What `R` and `rest` stand for, where `rest` begins with a byte from 69 to FF hex.
+fn upper_r_2(rest: &[u8]) -> Meaning
+    ensures { λ r. ⌜ meaningBytes r ≡ lookup (seconds (0x69, 0xFF) upper-R) (0x52 ∷ now (rest .entry)) ⌝ }
+{
+    names_search::find(
+        rest,
+        &UPPER_R_2_NAMES,
+        &UPPER_R_2_LENGTHS,
+        &UPPER_R_2_VALUES,
+    )
+}
+
+// What `R` and `rest` stand for. `second` is the first byte of `rest`, 0 if it has none.
+pub fn upper_r(second: u8, rest: &[u8]) -> Meaning
+    requires { ⌜ (getD (now rest) 0 0 ≡ second) × (second ≤ 255) ⌝ }
+    ensures { λ r. ⌜ meaningBytes r ≡ lookup upper-R (0x52 ∷ now (rest .entry)) ⌝ }
+{
+    if second < b'i' {
+        return upper_r_1(rest);
+    }
+    upper_r_2(rest)
+}
+
+const UPPER_S_1_NAMES: [u8; 204] = *b"\
+    HCHcyHcyOFTcyacuteccaroncedilcirccyfrhortDownArrowhortLeftArrowhortRightArrowhortUpArrowigmamallCircleopfqrt\
+    quarequareIntersectionquareSubsetquareSubsetEqualquareSupersetquareSupersetEqualquareUnionscrtar";
+
+const UPPER_S_1_LENGTHS: [u8; 27] = [
+    5,
+    3,
+    5,
+    5,
+    1,
+    5,
+    5,
+    4,
+    2,
+    2,
+    13,
+    13,
+    14,
+    11,
+    4,
+    10,
+    3,
+    3,
+    5,
+    17,
+    11,
+    16,
+    13,
+    18,
+    10,
+    3,
+    3,
+];
+
+const UPPER_S_1_VALUES: [u16; 27] = [
+    0x0429, // SHCHcy
+    0x0428, // SHcy
+    0x042C, // SOFTcy
+    0x015A, // Sacute
+    0x2ABC, // Sc
+    0x0160, // Scaron
+    0x015E, // Scedil
+    0x015C, // Scirc
+    0x0421, // Scy
+    0xE116, // Sfr
+    0x2193, // ShortDownArrow
+    0x2190, // ShortLeftArrow
+    0x2192, // ShortRightArrow
+    0x2191, // ShortUpArrow
+    0x03A3, // Sigma
+    0x2218, // SmallCircle
+    0xE14A, // Sopf
+    0x221A, // Sqrt
+    0x25A1, // Square
+    0x2293, // SquareIntersection
+    0x228F, // SquareSubset
+    0x2291, // SquareSubsetEqual
+    0x2290, // SquareSuperset
+    0x2292, // SquareSupersetEqual
+    0x2294, // SquareUnion
+    0xE0AE, // Sscr
+    0x22C6, // Star
+];
+
+// What `S` and `rest` stand for, where `rest` begins with a byte from 00 to 74 hex.
+fn upper_s_1(rest: &[u8]) -> Meaning
+    ensures { λ r. ⌜ meaningBytes r ≡ lookup (seconds (0x00, 0x74) upper-S) (0x53 ∷ now (rest .entry)) ⌝ }
+{
+    names_search::find(
+        rest,
+        &UPPER_S_1_NAMES,
+        &UPPER_S_1_LENGTHS,
+        &UPPER_S_1_VALUES,
+    )
+}
+
+const UPPER_S_2_NAMES: [u8; 100] = *b"\
+    ububsetubsetEqualucceedsucceedsEqualucceedsSlantEqualucceedsTildeuchThatumupupersetupersetEqualupset";
+
+const UPPER_S_2_LENGTHS: [u8; 13] = [2, 5, 10, 7, 12, 17, 12, 7, 2, 2, 7, 12, 5];
+
+const UPPER_S_2_VALUES: [u16; 13] = [
+    0x22D0, // Sub
+    0x22D0, // Subset
+    0x2286, // SubsetEqual
+    0x227B, // Succeeds
+    0x2AB0, // SucceedsEqual
+    0x227D, // SucceedsSlantEqual
+    0x227F, // SucceedsTilde
+    0x220B, // SuchThat
+    0x2211, // Sum
+    0x22D1, // Sup
+    0x2283, // Superset
+    0x2287, // SupersetEqual
+    0x22D1, // Supset
+];
+
+// What `S` and `rest` stand for, where `rest` begins with a byte from 75 to FF hex.
+fn upper_s_2(rest: &[u8]) -> Meaning
+    ensures { λ r. ⌜ meaningBytes r ≡ lookup (seconds (0x75, 0xFF) upper-S) (0x53 ∷ now (rest .entry)) ⌝ }
+{
+    names_search::find(
+        rest,
+        &UPPER_S_2_NAMES,
+        &UPPER_S_2_LENGTHS,
+        &UPPER_S_2_VALUES,
+    )
+}
+
+// What `S` and `rest` stand for. `second` is the first byte of `rest`, 0 if it has none.
+pub fn upper_s(second: u8, rest: &[u8]) -> Meaning
+    requires { ⌜ (getD (now rest) 0 0 ≡ second) × (second ≤ 255) ⌝ }
+    ensures { λ r. ⌜ meaningBytes r ≡ lookup upper-S (0x53 ∷ now (rest .entry)) ⌝ }
+{
+    if second < b'u' {
+        return upper_s_1(rest);
+    }
+    upper_s_2(rest)
+}
+
+const UPPER_T_NAMES: [u8; 116] = *b"\
+    HORNRADESHcyScyabaucaroncedilcyfrhereforehetahickSpacehinSpaceildeildeEqualildeFullEqualildeTildeopfripleDot\
+    scrstrok";
+
+const UPPER_T_LENGTHS: [u8; 22] = [
+    4,
+    4,
+    4,
+    3,
+    2,
+    2,
+    5,
+    5,
+    2,
+    2,
+    8,
+    4,
+    9,
+    8,
+    4,
+    9,
+    13,
+    9,
+    3,
+    8,
+    3,
+    5,
+];
+
+const UPPER_T_VALUES: [u16; 22] = [
+    0x00DE, // THORN
+    0x2122, // TRADE
+    0x040B, // TSHcy
+    0x0426, // TScy
+    0x0009, // Tab
+    0x03A4, // Tau
+    0x0164, // Tcaron
+    0x0162, // Tcedil
+    0x0422, // Tcy
+    0xE117, // Tfr
+    0x2234, // Therefore
+    0x0398, // Theta
+    0xF013, // ThickSpace
+    0x2009, // ThinSpace
+    0x223C, // Tilde
+    0x2243, // TildeEqual
+    0x2245, // TildeFullEqual
+    0x2248, // TildeTilde
+    0xE14B, // Topf
+    0x20DB, // TripleDot
+    0xE0AF, // Tscr
+    0x0166, // Tstrok
+];
+
+// What `T` and `rest` stand for.
+pub fn upper_t(rest: &[u8]) -> Meaning
+    ensures { λ r. ⌜ meaningBytes r ≡ lookup upper-T (0x54 ∷ now (rest .entry)) ⌝ }
+{
+    names_search::find(rest, &UPPER_T_NAMES, &UPPER_T_LENGTHS, &UPPER_T_VALUES)
+}
+
+const UPPER_U_1_NAMES: [u8; 224] = *b"\
+    acutearrarrocirbrcybrevecirccydblacfrgravemacrnderBarnderBracenderBracketnderParenthesisnionnionPlusogonopf\
+    pArrowpArrowBarpArrowDownArrowpDownArrowpEquilibriumpTeepTeeArrowparrowpdownarrowpperLeftArrowpperRightArrow\
+    psipsilon";
+
+const UPPER_U_1_LENGTHS: [u8; 32] = [
+    5,
+    3,
+    7,
+    4,
+    5,
+    4,
+    2,
+    5,
+    2,
+    5,
+    4,
+    7,
+    9,
+    11,
+    15,
+    4,
+    8,
+    4,
+    3,
+    6,
+    9,
+    15,
+    10,
+    12,
+    4,
+    9,
+    6,
+    10,
+    13,
+    14,
+    3,
+    6,
+];
+
+const UPPER_U_1_VALUES: [u16; 32] = [
+    0x00DA, // Uacute
+    0x219F, // Uarr
+    0x2949, // Uarrocir
+    0x040E, // Ubrcy
+    0x016C, // Ubreve
+    0x00DB, // Ucirc
+    0x0423, // Ucy
+    0x0170, // Udblac
+    0xE118, // Ufr
+    0x00D9, // Ugrave
+    0x016A, // Umacr
+    0x005F, // UnderBar
+    0x23DF, // UnderBrace
+    0x23B5, // UnderBracket
+    0x23DD, // UnderParenthesis
+    0x22C3, // Union
+    0x228E, // UnionPlus
+    0x0172, // Uogon
+    0xE14C, // Uopf
+    0x2191, // UpArrow
+    0x2912, // UpArrowBar
+    0x21C5, // UpArrowDownArrow
+    0x2195, // UpDownArrow
+    0x296E, // UpEquilibrium
+    0x22A5, // UpTee
+    0x21A5, // UpTeeArrow
+    0x21D1, // Uparrow
+    0x21D5, // Updownarrow
+    0x2196, // UpperLeftArrow
+    0x2197, // UpperRightArrow
+    0x03D2, // Upsi
+    0x03A5, // Upsilon
+];
+
+// What `U` and `rest` stand for, where `rest` begins with a byte from 00 to 71 hex.
+fn upper_u_1(rest: &[u8]) -> Meaning
+    ensures { λ r. ⌜ meaningBytes r ≡ lookup (seconds (0x00, 0x71) upper-U) (0x55 ∷ now (rest .entry)) ⌝ }
+{
+    names_search::find(
+        rest,
+        &UPPER_U_1_NAMES,
+        &UPPER_U_1_LENGTHS,
+        &UPPER_U_1_VALUES,
+    )
+}
+
+const UPPER_U_2_NAMES: [u8; 15] = *b"\
+    ringscrtildeuml";
+
+const UPPER_U_2_LENGTHS: [u8; 4] = [4, 3, 5, 3];
+
+const UPPER_U_2_VALUES: [u16; 4] = [
+    0x016E, // Uring
+    0xE0B0, // Uscr
+    0x0168, // Utilde
+    0x00DC, // Uuml
+];
+
+// What `U` and `rest` stand for, where `rest` begins with a byte from 72 to FF hex.
+fn upper_u_2(rest: &[u8]) -> Meaning
+    ensures { λ r. ⌜ meaningBytes r ≡ lookup (seconds (0x72, 0xFF) upper-U) (0x55 ∷ now (rest .entry)) ⌝ }
+{
+    names_search::find(
+        rest,
+        &UPPER_U_2_NAMES,
+        &UPPER_U_2_LENGTHS,
+        &UPPER_U_2_VALUES,
+    )
+}
+
+// What `U` and `rest` stand for. `second` is the first byte of `rest`, 0 if it has none.
+pub fn upper_u(second: u8, rest: &[u8]) -> Meaning
+    requires { ⌜ (getD (now rest) 0 0 ≡ second) × (second ≤ 255) ⌝ }
+    ensures { λ r. ⌜ meaningBytes r ≡ lookup upper-U (0x55 ∷ now (rest .entry)) ⌝ }
+{
+    if second < b'r' {
+        return upper_u_1(rest);
+    }
+    upper_u_2(rest)
+}
+
+const UPPER_V_NAMES: [u8; 102] = *b"\
+    DashbarcydashdashleeerbarerterticalBarerticalLineerticalSeparatorerticalTildeeryThinSpacefropfscrvdash";
+
+const UPPER_V_LENGTHS: [u8; 17] = [4, 3, 2, 4, 5, 2, 5, 3, 10, 11, 16, 12, 12, 2, 3, 3, 5];
+
+const UPPER_V_VALUES: [u16; 17] = [
+    0x22AB, // VDash
+    0x2AEB, // Vbar
+    0x0412, // Vcy
+    0x22A9, // Vdash
+    0x2AE6, // Vdashl
+    0x22C1, // Vee
+    0x2016, // Verbar
+    0x2016, // Vert
+    0x2223, // VerticalBar
+    0x007C, // VerticalLine
+    0x2758, // VerticalSeparator
+    0x2240, // VerticalTilde
+    0x200A, // VeryThinSpace
+    0xE119, // Vfr
+    0xE14D, // Vopf
+    0xE0B1, // Vscr
+    0x22AA, // Vvdash
+];
+
+// What `V` and `rest` stand for.
+pub fn upper_v(rest: &[u8]) -> Meaning
+    ensures { λ r. ⌜ meaningBytes r ≡ lookup upper-V (0x56 ∷ now (rest .entry)) ⌝ }
+{
+    names_search::find(rest, &UPPER_V_NAMES, &UPPER_V_LENGTHS, &UPPER_V_VALUES)
+}
+
+const UPPER_W_NAMES: [u8; 16] = *b"\
+    circedgefropfscr";
+
+const UPPER_W_LENGTHS: [u8; 5] = [4, 4, 2, 3, 3];
+
+const UPPER_W_VALUES: [u16; 5] = [
+    0x0174, // Wcirc
+    0x22C0, // Wedge
+    0xE11A, // Wfr
+    0xE14E, // Wopf
+    0xE0B2, // Wscr
+];
+
+// What `W` and `rest` stand for.
+pub fn upper_w(rest: &[u8]) -> Meaning
+    ensures { λ r. ⌜ meaningBytes r ≡ lookup upper-W (0x57 ∷ now (rest .entry)) ⌝ }
+{
+    names_search::find(rest, &UPPER_W_NAMES, &UPPER_W_LENGTHS, &UPPER_W_VALUES)
+}
+
+const UPPER_X_NAMES: [u8; 9] = *b"\
+    friopfscr";
+
+const UPPER_X_LENGTHS: [u8; 4] = [2, 1, 3, 3];
+
+const UPPER_X_VALUES: [u16; 4] = [
+    0xE11B, // Xfr
+    0x039E, // Xi
+    0xE14F, // Xopf
+    0xE0B3, // Xscr
+];
+
+// What `X` and `rest` stand for.
+pub fn upper_x(rest: &[u8]) -> Meaning
+    ensures { λ r. ⌜ meaningBytes r ≡ lookup upper-X (0x58 ∷ now (rest .entry)) ⌝ }
+{
+    names_search::find(rest, &UPPER_X_NAMES, &UPPER_X_LENGTHS, &UPPER_X_VALUES)
+}
+
+const UPPER_Y_NAMES: [u8; 31] = *b"\
+    AcyIcyUcyacutecirccyfropfscruml";
+
+const UPPER_Y_LENGTHS: [u8; 10] = [3, 3, 3, 5, 4, 2, 2, 3, 3, 3];
+
+const UPPER_Y_VALUES: [u16; 10] = [
+    0x042F, // YAcy
+    0x0407, // YIcy
+    0x042E, // YUcy
+    0x00DD, // Yacute
+    0x0176, // Ycirc
+    0x042B, // Ycy
+    0xE11C, // Yfr
+    0xE150, // Yopf
+    0xE0B4, // Yscr
+    0x0178, // Yuml
+];
+
+// What `Y` and `rest` stand for.
+pub fn upper_y(rest: &[u8]) -> Meaning
+    ensures { λ r. ⌜ meaningBytes r ≡ lookup upper-Y (0x59 ∷ now (rest .entry)) ⌝ }
+{
+    names_search::find(rest, &UPPER_Y_NAMES, &UPPER_Y_LENGTHS, &UPPER_Y_VALUES)
+}
+
+const UPPER_Z_NAMES: [u8; 42] = *b"\
+    HcyacutecaroncydoteroWidthSpaceetafropfscr";
+
+const UPPER_Z_LENGTHS: [u8; 10] = [3, 5, 5, 2, 3, 13, 3, 2, 3, 3];
+
+const UPPER_Z_VALUES: [u16; 10] = [
+    0x0416, // ZHcy
+    0x0179, // Zacute
+    0x017D, // Zcaron
+    0x0417, // Zcy
+    0x017B, // Zdot
+    0x200B, // ZeroWidthSpace
+    0x0396, // Zeta
+    0x2128, // Zfr
+    0x2124, // Zopf
+    0xE0B5, // Zscr
+];
+
+// What `Z` and `rest` stand for.
+pub fn upper_z(rest: &[u8]) -> Meaning
+    ensures { λ r. ⌜ meaningBytes r ≡ lookup upper-Z (0x5A ∷ now (rest .entry)) ⌝ }
+{
+    names_search::find(rest, &UPPER_Z_NAMES, &UPPER_Z_LENGTHS, &UPPER_Z_VALUES)
 }

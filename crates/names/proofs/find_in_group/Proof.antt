@@ -1,52 +1,56 @@
--- `names::find_in_group` meets its contract: a name that begins with a letter is looked up by that letter, and no other name is in the table.
+-- `names::find_in_group` meets its contract: a name that is not empty is its first letter and the rest.
 -- Assumes nothing.
-use native.Mathlib.Omega.{arith}
+use mathlib.Core.Path.{_∙_}
 use borrow.Author.Needs.{needs}
-use Rattle.names.proofs.Letters.{in-none, none-below, none-between, none-above}
+use Rattle.names.proofs.Letters.{unnamed, spelled}
 use Rattle.names.proofs.find_in_group.Statement.{statement}
 use Rattle.names.proofs.find_in_group.Tie as tie
+
+returns : tie.Need-returns
+returns c = unnamed (c .before .before .args .name .now) (search needs)
+
+sub-first-byte : tie.Need-sub-first-byte
+sub-first-byte c = search needs
+
+part-first-byte-start : tie.Need-part-first-byte-start
+part-first-byte-start c = search needs
+
+part-first-byte-end : tie.Need-part-first-byte-end
+part-first-byte-end c = search needs
 
 first-byte-requires : tie.Need-first-byte-requires
 first-byte-requires c κs = search needs
 
-find-upper-requires : tie.Need-find-upper-requires
-find-upper-requires c κs = search needs
+shared-slice-read-find-by-letter : tie.Need-shared-slice-read-find-by-letter
+shared-slice-read-find-by-letter c = search needs
 
-find-a-to-l-requires : tie.Need-find-a-to-l-requires
-find-a-to-l-requires c κs = search needs
+sub-find-by-letter : tie.Need-sub-find-by-letter
+sub-find-by-letter c = search needs
 
-find-m-to-z-requires : tie.Need-find-m-to-z-requires
-find-m-to-z-requires c κs = search needs
+part-find-by-letter-start : tie.Need-part-find-by-letter-start
+part-find-by-letter-start c = search needs
 
-returns : tie.Need-returns
-returns c = in-none 0x00 0x40 (c .before .before .before .args .name .now) (omega arith) (omega arith) none-below
+part-find-by-letter-end : tie.Need-part-find-by-letter-end
+part-find-by-letter-end c = search needs
+
+find-by-letter-requires : tie.Need-find-by-letter-requires
+find-by-letter-requires c κs = search needs
 
 returns-2 : tie.Need-returns-2
-returns-2 c = search needs
-
-returns-3 : tie.Need-returns-3
-returns-3 c = in-none 0x5B 0x60 (c .before .before .before .before .before .args .name .now) (omega arith) (omega arith) none-between
-
-returns-4 : tie.Need-returns-4
-returns-4 c = search needs
-
-returns-5 : tie.Need-returns-5
-returns-5 c = search needs
-
-returns-6 : tie.Need-returns-6
-returns-6 c = in-none 0x7B 0xFF (c .before .before .before .before .before .before .before .args .name .now) (omega arith) (omega arith) none-above
+returns-2 c = c .find-by-letter .ensures ∙ spelled (c .before .before .before .before .before .before .before .args .name .now) (search needs)
 
 pub find-in-group-spec : {M : Type 1} → statement M
 find-in-group-spec =
     tie.close
     (tie.spec
-    first-byte-requires
-    find-upper-requires
-    find-a-to-l-requires
-    find-m-to-z-requires
     returns
-    returns-2
-    returns-3
-    returns-4
-    returns-5
-    returns-6)
+    sub-first-byte
+    part-first-byte-start
+    part-first-byte-end
+    first-byte-requires
+    shared-slice-read-find-by-letter
+    sub-find-by-letter
+    part-find-by-letter-start
+    part-find-by-letter-end
+    find-by-letter-requires
+    returns-2)

@@ -1,93 +1,69 @@
--- `names_search::find` meets its contract: the row of the name, if there is one, lies from `low` to `high`.
+-- `names_search::find` meets its contract: the rows that the loop has passed are not the name's.
 -- Assumes nothing.
-use mathlib.Core.Path.{sym}
-use Prim.Native.Nat.{_+_, _-_}
+use mathlib.Core.Path.{sym, _∙_, ap}
+use mathlib.Core.Option.{some}
+use Prim.Native.Nat.{_-_}
 use native.Mathlib.Omega.{arith}
+use lib.ListN.{length}
 use borrow.Author.Needs.{needs}
-use Rattle.names_search.proofs.Halving.{Halved, halved-start, halved-up, halved-down, halved-same, halved-end, cut-forward, cut-within}
+use Rattle.names_search.proofs.Scanning.{Scanned, scanned-start, scanned-end, scanned-room, scanned-found, scanned-next}
 use Rattle.names_search.proofs.find.Statement.{statement}
 use Rattle.names_search.proofs.find.Tie as tie
 
 abbrev Inv-loop : tie.InvT-loop
-Inv-loop name bytes offsets values low₀ high₀ low high = Halved name bytes offsets values low high
+Inv-loop name bytes lengths values k₀ start₀ k start = Scanned name bytes lengths values k start
 
 abbrev μ-loop : tie.MeasureT-loop
-μ-loop name bytes offsets values low₀ high₀ low high = high - low
+μ-loop name bytes lengths values k₀ start₀ k start = length values - k
 
 loop-holds : tie.Need-loop-holds Inv-loop μ-loop
-loop-holds c = let a = c .before .before .before .before .args in halved-start (a .name .now) (a .bytes .now) (a .offsets .now) (a .values .now) (c .before .before .before .before .pre)
+loop-holds c = let a = c .before .before .before .before .args in scanned-start (a .name .now) (a .bytes .now) (a .lengths .now) (a .values .now) (c .before .before .before .before .pre)
 
-middle-requires : tie.Need-middle-requires Inv-loop μ-loop
-middle-requires c κs = search needs
+shared-slice-read-end : tie.Need-shared-slice-read-end Inv-loop μ-loop
+shared-slice-read-end c = search needs
 
-mul-a : tie.Need-mul-a Inv-loop μ-loop
-mul-a c = search needs
+cast-end : tie.Need-cast-end Inv-loop μ-loop
+cast-end c = omega (arith, c .shared-slice-known5 .given (c .before .before .loop .k))
 
-shared-slice-read-a : tie.Need-shared-slice-read-a Inv-loop μ-loop
-shared-slice-read-a c = search needs
+add-end : tie.Need-add-end Inv-loop μ-loop
+add-end c = let h = scanned-room (c .before .before .loop .inv) (search needs) in search needs
 
-cast-a : tie.Need-cast-a Inv-loop μ-loop
-cast-a c = omega (arith, c .shared-slice-known5 .given (c .before .middle .result))
+sub-same : tie.Need-sub-same Inv-loop μ-loop
+sub-same c = search needs
 
-add-e : tie.Need-add-e Inv-loop μ-loop
-add-e c = search needs
+part-same-start : tie.Need-part-same-start Inv-loop μ-loop
+part-same-start c = search needs
 
-mul-e : tie.Need-mul-e Inv-loop μ-loop
-mul-e c = search needs
+part-same-end : tie.Need-part-same-end Inv-loop μ-loop
+part-same-end c = scanned-room (c .before .before .loop .inv) (search needs)
 
-shared-slice-read-e : tie.Need-shared-slice-read-e Inv-loop μ-loop
-shared-slice-read-e c = search needs
+same-requires : tie.Need-same-requires Inv-loop μ-loop
+same-requires c κs = search needs
 
-cast-e : tie.Need-cast-e Inv-loop μ-loop
-cast-e c = omega (arith, c .shared-slice-known6 .given (c .before .before .middle .result + 1))
+mul-value-of : tie.Need-mul-value-of Inv-loop μ-loop
+mul-value-of c = search needs
 
-sub-compare : tie.Need-sub-compare Inv-loop μ-loop
-sub-compare c = cut-forward (c .before .before .before .before .loop .inv) (c .before .before .middle .result) (search needs) (search needs)
+shared-slice-read-value-of : tie.Need-shared-slice-read-value-of Inv-loop μ-loop
+shared-slice-read-value-of c = search needs
 
-part-compare-start : tie.Need-part-compare-start Inv-loop μ-loop
-part-compare-start c = cut-forward (c .before .before .before .before .loop .inv) (c .before .before .middle .result) (search needs) (search needs)
+value-of-requires : tie.Need-value-of-requires Inv-loop μ-loop
+value-of-requires c κs = search needs
 
-part-compare-end : tie.Need-part-compare-end Inv-loop μ-loop
-part-compare-end c = cut-within (c .before .before .before .before .loop .inv) (c .before .before .middle .result) (search needs) (search needs)
+returns : tie.Need-returns Inv-loop μ-loop
+returns c =
+    λ b. ap some (c .value-of .ensures) ∙ scanned-found (c .before .before .before .before .before .before .before .loop .inv) (search needs) (sym (c .before .before .before .same .ensures) ∙ c .before .before .if1 .taken) b
 
-compare-requires : tie.Need-compare-requires Inv-loop μ-loop
-compare-requires c κs = search needs
-
-enum-told : tie.Need-enum-told Inv-loop μ-loop
-enum-told c = search needs
-
-add-low : tie.Need-add-low Inv-loop μ-loop
-add-low c = search needs
+add-k : tie.Need-add-k Inv-loop μ-loop
+add-k c = search needs
 
 loop-less : tie.Need-loop-less Inv-loop μ-loop
 loop-less c = search needs
 
 loop-again : tie.Need-loop-again Inv-loop μ-loop
-loop-again c = halved-up (c .before .before .before .before .before .before .before .before .loop .inv) (c .before .before .before .before .before .before .middle .result) (search needs) (search needs) (rw (c .enum-told .given .1) at (c .before .before .compare .ensures))
-
-enum-told-2 : tie.Need-enum-told-2 Inv-loop μ-loop
-enum-told-2 c = search needs
-
-loop-less-2 : tie.Need-loop-less-2 Inv-loop μ-loop
-loop-less-2 c = search needs
-
-loop-again-2 : tie.Need-loop-again-2 Inv-loop μ-loop
-loop-again-2 c = halved-down (c .before .before .before .before .before .before .before .before .loop .inv) (c .before .before .before .before .before .before .middle .result) (search needs) (search needs) (rw (c .enum-told2 .given .1) at (c .before .before .compare .ensures))
-
-enum-told-3 : tie.Need-enum-told-3 Inv-loop μ-loop
-enum-told-3 c = search needs
-
-mul-t20 : tie.Need-mul-t20 Inv-loop μ-loop
-mul-t20 c = search needs
-
-shared-slice-read-t22 : tie.Need-shared-slice-read-t22 Inv-loop μ-loop
-shared-slice-read-t22 c = search needs
-
-returns : tie.Need-returns Inv-loop μ-loop
-returns c = sym (halved-same (c .before .before .before .before .before .before .before .before .before .loop .inv) (c .before .before .before .before .before .before .before .middle .result) (search needs) (search needs) (rw (c .before .enum-told3 .given .1) at (c .before .before .before .compare .ensures)))
+loop-again c = scanned-next (c .before .before .before .before .before .loop .inv) (search needs) (sym (c .before .same .ensures) ∙ c .if1 .left)
 
 returns-2 : tie.Need-returns-2 Inv-loop μ-loop
-returns-2 c = sym (halved-end (c .before .loop .inv) (search needs))
+returns-2 c = scanned-end (c .before .loop .inv) (search needs)
 
 pub find-spec : {M : Type 1} → statement M
 find-spec =
@@ -96,27 +72,18 @@ find-spec =
     Inv-loop
     μ-loop
     loop-holds
-    middle-requires
-    mul-a
-    shared-slice-read-a
-    cast-a
-    add-e
-    mul-e
-    shared-slice-read-e
-    cast-e
-    sub-compare
-    part-compare-start
-    part-compare-end
-    compare-requires
-    enum-told
-    add-low
+    shared-slice-read-end
+    cast-end
+    add-end
+    sub-same
+    part-same-start
+    part-same-end
+    same-requires
+    mul-value-of
+    shared-slice-read-value-of
+    value-of-requires
+    returns
+    add-k
     loop-less
     loop-again
-    enum-told-2
-    loop-less-2
-    loop-again-2
-    enum-told-3
-    mul-t20
-    shared-slice-read-t22
-    returns
     returns-2)

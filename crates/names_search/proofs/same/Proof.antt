@@ -1,33 +1,57 @@
--- `names_search::same` meets its contract: names are the same where neither comes before the other.
+-- `names_search::same` meets its contract: the two names are as long as each other, and the same up to the place that the loop has reached.
 -- Assumes nothing.
+use Prim.Native.Nat.{_-_}
+use lib.ListN.{length}
 use borrow.Author.Needs.{needs}
-use Rattle.names_search.specs.declared.Order.the-variants.{Before, Same, After}
-use Rattle.names_search.proofs.Orders.{ordered-same}
+use Rattle.names_search.proofs.Scanning.{Alike, longer-differs, alike-start, alike-end, alike-differs, alike-next}
 use Rattle.names_search.proofs.same.Statement.{statement}
 use Rattle.names_search.proofs.same.Tie as tie
 
-compare-requires : tie.Need-compare-requires
-compare-requires c κs = search needs
+abbrev Inv-loop : tie.InvT-loop
+Inv-loop a b i₀ i = Alike a b i
 
-enum-told : tie.Need-enum-told
-enum-told c = search needs
+abbrev μ-loop : tie.MeasureT-loop
+μ-loop a b i₀ i = length a - i
 
-enum-told-2 : tie.Need-enum-told-2
-enum-told-2 c = search needs
+returns : tie.Need-returns Inv-loop μ-loop
+returns c = let a = c .before .args in longer-differs (a .a .now) (a .b .now) (c .if1 .taken)
 
-enum-told-3 : tie.Need-enum-told-3
-enum-told-3 c = search needs
+loop-holds : tie.Need-loop-holds Inv-loop μ-loop
+loop-holds c = alike-start _ _ (search needs)
 
-returns : tie.Need-returns
-returns c = let a = c .before .before .before .before .before .args in ordered-same Before (a .a .now) (a .b .now) (rw (c .enum-told .given .1) at (c .before .before .compare .ensures))
+shared-slice-read-if2 : tie.Need-shared-slice-read-if2 Inv-loop μ-loop
+shared-slice-read-if2 c = search needs
 
-returns-2 : tie.Need-returns-2
-returns-2 c = let a = c .before .before .before .before .before .args in ordered-same Same (a .a .now) (a .b .now) (rw (c .enum-told2 .given .1) at (c .before .before .compare .ensures))
+shared-slice-read-if2-2 : tie.Need-shared-slice-read-if2-2 Inv-loop μ-loop
+shared-slice-read-if2-2 c = search needs
 
-returns-3 : tie.Need-returns-3
-returns-3 c = let a = c .before .before .before .before .before .args in ordered-same After (a .a .now) (a .b .now) (rw (c .enum-told3 .given .1) at (c .before .before .compare .ensures))
+returns-2 : tie.Need-returns-2 Inv-loop μ-loop
+returns-2 c = alike-differs (c .before .before .before .before .loop .inv) (search needs) (c .if2 .taken)
+
+add-i : tie.Need-add-i Inv-loop μ-loop
+add-i c = search needs
+
+loop-less : tie.Need-loop-less Inv-loop μ-loop
+loop-less c = search needs
+
+loop-again : tie.Need-loop-again Inv-loop μ-loop
+loop-again c = alike-next (c .before .before .before .before .loop .inv) (search needs) (search needs)
+
+returns-3 : tie.Need-returns-3 Inv-loop μ-loop
+returns-3 c = alike-end (c .before .loop .inv) (search needs)
 
 pub same-spec : {M : Type 1} → statement M
 same-spec =
     tie.close
-    (tie.spec compare-requires enum-told enum-told-2 enum-told-3 returns returns-2 returns-3)
+    (tie.spec
+    Inv-loop
+    μ-loop
+    returns
+    loop-holds
+    shared-slice-read-if2
+    shared-slice-read-if2-2
+    returns-2
+    add-i
+    loop-less
+    loop-again
+    returns-3)

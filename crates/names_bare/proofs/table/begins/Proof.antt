@@ -3,7 +3,7 @@
 use mathlib.Core.Path.{subst}
 use lib.Dec.{T}
 use Rattle.names_bare.specs.Words.{heads}
-use Rattle.names_bare.proofs.Arms.{rest-none}
+use Rattle.names_search.proofs.Arms.{rest-none}
 use Rattle.names_bare.proofs.table.begins.Statement.{statement}
 use Rattle.names_bare.proofs.table.begins.Tie as tie
 

@@ -1,10 +1,10 @@
--- `names_bare::table::character` meets its contract: each name is one arm, and a number of none of them stands for none.
+-- `names_bare::table::character` meets its contract: each number of the table is one arm, and a number of none of them stands for none.
 -- Made by tools/make_names.py. Assumes nothing.
 use mathlib.Core.Path.{sym}
 use mathlib.Core.List.{map}
 use Prim.Native.Nat.{ℕ}
 use Rattle.names_bare.specs.Words.{words}
-use Rattle.names_bare.proofs.Arms.{rest-none, char-out}
+use Rattle.names_search.proofs.Arms.{rest-none, beside-out}
 use Rattle.names_bare.proofs.table.character.Statement.{statement}
 use Rattle.names_bare.proofs.table.character.Tie as tie
 
@@ -434,7 +434,7 @@ returns-106 c = rw (c .match .keys106)
 
 returns-107 : tie.Need-returns-107
 unfolding words
-returns-107 c = let n = c .before .args .word in sym (char-out words n (rest-none n _ (map (λ (pair : ℕ × ℕ). pair .0) words) (c .match .rest)))
+returns-107 c = let n = c .before .args .word in sym (beside-out 0 words n (rest-none n _ (map (λ (pair : ℕ × ℕ). pair .0) words) (c .match .rest)))
 
 pub character-spec : {M : Type 1} → statement M
 character-spec =
