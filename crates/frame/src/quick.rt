@@ -1,0 +1,34 @@
+// Calls that are answered by one function of a room below, where that is quicker than the general way of a glance, a verdict and a result.
+ghost use Rattle.jobs.specs.Jobs.{ruleBy};
+ghost use Rattle.frame.specs.Tries.{Tries};
+use jobs::job::Job;
+use read_html::Outcome;
+use rules::Answer;
+use rules::Context;
+
+// What a try gives: the answer, with the output as it should be; or nothing is done yet.
+pub enum Tried {
+    Answered(Answer),
+    Untried,
+}
+
+// Reads a text in an HTML context, if it is long, ASCII, and has none of the bytes that the context replaces but `&`; any other job, and any other text, is
+// left as it is.
+pub fn read(job: Job, borrows: bool, text: &[u8], output: &mut [u8]) -> Tried
+    ensures { λ r. ⌜ Tries (ruleBy job) borrows (now (text .entry)) (now (output .entry)) (now (output .exit)) r ⌝ }
+{
+    let Job::Read(context) = job else {
+        return Tried::Untried;
+    };
+    let Context::InHtml(h) = context else {
+        return Tried::Untried;
+    };
+    match read_html::read(h, text, output) {
+        Outcome::Untried => Tried::Untried,
+        Outcome::Same => Tried::Answered(crate::unchanged(borrows, 0, 0, text, output)),
+        Outcome::NoRoom(length) => Tried::Answered(crate::refusal(rules::NO_ROOM, length, 0)),
+        Outcome::Written(length, replaced) => {
+            Tried::Answered(crate::passed(length, replaced, 0, 0))
+        }
+    }
+}

@@ -1,0 +1,57 @@
+// Measures what a clear text reads back as, and keeps where its units are.
+ghost use mathlib.Core.Bool.{false};
+ghost use mathlib.Core.Path.{_≡_};
+ghost use Prim.Native.Nat.{_≤_, _<_};
+ghost use lib.ListN.{length, set};
+ghost use Rattle.plain.specs.Plain.{unquoted};
+ghost use Rattle.read_html.specs.Clear.{Clear};
+ghost use Rattle.read_html.specs.Marks.{Told};
+use crate::units;
+use rules::Html;
+
+// What is found: whether the whole text is units and bytes that are kept, the length of the result, and how many units it has.
+pub struct Found {
+    pub whole: bool,
+    pub length: usize,
+    pub units: usize,
+}
+
+// Keeps the offset of a unit, if the list has room for one more.
+fn keep(places: &mut [u16], k: usize, at: usize)
+    requires { ⌜ at < 65536 ⌝ }
+    ensures { λ _. ⌜ now (places .exit) ≡ set (now (places .entry)) k at ⌝ }
+{
+    if k < places.len() {
+        places[k] = at as u16;
+    }
+}
+
+// Measures a text in which only `&` is replaced, and keeps the offsets of its first units in `places`.
+pub fn measure(h: Html, text: &[u8], places: &mut [u16]) -> Found
+    requires { ⌜ (unquoted h ≡ false) × (length (now text) ≤ 65536) × Clear h (now text) ⌝ }
+    ensures { λ r. ⌜ Told h (now (text .entry)) (now (places .exit)) r ⌝ }
+{
+    let words = units::words_of(h);
+    let mut gain: usize = 0;
+    let mut units: usize = 0;
+    let mut i = base::find::find_byte(text, 0, b'&');
+    while i < text.len() {
+        if !units::is_unit(h, &words, text, i) {
+            return Found {
+                whole: false,
+                length: 0,
+                units: 0,
+            };
+        }
+        keep(places, units, i);
+        let n = units::length_of(text[i + 1]);
+        gain += n - 1;
+        units += 1;
+        i = base::find::find_byte(text, i + n, b'&');
+    }
+    Found {
+        whole: true,
+        length: text.len() - gain,
+        units,
+    }
+}
