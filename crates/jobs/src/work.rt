@@ -1,19 +1,18 @@
-// The work of a job, in the order in which a call does it: a glance at the text, how far it is valid, the verdict (by a measure, or without one where
-// the output has room for any result), and the writing. What depends on the job is one match, outside of every loop; the rooms below do it.
+// The work of a job, in the order in which a call does it: a glance at the text, how far it is valid, the job that does it quickest, the verdict (by a
+// measure, or without one where the output has room for any result), and the writing. What depends on the job is one match, outside of every loop; the
+// rooms below do it.
 ghost use mathlib.Core.Bool.{true, false};
 ghost use mathlib.Core.Path.{_≡_};
-ghost use Prim.Native.Nat.{_+_, _≤_};
+ghost use mathlib.Core.List.{List};
+ghost use Prim.Native.Nat.{ℕ, _+_, _≤_};
 ghost use lib.ListN.{length};
 ghost use Rattle.rules.specs.Bytes.{over};
 ghost use Rattle.rules.specs.Moves.{through, result, taken};
 ghost use Rattle.rules.specs.Utf8.{validTo};
 ghost use Rattle.rules.specs.Answers.{Measures};
-ghost use Rattle.rules.specs.Encoding.{encodeStep};
 ghost use Rattle.rules.specs.Reading.{readStep};
-ghost use Rattle.rules.specs.Operations.{encodeOf, readOf};
-ghost use Rattle.rules.specs.declared.Context.the-variants.{InAscii};
+ghost use Rattle.rules.specs.Operations.{readOf};
 ghost use Rattle.jobs.specs.Jobs.{ruleBy, countedFor, Low, Seen, Judged};
-ghost use Rattle.jobs.specs.declared.job.Job.the-variants.{EncodeAscii};
 use crate::job::Job;
 use encode_html::Scan;
 use rules::Context;
@@ -72,6 +71,20 @@ pub fn glance(job: Job, text: &[u8]) -> Scan
         };
     };
     encode_html::survey(h, text)
+}
+
+// Returns the job that does the same to this text as `job` does, in the quickest way: an ASCII text is encoded in ascii_quoted as in `quoted`.
+// `scan` is what the glance told of it.
+pub fn settled(job: Job, scan: Scan) -> Job
+    ensures { λ r. ⌜ ((t : List ℕ) → Seen job scan t → (through (ruleBy r) t ≡ through (ruleBy job) t) × Seen r scan t) ⌝ }
+{
+    let Job::EncodeAscii = job else {
+        return job;
+    };
+    if scan.high == 0 {
+        return Job::EncodeHtml(Html::Quoted);
+    }
+    job
 }
 
 // How far a text is valid. Where `high` is 0 it is ASCII, and needs no look.
@@ -154,33 +167,6 @@ fn write_read(context: Context, text: &[u8], output: &mut [u8]) -> Measured
     read_ascii::write(text, output)
 }
 
-// Measures what encode makes of a valid text in ascii_quoted: of ASCII what `quoted` makes of it, which `scan` tells.
-fn measure_ascii(scan: Scan, text: &[u8]) -> Measured
-    requires { ⌜ (length (now text) ≤ 65536) × (validTo (now text) ≡ length (now text)) × Seen EncodeAscii scan (now text) ⌝ }
-    ensures { λ r. ⌜ Measures r (through (encodeStep InAscii) (now (text .entry))) ⌝ }
-{
-    if scan.high == 0 {
-        return whole(text.len() + scan.grow, scan.replaced, text.len());
-    }
-    encode_ascii::measure(text)
-}
-
-// Writes what encode makes of a valid text in ascii_quoted to the start of `output`; what lies past it keeps its values.
-fn write_ascii(scan: Scan, text: &[u8], output: &mut [u8]) -> Measured
-    requires { ⌜ (length (now text) ≤ 65536) × (validTo (now text) ≡ length (now text)) × Seen EncodeAscii scan (now text) ⌝ }
-    requires { ⌜ length (encodeOf InAscii (now text)) ≤ length (now output) ⌝ }
-    ensures { λ r. ⌜ Measures r (through (encodeStep InAscii) (now (text .entry))) × (now (output .exit) ≡ over (encodeOf InAscii (now (text .entry))) (now (output .entry))) ⌝ }
-{
-    if scan.high == 0 {
-        return whole(
-            encode_html::write(Html::Quoted, text, scan.grow, output),
-            scan.replaced,
-            text.len(),
-        );
-    }
-    encode_ascii::write(text, output)
-}
-
 // Measures what a job makes of a valid text; `scan` is what the glance told.
 fn measure(job: Job, scan: Scan, text: &[u8]) -> Measured
     requires { ⌜ (length (now text) ≤ 65536) × (validTo (now text) ≡ length (now text)) × Seen job scan (now text) ⌝ }
@@ -198,7 +184,7 @@ fn measure(job: Job, scan: Scan, text: &[u8]) -> Measured
         Job::Read(context) => measure_read(context, text),
         Job::EncodeJson => encode_strings::measure(Notation::Json, Quotes::Double, text),
         Job::DecodeJson => decode_json::measure(text),
-        Job::EncodeAscii => measure_ascii(scan, text),
+        Job::EncodeAscii => encode_ascii::measure(text),
     }
 }
 
@@ -247,6 +233,6 @@ pub fn write(job: Job, scan: Scan, text: &[u8], output: &mut [u8]) -> Measured
         Job::Read(context) => write_read(context, text, output),
         Job::EncodeJson => encode_strings::write(Notation::Json, Quotes::Double, text, output),
         Job::DecodeJson => decode_json::write(text, output),
-        Job::EncodeAscii => write_ascii(scan, text, output),
+        Job::EncodeAscii => encode_ascii::write(text, output),
     }
 }

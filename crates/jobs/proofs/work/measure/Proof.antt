@@ -88,8 +88,8 @@ measure-requires-9 c κs = search needs
 enum-told-6 : tie.Need-enum-told-6
 enum-told-6 c = search needs
 
-measure-ascii-requires : tie.Need-measure-ascii-requires
-measure-ascii-requires c κs = let pre = c .before .before .before .pre in (pre .0, pre .1, rw (c .enum-told6 .given .1) at (pre .2))
+measure-requires-10 : tie.Need-measure-requires-10
+measure-requires-10 c κs = search needs
 
 returns : tie.Need-returns
 unfolding ruleBy
@@ -142,7 +142,7 @@ returns-11 c = rw (c .before .enum-told5 .given .1) (c .measure9 .ensures)
 
 returns-12 : tie.Need-returns-12
 unfolding ruleBy
-returns-12 c = rw (c .before .enum-told6 .given .1) (c .measure-ascii .ensures)
+returns-12 c = rw (c .before .enum-told6 .given .1) (c .measure10 .ensures)
 
 pub measure-spec : {M : Type 1} → statement M
 measure-spec =
@@ -173,7 +173,7 @@ measure-spec =
     enum-told-5
     measure-requires-9
     enum-told-6
-    measure-ascii-requires
+    measure-requires-10
     returns
     returns-2
     returns-3

@@ -105,11 +105,11 @@ write-requires-10 c κs = rw (c .before .enum-told4 .given .1) at (c .before .be
 enum-told-5 : tie.Need-enum-told-5
 enum-told-5 c = search needs
 
-write-ascii-requires : tie.Need-write-ascii-requires
+write-requires-11 : tie.Need-write-requires-11
 unfolding ruleBy
-write-ascii-requires c κs =
+write-requires-11 c κs =
     let pre = c .before .before .before .before .before .pre in
-    ((pre .0 .0, pre .0 .1, rw (c .before .enum-told5 .given .1) at (pre .0 .2)), rw (c .before .enum-told5 .given .1) at (pre .1 .1))
+    (pre .0 .0, pre .0 .1, rw (c .before .enum-told5 .given .1) at (pre .1 .1))
 
 same-length : tie.Need-same-length
 same-length c = search needs
@@ -200,7 +200,7 @@ same-length-12 c = search needs
 
 returns-12 : tie.Need-returns-12
 unfolding ruleBy
-returns-12 c = rw (c .before .before .before .before .enum-told5 .given .1) (c .before .before .write-ascii .ensures)
+returns-12 c = rw (c .before .before .before .before .enum-told5 .given .1) (c .before .before .write11 .ensures)
 
 pub write-spec : {M : Type 1} → statement M
 write-spec =
@@ -231,7 +231,7 @@ write-spec =
     enum-told-4
     write-requires-10
     enum-told-5
-    write-ascii-requires
+    write-requires-11
     same-length
     returns
     same-length-2
