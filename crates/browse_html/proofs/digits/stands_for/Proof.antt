@@ -6,7 +6,7 @@ use lib.Dec.{leb, leb→le}
 use Rattle.rules.specs.References.{renumbering, renumbered}
 use Rattle.rules.proofs.Tests.{and-left, and-right}
 use Rattle.rules.proofs.Numbers.{stands-out, stands-beyond}
-use Rattle.names_bare.proofs.Arms.{rest-none}
+use Rattle.names_search.proofs.Arms.{rest-none}
 use Rattle.browse_html.proofs.digits.stands_for.Statement.{statement}
 use Rattle.browse_html.proofs.digits.stands_for.Tie as tie
 
