@@ -62,7 +62,7 @@ pub const fn decoded_at_most(n: usize) -> usize {
 pub enum Refusal {
     /// [`ScriptEncoder`](crate::ScriptEncoder) only: a finish has passed.
     Finished,
-    /// The operation has no such context: [`decode`], [`check`] and [`take`] have all but [`Context::ScriptRaw`], [`browse`] has the first seven.
+    /// The operation has no such context: [`decode`], [`check`] and [`take`] have all but [`Context::ScriptRaw`], [`browse`] has the first seven and [`Context::AsciiQuoted`].
     BadContext,
     /// [`fill_page`] only: the part that a field names leaves the text.
     BadRange,
@@ -303,7 +303,7 @@ operation! {
 }
 
 operation! {
-    /// Undoes the replacements as html-escape does: character references such as `&amp;` in the first seven contexts, escapes such as `\x3C` in the
+    /// Undoes the replacements as html-escape does: character references such as `&amp;` in the HTML contexts, escapes such as `\x3C` in the
     /// strings. Everything else is copied, and what was decoded is not decoded again. A result can be longer than its text, by a fifth at most.
     ///
     /// ```
@@ -346,8 +346,8 @@ pub fn check<T: ?Sized + Text>(context: Context, text: &T) -> Result<usize, Refu
 }
 
 operation! {
-    /// Undoes character references as a browser does, by the HTML Standard, in the first seven contexts. The longest name counts, 106 names need no `;`,
-    /// and any other byte ends a number. In the four contexts of attributes a name without `;` stays before `=` or an ASCII letter or digit;
+    /// Undoes character references as a browser does, by the HTML Standard, in the HTML contexts. The longest name counts, 106 names need no `;`,
+    /// and any other byte ends a number. In the contexts of attributes a name without `;` stays before `=` or an ASCII letter or digit;
     /// [`Context::TextMinimal`], [`Context::Text`] and [`Context::Safe`] are text. The numbers 0, surrogates and those above 10FFFF hex give U+FFFD, and
     /// 27 from 80 to 9F hex the character that windows-1252 has there.
     ///

@@ -127,7 +127,7 @@ pub fn encode_borrowing(context: u32, text: &[u8], output: &mut [u8]) -> Answer
     call(Operation::Encode, context, true, text, output)
 }
 
-// Undoes the replacements exactly as html-escape does: character references in the seven HTML contexts, backslash escapes in strings. Anything else is
+// Undoes the replacements exactly as html-escape does: character references in the HTML contexts, backslash escapes in strings. Anything else is
 // copied, and nothing is decoded twice. A result can be longer than its text, by a fifth at most (`&nGt;`).
 pub fn decode(context: u32, text: &[u8], output: &mut [u8]) -> Answer
     ensures { λ r. ⌜ Allowed Decode (contextOf context) false (now (text .entry)) (now (output .entry)) r (now (output .exit)) ⌝ }
