@@ -41,7 +41,7 @@ loop-holds c =
     let t = a .text .now in
     let clear = c .before .before .before .before .pre .0 .1 in
     let m = c .next-mark in
-    (counted-start (byteStep (InHtml h)) t, rw (byte-result (InHtml h) t (clear-valid h t clear)) (filled-start _ _ (c .before .before .before .before .pre .1 .2)), m .ensures .0, λ z. refl, m .ensures .1)
+    (counted-start (byteStep (InHtml h)) t, rw (byte-result (InHtml h) (λ k. refl) t (clear-valid h t clear)) (filled-start _ _ (c .before .before .before .before .pre .1 .2)), m .ensures .0, λ z. refl, m .ensures .1)
 
 sub-put-run : tie.Need-sub-put-run Inv-loop μ-loop
 sub-put-run c = c .before .loop .inv .2 .after

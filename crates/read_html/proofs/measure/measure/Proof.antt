@@ -117,7 +117,7 @@ returns-2 c =
     let none = from-end (byteStep (InHtml (a .h))) t (l .i) (omega arith) in
     λ z. (
       subst (λ (i : ℕ). Measures (record { length = i - l .gain; place = i; replaced = l .units; left = 0; reason = 0 }) (through (readStep (InHtml (a .h))) t)) end
-          (read-measures (InHtml (a .h)) t (l .i) (l .i - l .gain) (l .units) (clear-valid (a .h) t (c .before .before .before .before .before .before .pre .2)) (l .inv .0) none),
+          (read-measures (InHtml (a .h)) (λ k. refl) t (l .i) (l .i - l .gain) (l .units) (clear-valid (a .h) t (c .before .before .before .before .before .before .pre .2)) (l .inv .0) none),
       sym (counted-end (l .inv .0) none .2) ∙ end,
       l .inv .3,
     )
