@@ -7,8 +7,8 @@ ghost use Prim.Native.Nat.{min, _≤_};
 ghost use lib.ListN.{length, drop};
 ghost use Rattle.rules.specs.Pages.{inText, single as singleOf, leaves, PageAllowed, fieldSize, fieldNumbers, fieldAs, NumbersAllowed};
 ghost use Rattle.page.specs.Turns.{begun, outsideBy, answeredAt, turned, outputAfter};
-use jobs::job::Wanted;
 use rules::Answer;
+use rules::AnyContext;
 use rules::BAD_CONTEXT;
 use rules::BAD_RANGE;
 use rules::FIELD_LIMIT;
@@ -58,10 +58,10 @@ fn in_text(text: &[u8], field: Field) -> bool
 fn outside(context: u32) -> Answer
     ensures { λ r. ⌜ r ≡ outsideBy context ⌝ }
 {
-    let Wanted::Do(job) = jobs::job::job_of(Operation::Encode, context) else {
-        return frame::refusal(BAD_CONTEXT, 0, 0);
+    let AnyContext::Unknown = rules::context_of(context) else {
+        return frame::refusal(BAD_RANGE, 0, 0);
     };
-    frame::refusal(BAD_RANGE, 0, 0)
+    frame::refusal(BAD_CONTEXT, 0, 0)
 }
 
 // The call of one record, into the part of the output that is free.

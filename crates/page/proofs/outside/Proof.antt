@@ -1,17 +1,25 @@
--- `outside` meets its contract: encode has a job in the context exactly if it has a rule there.
+-- `outside` meets its contract: encode has a rule in every context there is.
 -- Assumes nothing.
-use mathlib.Core.Path.{sym, ap, _∙_}
+use mathlib.Core.Path.{_≡_, refl, sym, ap, _∙_}
+use mathlib.Core.List.{[], _∷_}
+use types.Run.{miss}
 use borrow.Author.Needs.{needs}
-use Rattle.jobs.specs.Jobs.{ruleAt}
+use Rattle.rules.specs.Operations.{ruleOf}
+use Rattle.rules.specs.Refusals.{refusal}
+use Rattle.rules.specs.declared.AnyContext.{AnyContext}
+use Rattle.rules.specs.declared.AnyContext.the-variants.{Units, ScriptRaw, Unknown}
+use Rattle.rules.specs.declared.Operation.the-variants.{Encode}
 use Rattle.page.specs.Turns.{outsideAt}
 use Rattle.page.proofs.outside.Statement.{statement}
 use Rattle.page.proofs.outside.Tie as tie
 
-job-of-requires : tie.Need-job-of-requires
-job-of-requires c κs = search needs
+known : (x : AnyContext) → (x ≡ Unknown → ⊥) → refusal 8 0 0 ≡ outsideAt (ruleOf Encode x)
+known (Units c) n = refl
+known ScriptRaw n = refl
+known Unknown n = absurd (n refl)
 
-enum-known-job : tie.Need-enum-known-job
-enum-known-job c = search needs
+context-of-requires : tie.Need-context-of-requires
+context-of-requires c κs = search needs
 
 enum-told : tie.Need-enum-told
 enum-told c = search needs
@@ -20,22 +28,16 @@ refusal-requires : tie.Need-refusal-requires
 refusal-requires c κs = search needs
 
 returns : tie.Need-returns
-returns c = c .refusal .ensures ∙ ap outsideAt (sym (ap ruleAt (c .before .enum-told .given .1)) ∙ c .before .before .before .job-of .ensures)
+returns c =
+    let x = c .before .before .context-of in
+    c .refusal .ensures ∙ known (x .result) (λ e. miss (0 ∷ 1 ∷ []) 2 tt (rw e at (c .before .match .keys2))) ∙ ap (λ (x : AnyContext). outsideAt (ruleOf Encode x)) (x .ensures)
 
 refusal-requires-2 : tie.Need-refusal-requires-2
 refusal-requires-2 c κs = search needs
 
 returns-2 : tie.Need-returns-2
-returns-2 c = c .refusal2 .ensures ∙ ap outsideAt (sym (ap ruleAt (c .before .before .job .given .1)) ∙ c .before .before .before .before .job-of .ensures)
+returns-2 c =
+    c .refusal2 .ensures ∙ ap (λ (x : AnyContext). outsideAt (ruleOf Encode x)) (sym (c .before .enum-told .given .1) ∙ c .before .before .before .context-of .ensures)
 
 pub outside-spec : {M : Type 1} → statement M
-outside-spec =
-    tie.close
-    (tie.spec
-    job-of-requires
-    enum-known-job
-    enum-told
-    refusal-requires
-    returns
-    refusal-requires-2
-    returns-2)
+outside-spec = tie.close (tie.spec context-of-requires enum-told refusal-requires returns refusal-requires-2 returns-2)
