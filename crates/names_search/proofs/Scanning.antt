@@ -1,8 +1,8 @@
--- Two lists that are the same up to a place are compared by what is left of them; a name is looked up in a lent table by the rows that are left of it.
+-- Two lists are compared from the end; a name is looked up in a lent table by the rows that are left of it.
 -- Assumes nothing.
-use mathlib.Core.Bool.{true, false, _&&_}
+use mathlib.Core.Bool.{true, false}
 use mathlib.Core.Option.{none, some}
-use mathlib.Core.Path.{_≡_, refl, sym, ap}
+use mathlib.Core.Path.{_≡_, refl, sym, ap, subst}
 use mathlib.Core.List.{List, [], _∷_}
 use Prim.Native.Nat.{ℕ, suc, _+_, _-_, _≤_, _<_}
 use native.Mathlib.Numerals.{add-one}
@@ -10,7 +10,7 @@ use native.Mathlib.Omega.{arith}
 use lib.Dec.{T, leb, leb→le}
 use lib.ListN.{length, take, drop, getD, drop-of-length-le, length-drop}
 use lib.Seq.{drop-cons, drop-drop}
-use borrow.Author.Tests.{eq-eqb, ne-eqb}
+use borrow.Author.Tests.{eq-eqb}
 use Rattle.rules.specs.Bytes.{first, sameBytes}
 use Rattle.rules.specs.References.{lookup}
 use Rattle.rules.proofs.Tests.{and-left, and-right, is-false, same-bytes}
@@ -22,32 +22,36 @@ use Rattle.names_search.specs.Lent.{codeBytes, rowsOf, isTable}
 pub longer-differs : (a b : List ℕ) → (length a ≡ length b → ⊥) → false ≡ sameBytes a b
 longer-differs a b h = sym (is-false (sameBytes a b) (λ t. h (ap length (same-bytes a b t))))
 
--- Two lists are the same up to place i.
+-- Two lists of one length are the same from place i on.
 pub record Alike (a b : List ℕ) (i : ℕ) : Type 0 where
   pub size : length a ≡ length b
   pub within : i ≤ length a
-  pub rest : sameBytes (drop i a) (drop i b) ≡ sameBytes a b
+  pub rest : sameBytes (drop i a) (drop i b) ≡ true
 
-pub alike-start : (a b : List ℕ) → length a ≡ length b → Alike a b 0
-alike-start a b e = record { size = e; within = omega arith; rest = refl }
+pub alike-start : (a b : List ℕ) → length a ≡ length b → Alike a b (length a)
+alike-start a b e =
+    let h : length a ≤ length a = omega arith in
+    let k : length b ≤ length a = omega (arith, e) in
+    record { size = e; within = h; rest = rw (drop-of-length-le a h, drop-of-length-le b k) }
+
+pub alike-differs : (a b : List ℕ) (i : ℕ) → (getD a i 0 ≡ getD b i 0 → ⊥) → false ≡ sameBytes a b
+alike-differs a b i n = sym (is-false (sameBytes a b) (λ t. n (ap (λ (l : List ℕ). getD l i 0) (same-bytes a b t))))
 
 module _ {a b : List ℕ} {i : ℕ} (l : Alike a b i) where
-  pub alike-end : length a ≤ i → true ≡ sameBytes a b
-  alike-end h = let k : length b ≤ i = omega (arith, l .size) in rw (drop-of-length-le a h, drop-of-length-le b k) at (l .rest)
+  pub alike-end : i ≤ 0 → true ≡ sameBytes a b
+  alike-end h = let z : i ≡ 0 = omega (arith, h) in sym (rw z at (l .rest))
 
-  module _ (h : i < length a) where
-    in-b : i < length b
-    in-b = omega (arith, l .size)
-
-    pub alike-differs : (getD a i 0 ≡ getD b i 0 → ⊥) → false ≡ sameBytes a b
-    alike-differs n = rw (drop-cons a i 0 h, drop-cons b i 0 in-b, ne-eqb (getD a i 0) (getD b i 0) n) at (l .rest)
-
-    pub alike-next : getD a i 0 ≡ getD b i 0 → Alike a b (i + 1)
-    alike-next e = record {
-      size = l .size;
-      within = omega arith;
-      rest = rw add-one (rw (drop-cons a i 0 h, drop-cons b i 0 in-b, eq-eqb (getD a i 0) (getD b i 0) e) at (l .rest));
-    }
+  pub alike-next : 0 < i → getD a (i - 1) 0 ≡ getD b (i - 1) 0 → Alike a b (i - 1)
+  alike-next h e =
+      let n : i ≡ suc (i - 1) = omega (arith, h) in
+      let tail = subst (λ (k : ℕ). sameBytes (drop k a) (drop k b) ≡ true) n (l .rest) in
+      let in-a : i - 1 < length a = omega (arith, h, l .within) in
+      let in-b : i - 1 < length b = omega (arith, h, l .within, l .size) in
+      record {
+        size = l .size;
+        within = omega (arith, l .within);
+        rest = rw (drop-cons a (i - 1) 0 in-a, drop-cons b (i - 1) 0 in-b, eq-eqb (getD a (i - 1) 0) (getD b (i - 1) 0) e) tail;
+      }
 
 -- ---- a lent table
 

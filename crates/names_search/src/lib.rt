@@ -13,19 +13,19 @@ use rules::Meaning;
 
 mod listed;
 
-// Reports whether two names are the same bytes.
+// Reports whether two names are the same bytes. They are compared from the end, where names that begin alike differ.
 pub fn same(a: &[u8], b: &[u8]) -> bool
     ensures { λ r. ⌜ r ≡ sameBytes (now (a .entry)) (now (b .entry)) ⌝ }
 {
     if a.len() != b.len() {
         return false;
     }
-    let mut i: usize = 0;
-    while i < a.len() {
+    let mut i: usize = a.len();
+    while 0 < i {
+        i -= 1;
         if a[i] != b[i] {
             return false;
         }
-        i += 1;
     }
     true
 }

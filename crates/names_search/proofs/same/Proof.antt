@@ -1,7 +1,7 @@
--- `names_search::same` meets its contract: the two names are as long as each other, and the same up to the place that the loop has reached.
+-- `names_search::same` meets its contract: the two names are as long as each other, and the same from the place on that the loop has reached.
 -- Assumes nothing.
 use Prim.Native.Nat.{_-_}
-use lib.ListN.{length}
+use native.Mathlib.Omega.{arith}
 use borrow.Author.Needs.{needs}
 use Rattle.names_search.proofs.Scanning.{Alike, longer-differs, alike-start, alike-end, alike-differs, alike-next}
 use Rattle.names_search.proofs.same.Statement.{statement}
@@ -11,7 +11,7 @@ abbrev Inv-loop : tie.InvT-loop
 Inv-loop a b i₀ i = Alike a b i
 
 abbrev μ-loop : tie.MeasureT-loop
-μ-loop a b i₀ i = length a - i
+μ-loop a b i₀ i = i
 
 returns : tie.Need-returns Inv-loop μ-loop
 returns c = let a = c .before .args in longer-differs (a .a .now) (a .b .now) (c .if1 .taken)
@@ -19,17 +19,17 @@ returns c = let a = c .before .args in longer-differs (a .a .now) (a .b .now) (c
 loop-holds : tie.Need-loop-holds Inv-loop μ-loop
 loop-holds c = alike-start _ _ (search needs)
 
+sub-i : tie.Need-sub-i Inv-loop μ-loop
+sub-i c = search needs
+
 shared-slice-read-if2 : tie.Need-shared-slice-read-if2 Inv-loop μ-loop
-shared-slice-read-if2 c = search needs
+shared-slice-read-if2 c = let l = c .before .before .loop .inv in omega (arith, l .within, c .before .loop-test .taken)
 
 shared-slice-read-if2-2 : tie.Need-shared-slice-read-if2-2 Inv-loop μ-loop
-shared-slice-read-if2-2 c = search needs
+shared-slice-read-if2-2 c = let l = c .before .before .before .loop .inv in omega (arith, l .within, l .size, c .before .before .loop-test .taken)
 
 returns-2 : tie.Need-returns-2 Inv-loop μ-loop
-returns-2 c = alike-differs (c .before .before .before .before .loop .inv) (search needs) (c .if2 .taken)
-
-add-i : tie.Need-add-i Inv-loop μ-loop
-add-i c = search needs
+returns-2 c = let s = c .before .before .before .before .before .before .args in alike-differs (s .a .now) (s .b .now) (c .before .before .before .before .loop .i - 1) (c .if2 .taken)
 
 loop-less : tie.Need-loop-less Inv-loop μ-loop
 loop-less c = search needs
@@ -48,10 +48,10 @@ same-spec =
     μ-loop
     returns
     loop-holds
+    sub-i
     shared-slice-read-if2
     shared-slice-read-if2-2
     returns-2
-    add-i
     loop-less
     loop-again
     returns-3)
