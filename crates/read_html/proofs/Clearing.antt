@@ -1,4 +1,5 @@
--- A byte that is far from the keys is ASCII, and no replaced character begins with it unless it is `&`: computed for every byte in each context. So up to
+-- A byte that is far from the keys is ASCII, and no replaced character begins with it unless it is `&`: computed for every byte in each context. So
+-- up to
 -- the next `&` of a clear text every byte is kept.
 -- Assumes nothing.
 use mathlib.Core.Bool.{Bool, false, not, _&&_, _||_}

@@ -1,4 +1,5 @@
--- `measure` meets its contract: what is counted so far, with what the reader makes of the rest, is what it makes of the whole, and the places so far are kept (Turns, Kept). The measure is what is left of the text.
+-- `measure` meets its contract: what is counted so far, with what the reader makes of the rest, is what it makes of the whole, and the places so
+-- far are kept (Turns, Kept). The measure is what is left of the text.
 -- Assumes nothing.
 use mathlib.Core.List.{List}
 use mathlib.Core.Path.{_≡_, refl, sym, ap, _∙_, subst}
