@@ -7,7 +7,7 @@ ghost use lib.ListN.{length};
 ghost use Rattle.rules.specs.Bytes.{over};
 ghost use Rattle.base.specs.Places.{Absent, Nearest, Holds, part};
 
-// Whether the byte is among the sixteen from offset `at` on. The loop has no early exit, so that the sixteen are one vector.
+// Reports whether the byte is among the sixteen from offset `at` on. The loop has no early exit, so that the sixteen are one vector.
 fn among(text: &[u8], at: usize, byte: u8) -> bool
     requires { ⌜ at + 16 ≤ length (now text) ⌝ }
     ensures { λ r. ⌜ (r ≡ false → Absent (now (text .entry)) at (at + 16) byte) ⌝ }

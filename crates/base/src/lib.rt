@@ -88,14 +88,14 @@ pub fn clip(at: usize, end: usize, step: usize) -> usize
     end
 }
 
-// Whether a byte is from `lo` to `hi`. It has no branch, so that a loop over it compiles to vector code.
+// Reports whether a byte is from `lo` to `hi`. It has no branch, so that a loop over it compiles to vector code.
 pub fn is_within(lo: u8, hi: u8, b: u8) -> bool
     ensures { λ r. ⌜ r ≡ inside (lo, hi) b ⌝ }
 {
     (lo <= b) & (b <= hi)
 }
 
-// Whether a byte is an ASCII letter or digit.
+// Reports whether a byte is an ASCII letter or digit.
 pub fn is_letter_or_digit(b: u8) -> bool
     ensures { λ r. ⌜ r ≡ letterOrDigit b ⌝ }
 {

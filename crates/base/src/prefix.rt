@@ -4,7 +4,7 @@ ghost use mathlib.Core.Path.{_≡_};
 ghost use Rattle.rules.specs.Bytes.{stands, oneOf};
 ghost use Rattle.rules.specs.Encoding.{anyCase, terminators, closes, closesAtEnd};
 
-// Whether `rest` starts with `pattern`.
+// Reports whether `rest` starts with `pattern`.
 pub fn starts(pattern: &[u8], rest: &[u8]) -> bool
     ensures { λ r. ⌜ r ≡ stands (now (pattern .entry)) (now (rest .entry)) ⌝ }
 {
@@ -21,7 +21,7 @@ pub fn starts(pattern: &[u8], rest: &[u8]) -> bool
     true
 }
 
-// Whether `b` is the byte `a`, or the upper case of the lower-case letter `a`, which is 32 less.
+// Reports whether `b` is the byte `a`, or the upper case of the lower-case letter `a`, which is 32 less.
 pub fn is_either_case(a: u8, b: u8) -> bool
     ensures { λ r. ⌜ r ≡ oneOf (anyCase a) b ⌝ }
 {
@@ -37,7 +37,7 @@ pub fn is_either_case(a: u8, b: u8) -> bool
     b == a - 32
 }
 
-// Whether the byte ends the name of a tag: `/`, `>`, 9 to 13 and 28 to 32.
+// Reports whether the byte ends the name of a tag: `/`, `>`, 9 to 13 and 28 to 32.
 fn is_terminator(b: u8) -> bool
     ensures { λ r. ⌜ r ≡ oneOf terminators b ⌝ }
 {
@@ -53,7 +53,7 @@ fn is_terminator(b: u8) -> bool
     crate::is_within(28, b' ', b)
 }
 
-// Whether `rest` starts with `name`, its letters in either case, and then a terminator, or its end if `last` says that the end counts as one.
+// Reports whether `rest` starts with `name`, its letters in either case, and then a terminator, or its end if `last` says that the end counts as one.
 pub fn closes_with(name: &[u8], last: bool, rest: &[u8]) -> bool
     ensures { λ r. ⌜ r ≡ (closes (now (name .entry)) (now (rest .entry)) || (last && closesAtEnd (now (name .entry)) (now (rest .entry)))) ⌝ }
 {

@@ -13,7 +13,7 @@ ghost use Rattle.rules.specs.declared.Kind.{Kind};
 ghost use Rattle.browse_html.specs.Finding.{Runs, Counts, singleAt};
 use crate::Single;
 
-// Returns the number that a number stands for in browse. The two tests come first, since nearly every number ends there.
+// Returns the number of the character that browse gives for a numeric reference. The two tests come first, since nearly every number ends there.
 fn stands_for(number: u32) -> u32
     ensures { λ r. ⌜ r ≡ standsFor renumbering number ⌝ }
 {

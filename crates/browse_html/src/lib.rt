@@ -45,7 +45,7 @@ fn goes_on(text: &[u8], at: usize) -> bool
     base::is_letter_or_digit(text[at])
 }
 
-// Reports whether a name without `;` stays, which ends at an offset: in an attribute, where the text goes on.
+// Reports whether a name without `;` that ends at an offset is left as it is: in an attribute, before `=` or an ASCII letter or digit.
 fn is_blocked(kind: Kind, text: &[u8], at: usize) -> bool
     requires { ⌜ at ≤ length (now text) ⌝ }
     ensures { λ r. ⌜ r ≡ blockedIn kind (drop at (now (text .entry))) ⌝ }
@@ -125,8 +125,8 @@ fn find_single(kind: Kind, text: &[u8], start: usize) -> Single
     find_bare(kind, text, start)
 }
 
-// Measures what browse makes of a text. Bytes before the next `&` are skipped together; a reference counts as the bytes of its value, and the `&` of one
-// that stays as itself.
+// Measures the result of browse without writing it. Bytes before the next `&` are skipped together; a reference counts as the bytes of its value, the `&`
+// of one that is left as one byte.
 pub fn measure(kind: Kind, text: &[u8]) -> Measured
     requires { ⌜ length (now text) ≤ 65536 ⌝ }
     ensures { λ r. ⌜ Measures r (through (browseStep kind) (now (text .entry))) ⌝ }
@@ -165,7 +165,7 @@ pub fn measure(kind: Kind, text: &[u8]) -> Measured
     }
 }
 
-// Writes what browse makes of a text to the start of `output` and returns what `measure` does; what lies past it keeps its values.
+// Writes the result of browse to the start of `output` and returns what `measure` does; the bytes after it keep their values.
 pub fn write(kind: Kind, text: &[u8], output: &mut [u8]) -> Measured
     requires { ⌜ length (result (through (browseStep kind) (now text))) ≤ length (now output) ⌝ }
     ensures { λ r. ⌜ Measures r (through (browseStep kind) (now (text .entry))) ⌝ }

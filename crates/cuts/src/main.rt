@@ -19,7 +19,7 @@ struct Given {
     place: usize,
 }
 
-// Nothing is given.
+// Returns the state of a text of which nothing is given yet.
 fn nothing() -> Given {
     let state = lintelrye::script_raw_start();
     Given {
@@ -31,7 +31,7 @@ fn nothing() -> Given {
     }
 }
 
-// What is given after a call. A passed call whose `same` is not 0 is not counted, so that the text will be found to differ.
+// Returns what is given after a call. A passed call whose `same` is not 0 is not counted, so that the text will be found to differ.
 fn after(given: Given, part: RawPart) -> Given {
     let state = part.state;
     let answer = part.answer;
@@ -54,7 +54,7 @@ fn after(given: Given, part: RawPart) -> Given {
     }
 }
 
-// Gives a part.
+// Gives a part to the encoder, whose result goes behind those before it.
 fn give(given: Given, text: &[u8], joined: &mut [u8]) -> Given {
     let at = given.length;
     if given.status != lintelrye::PASSED || joined.len() < at {
@@ -67,7 +67,7 @@ fn give(given: Given, text: &[u8], joined: &mut [u8]) -> Given {
     )
 }
 
-// Ends the text.
+// Ends the text: makes the finish call.
 fn end(given: Given, joined: &mut [u8]) -> Given {
     let at = given.length;
     if given.status != lintelrye::PASSED || joined.len() < at {
@@ -80,7 +80,7 @@ fn end(given: Given, joined: &mut [u8]) -> Given {
     )
 }
 
-// Whether what was given in parts, and is written in `joined`, is what one encode answers, and writes in `whole`.
+// Reports whether the parts together, written in `joined`, are what one encode answers, and writes in `whole`.
 fn is_one_encode(given: Given, joined: &[u8], answer: Answer, whole: &[u8]) -> bool {
     if given.status != answer.status || given.place != answer.place {
         return false;
@@ -98,7 +98,7 @@ fn is_one_encode(given: Given, joined: &[u8], answer: Answer, whole: &[u8]) -> b
     check::same(&joined[..length], &whole[..length])
 }
 
-// Whether a text in three parts, cut at `a` and `b`, does what one encode does.
+// Reports whether a text in three parts, cut at `a` and `b`, gives what one encode gives.
 fn in_three(text: &[u8], a: usize, b: usize, answer: Answer, whole: &[u8]) -> bool {
     if b < a || text.len() < b {
         return false;
@@ -111,7 +111,7 @@ fn in_three(text: &[u8], a: usize, b: usize, answer: Answer, whole: &[u8]) -> bo
     is_one_encode(given, &joined, answer, whole)
 }
 
-// Whether it does so in two parts, cut at `a`.
+// Reports the same of two parts, cut at `a`.
 fn in_two(text: &[u8], a: usize, answer: Answer, whole: &[u8]) -> bool {
     if text.len() < a {
         return false;
@@ -123,7 +123,7 @@ fn in_two(text: &[u8], a: usize, answer: Answer, whole: &[u8]) -> bool {
     is_one_encode(given, &joined, answer, whole)
 }
 
-// Whether it does so byte by byte.
+// Reports the same of parts of one byte each.
 fn in_bytes(text: &[u8], answer: Answer, whole: &[u8]) -> bool {
     let mut joined: [u8; ROOM] = [0; ROOM];
     let mut given = nothing();
@@ -141,7 +141,7 @@ struct Tally {
     differ: u64,
 }
 
-// One way more.
+// Counts one way more, and whether it was right.
 fn count(tally: Tally, right: bool) -> Tally {
     let ways = std::num::wrapping_add_u64(tally.ways, 1);
     if right {
@@ -156,7 +156,7 @@ fn count(tally: Tally, right: bool) -> Tally {
     }
 }
 
-// Every second cut after the first one at `a`.
+// Tries every second cut after the first one at `a`.
 fn from_first_cut(text: &[u8], a: usize, answer: Answer, whole: &[u8], tally: Tally) -> Tally {
     let mut all = count(tally, in_two(text, a, answer, whole));
     let mut b = a;
@@ -167,7 +167,7 @@ fn from_first_cut(text: &[u8], a: usize, answer: Answer, whole: &[u8], tally: Ta
     all
 }
 
-// Every cut of a text, and byte by byte.
+// Tries every cut of a text, and byte by byte.
 fn every_cut(text: &[u8], answer: Answer, whole: &[u8]) -> Tally {
     let none = Tally { ways: 0, differ: 0 };
     let mut all = count(none, in_bytes(text, answer, whole));
@@ -194,7 +194,7 @@ fn try_text(text: &[u8]) {
     io::write_all(STDOUT_FILENO, b"\n");
 }
 
-// Comments, and what only begins one.
+// Tries comments, and what only begins one.
 fn comments() {
     try_text(b"");
     try_text(b"<");
@@ -212,7 +212,7 @@ fn comments() {
     try_text(b"<!\xe2\x80\x93-");
 }
 
-// End tags, and what only begins one.
+// Tries end tags, and what only begins one.
 fn end_tags() {
     try_text(b"</");
     try_text(b"</s");
@@ -240,7 +240,7 @@ fn end_tags() {
     try_text(b"</ script></script");
 }
 
-// Characters of each length, whole, cut short and wrong.
+// Tries characters of each length, whole, cut short and wrong.
 fn characters() {
     try_text(b"\x00\x7f");
     try_text(b"\xc2\x80\xdf\xbf");
@@ -262,7 +262,7 @@ fn characters() {
     try_text(b"\xe2\x82\xe2\x82\xac");
 }
 
-// Scripts, longer than a block of sixteen bytes.
+// Tries scripts that are longer than a block of sixteen bytes.
 fn scripts() {
     try_text(b"if (a < b && c > d) { e(); }");
     try_text(b"document.write('<script></script>');");

@@ -17,7 +17,7 @@ pub fn value_length(value: DecodedEntityValue) -> usize
     }
 }
 
-// Writes a value to the start of `output` and returns its length; what lies past it keeps its values.
+// Writes a value to the start of `output` and returns its length; the bytes after it keep their values.
 pub fn put_value(value: DecodedEntityValue, output: &mut [u8]) -> usize
     requires { ⌜ Real value × (length (valueBytes value) ≤ length (now output)) ⌝ }
     ensures { λ r. ⌜ (r ≡ length (valueBytes value)) × (now (output .exit) ≡ over (valueBytes value) (now (output .entry))) ⌝ }

@@ -49,8 +49,8 @@ fn length_if(test: bool, size: usize) -> usize
     0
 }
 
-// Returns the length of the reference at `start` if it is `&lt;`, `&gt;` or `&amp;`, else 0. These are what every encoder writes; they are found
-// without the end of the body and the table, and by a sum, so that dense text costs no wrongly guessed branch.
+// Returns the length of the reference at `start` if it is `&lt;`, `&gt;` or `&amp;`, the most frequent ones, else 0. It searches neither the `;` nor the
+// table, and adds two products of tests instead of branching, so that text full of references costs no wrongly guessed branch.
 fn known_length(text: &[u8], start: usize) -> usize
     requires { ⌜ start ≤ length (now text) ⌝ }
     ensures { λ r. ⌜ Known (now (text .entry)) start r ⌝ }
@@ -174,7 +174,7 @@ fn find_body(text: &[u8], start: usize) -> Reference
     })
 }
 
-// Reads the reference that begins with the `&` at `start`, or tells why it stays: then the `&` is copied.
+// Reads the reference that begins with the `&` at `start`; or returns why it is left as it is, and then the `&` is copied.
 pub fn find_decoded_entity(text: &[u8], start: usize) -> Reference
     requires { ⌜ (start < length (now text)) × (getD (now text) start 0 ≡ 38) ⌝ }
     ensures { λ r. ⌜ Reads referenceStep (now (text .entry)) start r ⌝ }

@@ -17,14 +17,14 @@ pub mod entity;
 use rules::Measured;
 use rules::Reference;
 
-// Returns what was noted of the first reference that stays, or else what is to be noted.
+// Returns the place or reason of the first reference that is left: `noted` if there is one already, else `new`.
 fn kept(reason: usize, noted: usize, new: usize) -> usize
     ensures { λ r. ⌜ r ≡ cond (eqb reason 0) new noted ⌝ }
 {
     if reason == 0 { new } else { noted }
 }
 
-// Measures the decoding of a text. Bytes before the next `&` are skipped together; a reference counts as the bytes of its value.
+// Measures the result of decode without writing it. Bytes before the next `&` are skipped together; a reference counts as the bytes of its value.
 pub fn measure(text: &[u8]) -> Measured
     requires { ⌜ length (now text) ≤ 65536 ⌝ }
     ensures { λ r. ⌜ Measures r (through referenceStep (now (text .entry))) ⌝ }
@@ -63,7 +63,7 @@ pub fn measure(text: &[u8]) -> Measured
     }
 }
 
-// Writes the decoding of a text to the start of `output` and returns what `measure` does; what lies past it keeps its values.
+// Writes the result of decode to the start of `output` and returns what `measure` does; the bytes after it keep their values.
 pub fn write(text: &[u8], output: &mut [u8]) -> Measured
     requires { ⌜ length (result (through referenceStep (now text))) ≤ length (now output) ⌝ }
     ensures { λ r. ⌜ Measures r (through referenceStep (now (text .entry))) ⌝ }

@@ -27,8 +27,8 @@ fn short_bits(b: u8) -> u64
     }
 }
 
-// Whether a backslash and this byte are an escape. One test of a bit settles all eight, where a `match` compiles to branches that are often guessed
-// wrong.
+// Reports whether a backslash and this byte are an escape. One test of a bit settles all eight, where a `match` compiles to branches that are often
+// guessed wrong.
 fn is_short(b: u8) -> bool
     ensures { λ r. ⌜ r ≡ ltb 0 (shortOf b) ⌝ }
 {
@@ -107,21 +107,21 @@ fn unicode(rest: &[u8]) -> u32
     number(rest)
 }
 
-// Whether a number is the first half of a surrogate pair.
+// Reports whether a number is the first half of a surrogate pair.
 fn is_high(n: u32) -> bool
     ensures { λ r. ⌜ r ≡ inside highs n ⌝ }
 {
     (0xD800 <= n) & (n <= 0xDBFF)
 }
 
-// Whether a number is the second half.
+// Reports whether a number is the second half of a surrogate pair.
 fn is_low(n: u32) -> bool
     ensures { λ r. ⌜ r ≡ inside lows n ⌝ }
 {
     (0xDC00 <= n) & (n <= 0xDFFF)
 }
 
-// Whether a number is a character of its own: there is one, and it is no half.
+// Reports whether a number is that of a character: not `NONE`, and no half of a surrogate pair.
 pub fn is_single(n: u32) -> bool
     ensures { λ r. ⌜ r ≡ single n ⌝ }
 {
@@ -151,7 +151,7 @@ pub fn read_surrogates(n: u32, rest: &[u8]) -> Escape
     Escape::Nothing
 }
 
-// Whether half a surrogate pair stands alone at the start of `rest`.
+// Reports whether half a surrogate pair stands alone at the start of `rest`.
 pub fn begins_lone(rest: &[u8]) -> bool
     ensures { λ r. ⌜ r ≡ eqb (why (jsonStep 0 (now (rest .entry)))) 10 ⌝ }
 {

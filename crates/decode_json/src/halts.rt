@@ -13,7 +13,7 @@ ghost use Rattle.decode_json.specs.Escapes.{haltAt, Room};
 // How many bytes `put_until` looks at one by one before it takes sixteen at a time.
 const NEAR: usize = 24;
 
-// Whether a byte may not stand by itself.
+// Reports whether a byte may not stand by itself in a JSON string.
 fn is_halt(b: u8) -> bool
     ensures { λ r. ⌜ r ≡ oneOf escapedOnly b ⌝ }
 {

@@ -122,7 +122,7 @@ pub fn write(text: &[u8], output: &mut [u8]) -> Measured
     }
 }
 
-// Whether decode stops at the start of `rest` because half a surrogate pair stands alone there.
+// Reports whether decode stops at the start of `rest` because half a surrogate pair stands alone there.
 pub fn is_lone(rest: &[u8]) -> bool
     ensures { λ r. ⌜ r ≡ eqb (why (jsonStep 0 (now (rest .entry)))) 10 ⌝ }
 {

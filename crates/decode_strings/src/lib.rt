@@ -20,7 +20,7 @@ use rules::Quotes;
 pub mod digits;
 pub mod rows;
 
-// Whether `rest` starts with `\/`, the name of the element and a terminator.
+// Reports whether `rest` starts with `\/`, the name of the element and a terminator.
 fn closes_element(language: Language, rest: &[u8]) -> bool
     ensures { λ r. ⌜ r ≡ closes (ascii "\\/" ++ nameOf language) (now (rest .entry)) ⌝ }
 {

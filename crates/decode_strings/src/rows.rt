@@ -9,7 +9,7 @@ use rules::Escape;
 use rules::Language;
 use rules::Quotes;
 
-// Whether a byte is the backslash or a quote. A match on constants compiles to one test of a set, without a branch for each.
+// Reports whether a byte is the backslash or a quote. A match on constants compiles to one test of a set, without a branch for each.
 fn is_mark(b: u8) -> bool
     ensures { λ r. ⌜ r ≡ oneOf (ascii "\\'\"") b ⌝ }
 {
@@ -32,7 +32,7 @@ fn plain_quote(quotes: Quotes) -> u8
     }
 }
 
-// Whether the string writes the byte with a backslash before it.
+// Reports whether the string writes the byte with a backslash before it.
 pub fn is_slashed(quotes: Quotes, b: u8) -> bool
     ensures { λ r. ⌜ r ≡ oneOf (slashedBytes quotes) b ⌝ }
 {
@@ -81,7 +81,7 @@ fn hex_escape(language: Language, rest: &[u8]) -> u32
     }
 }
 
-// Whether the string writes the byte of this value as a hex escape.
+// Reports whether the string writes the byte of this value as a hex escape.
 pub fn is_hexed(language: Language, v: u32) -> bool
     ensures { λ r. ⌜ r ≡ isHexed language v ⌝ }
 {

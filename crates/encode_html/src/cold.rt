@@ -1,4 +1,4 @@
-// Whether sixteen bytes can be copied since none of them is replaced. A byte is compared by xor, which is 0 where it is the key, and the least of all the
+// Reports whether sixteen bytes can be copied since none of them is replaced. A byte is compared by xor, which is 0 where it is the key, and the least of all the
 // outcomes is kept: two vector instructions for each key. A test that is true or false for each byte and key is not compiled so,
 // nor is one that has a branch, even if it is the same for every byte.
 use super::look::Keys;

@@ -15,7 +15,7 @@ ghost use Rattle.encode_raw.specs.Cuts.{suspect, cutAt};
 // The bytes that are tested together: one vector.
 const BLOCK: usize = 16;
 
-// Reports whether a backslash goes in between a `<` and the bytes that follow it.
+// Reports whether a backslash has to go between a `<` and the bytes that follow it.
 fn is_parted(rest: &[u8]) -> bool
     ensures { λ r. ⌜ r ≡ parted (now (rest .entry)) ⌝ }
 {
@@ -81,7 +81,7 @@ fn next_cut(text: &[u8], from: usize, end: usize) -> usize
     i
 }
 
-// Returns the length of what is written for the first `end` bytes of a text: what follows them counts.
+// Returns the length of the encoding of the first `end` bytes of a text. What follows them is looked at: it decides about a `<` near the end.
 pub fn measure_to(text: &[u8], end: usize) -> usize
     requires { ⌜ (length (now text) ≤ 65536) × (end ≤ length (now text)) ⌝ }
     ensures { λ r. ⌜ r ≡ length (result (take end (through rawStep (now (text .entry))))) ⌝ }
@@ -108,7 +108,7 @@ pub fn measure(text: &[u8]) -> usize
     measure_to(text, text.len())
 }
 
-// Writes what is written for the first `end` bytes of a text to the start of `output` and returns its length; what lies past it keeps its values.
+// Writes the encoding of the first `end` bytes of a text to the start of `output` and returns its length; the bytes after it keep their values.
 pub fn write_to(text: &[u8], end: usize, output: &mut [u8]) -> usize
     requires { ⌜ (end ≤ length (now text)) × (length (result (take end (through rawStep (now text)))) ≤ length (now output)) ⌝ }
     ensures { λ r. ⌜ (r ≡ length (result (take end (through rawStep (now (text .entry)))))) × (now (output .exit) ≡ over (result (take end (through rawStep (now (text .entry))))) (now (output .entry))) ⌝ }
@@ -138,7 +138,7 @@ pub fn write_with(clear: bool, text: &[u8], end: usize, output: &mut [u8]) -> us
     write_to(text, end, output)
 }
 
-// Writes the encoding of a text to the start of `output` and returns its length; what lies past it keeps its values.
+// Writes the encoding of a text to the start of `output` and returns its length; the bytes after it keep their values.
 pub fn write(text: &[u8], output: &mut [u8]) -> usize
     requires { ⌜ length (rawOf (now text)) ≤ length (now output) ⌝ }
     ensures { λ r. ⌜ (r ≡ length (rawOf (now (text .entry)))) × (now (output .exit) ≡ over (rawOf (now (text .entry))) (now (output .entry))) ⌝ }

@@ -21,7 +21,7 @@ ghost use Rattle.rules.specs.declared.Replaced.the-variants.{By, Nothing};
 ghost use Rattle.rules.specs.declared.Replacement.the-variants.{Slashed};
 ghost use Rattle.encode_strings.specs.Strings.{separates, takenBy, Held, HeldAt, hexIn, endsOf};
 
-// Whether the two bytes after E2 make it a line separator, U+2028 or U+2029.
+// Reports whether the two bytes after E2 make it a line separator, U+2028 or U+2029.
 pub fn ends_separator(b: u8, c: u8) -> bool
     ensures { λ r. ⌜ r ≡ endsOf b c ⌝ }
 {

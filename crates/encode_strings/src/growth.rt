@@ -88,7 +88,7 @@ pub fn count(notation: Notation, quotes: Quotes, part: &[u8]) -> Tally
     weigh(single, double, rule::SEPARATOR_LEAD, part)
 }
 
-// Whether a part that was counted is copied, since nothing of it is replaced.
+// Reports whether a part that was counted is copied, since nothing of it is replaced.
 pub fn is_copied(notation: Notation, quotes: Quotes, found: Tally, part: &[u8]) -> bool
     requires { ⌜ (length (now part) ≤ 64) × Counted notation quotes (now part) (found .escaped) (found .hexed) (found .odd) ⌝ }
     ensures { λ r. ⌜ r ≡ eqb (replaced (through (encodeStep (writtenIn notation quotes)) (now (part .entry)))) 0 ⌝ }

@@ -59,7 +59,7 @@ pub fn measure(notation: Notation, quotes: Quotes, text: &[u8]) -> Measured
     }
 }
 
-// Does the same as `write` for a short part. One of which nothing is replaced is copied.
+// Writes as `write` does, for a short part. One of which nothing is replaced is copied.
 fn write_part(notation: Notation, quotes: Quotes, part: &[u8], output: &mut [u8]) -> Measured
     requires { ⌜ (length (now part) ≤ 64) × (length (encodeOf (writtenIn notation quotes) (now part)) ≤ length (now output)) ⌝ }
     ensures { λ r. ⌜ Measures r (through (encodeStep (writtenIn notation quotes)) (now (part .entry))) × (now (output .exit) ≡ over (encodeOf (writtenIn notation quotes) (now (part .entry))) (now (output .entry))) ⌝ }

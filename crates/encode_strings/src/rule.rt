@@ -19,7 +19,7 @@ fn quotes_in(notation: Notation, quotes: Quotes) -> Quotes
     }
 }
 
-// Whether a string escapes the line separators: not in a style sheet.
+// Reports whether a string escapes the line separators: not in a style sheet.
 pub fn separates(notation: Notation) -> bool
     ensures { λ r. ⌜ r ≡ separatesIn notation ⌝ }
 {
@@ -66,14 +66,14 @@ pub fn double_key(notation: Notation, quotes: Quotes) -> u8
     double_of(quotes_in(notation, quotes))
 }
 
-// Whether the byte is escaped by a backslash before it: the backslash itself, and the quotes of `single_key` and `double_key`.
+// Reports whether the byte is escaped by a backslash before it: the backslash itself, and the quotes of `single_key` and `double_key`.
 pub fn is_slashed(single: u8, double: u8, b: u8) -> bool
     ensures { λ r. ⌜ r ≡ isSlashed single double b ⌝ }
 {
     (b == b'\\') | (b == single) | (b == double)
 }
 
-// Whether the byte is escaped by its hex digits: bytes 0 to 31 and `<`.
+// Reports whether the byte is escaped by its hex digits: bytes 0 to 31 and `<`.
 pub fn is_hexed(b: u8) -> bool
     ensures { λ r. ⌜ r ≡ isHexed b ⌝ }
 {

@@ -21,7 +21,7 @@ fn print_answer(answer: Answer) {
     print_number(answer.reason);
 }
 
-// The byte as a number.
+// Returns a byte as a wide number.
 fn wide(b: u8) -> u64 {
     b as u64
 }
@@ -48,7 +48,7 @@ fn show(example: usize, operation: Operation, context: u32, text: &[u8], output:
     print_bytes(lintelrye::view(text, output, copied));
 }
 
-// Example 15: 65,536 letters pass, 65,537 give TOO_LONG. Prints the two answers.
+// Runs example 15, 65,536 letters, which pass, and 65,537, which are TOO_LONG, and prints the two answers.
 fn long_texts() {
     let letters = [b'a'; 65537];
     let mut output: [u8; 65536] = [0; 65536];
@@ -72,7 +72,7 @@ fn decoded(example: usize, context: u32, text: &[u8]) {
     show(example, Operation::Decode, context, text, &mut output);
 }
 
-// Examples 1 to 7: what the encoders write.
+// Runs examples 1 to 7: what the encoders write.
 fn encoders() {
     encoded(1, lintelrye::TEXT_MINIMAL, b"a<b>&");
     encoded(2, lintelrye::SAFE, b"'/\"");
@@ -85,7 +85,7 @@ fn encoders() {
     encoded(7, lintelrye::SCRIPT_RAW, b"</scripts>");
 }
 
-// Examples 8 and 9: decode of references.
+// Runs examples 8 and 9: decode of references.
 fn references() {
     decoded(8, lintelrye::TEXT, b"&&lt;");
     decoded(8, lintelrye::TEXT, b"&amp;lt;");
@@ -97,7 +97,7 @@ fn references() {
     decoded(9, lintelrye::TEXT, b"&#4294967296;");
 }
 
-// Examples 10, 11 and 13: decode of string escapes.
+// Runs examples 10, 11 and 13: decode of string escapes.
 fn escapes() {
     decoded(10, lintelrye::SCRIPT_QUOTED, b"\\\\x3C");
     decoded(10, lintelrye::SCRIPT_QUOTED, b"\\x3c");
@@ -109,7 +109,7 @@ fn escapes() {
     decoded(13, lintelrye::SCRIPT_QUOTED, b"<\\/script");
 }
 
-// Examples 12, 14, 15 and 16: places, and outputs that are too short or just long enough.
+// Runs examples 12, 14, 15 and 16: places, and outputs that are too short or just long enough.
 fn refusals() {
     let mut of_64: [u8; 64] = [0; 64];
     let mut of_5: [u8; 5] = [0; 5];
@@ -135,7 +135,7 @@ fn refusals() {
     show(16, Operation::Encode, lintelrye::TEXT, b"<", &mut of_4);
 }
 
-// Examples 17 and 18: browse, and the empty text in each operation.
+// Runs examples 17 and 18: browse, and the empty text in each operation.
 fn others() {
     let mut of_64: [u8; 64] = [0; 64];
     show(17, Operation::Browse, lintelrye::TEXT, b"&#0;", &mut of_64);

@@ -32,7 +32,7 @@ pub const OPERATION_NAMES: [u8; 26] = *b"\
     read\n\
     browse\n";
 
-// The operation of a number, its place among the names; any other number gives the last.
+// Returns the operation of a number, which is its place among the names; any other number gives the last.
 pub fn operation_of(number: u32) -> Operation
     ensures { λ r. ⌜ r ≡ getD operationNames number (label [] Browse) .names ⌝ }
 {

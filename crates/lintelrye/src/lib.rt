@@ -120,7 +120,7 @@ pub fn encode(context: u32, text: &[u8], output: &mut [u8]) -> Answer
     call(Operation::Encode, context, false, text, output)
 }
 
-// encode as a borrowing call.
+// Escapes as `encode` does, as a borrowing call: where nothing is replaced it writes nothing and needs no room.
 pub fn encode_borrowing(context: u32, text: &[u8], output: &mut [u8]) -> Answer
     ensures { λ r. ⌜ Allowed Encode (contextOf context) true (now (text .entry)) (now (output .entry)) r (now (output .exit)) ⌝ }
 {
@@ -135,14 +135,14 @@ pub fn decode(context: u32, text: &[u8], output: &mut [u8]) -> Answer
     call(Operation::Decode, context, false, text, output)
 }
 
-// decode as a borrowing call.
+// Undoes replacements as `decode` does, as a borrowing call.
 pub fn decode_borrowing(context: u32, text: &[u8], output: &mut [u8]) -> Answer
     ensures { λ r. ⌜ Allowed Decode (contextOf context) true (now (text .entry)) (now (output .entry)) r (now (output .exit)) ⌝ }
 {
     call(Operation::Decode, context, true, text, output)
 }
 
-// What is left of a taking call's answer for a caller without an output: instead of NO_ROOM it passes.
+// Returns what of an answer of `take` a caller without an output can use: its status, length and place; NO_ROOM passes.
 fn without_output(answer: Answer) -> Checked
     ensures { λ r. ⌜ r ≡ checked answer ⌝ }
 {
@@ -175,7 +175,7 @@ pub fn take(context: u32, text: &[u8], output: &mut [u8]) -> Answer
     call(Operation::Read, context, false, text, output)
 }
 
-// take as a borrowing call.
+// Undoes what encode writes as `take` does, as a borrowing call.
 pub fn take_borrowing(context: u32, text: &[u8], output: &mut [u8]) -> Answer
     ensures { λ r. ⌜ Allowed Read (contextOf context) true (now (text .entry)) (now (output .entry)) r (now (output .exit)) ⌝ }
 {
@@ -191,7 +191,7 @@ pub fn browse(context: u32, text: &[u8], output: &mut [u8]) -> Answer
     call(Operation::Browse, context, false, text, output)
 }
 
-// browse as a borrowing call.
+// Undoes character references as `browse` does, as a borrowing call.
 pub fn browse_borrowing(context: u32, text: &[u8], output: &mut [u8]) -> Answer
     ensures { λ r. ⌜ Allowed Browse (contextOf context) true (now (text .entry)) (now (output .entry)) r (now (output .exit)) ⌝ }
 {

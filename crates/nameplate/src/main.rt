@@ -36,6 +36,7 @@ fn print_plate(name: &[u8]) {
     io::write_all(STDOUT_FILENO, b"</p>\n");
 }
 
+// Prints the plates of two names, and of a third that is cut within a character.
 fn main() {
     print_plate(b"Mum & Dad's");
     print_plate(b"The \"den\" <attic>");

@@ -28,7 +28,7 @@ pub struct Turned {
     pub field: Field,
 }
 
-// How a page of so many records begins: refused at once above the limit, else as if all of them passed.
+// Returns the answer of a page of so many records before the first is encoded: TOO_LONG above the limit, else as if all of them passed.
 fn begin(count: usize) -> Filled
     ensures { λ r. ⌜ r ≡ begun count ⌝ }
 {
@@ -54,7 +54,7 @@ fn in_text(text: &[u8], field: Field) -> bool
     field.length <= text.len() - field.start
 }
 
-// The refusal of a record whose part leaves the text: a context that encode does not have goes first.
+// Returns the refusal of a record whose part leaves the text: BAD_CONTEXT where encode has no such context, else BAD_RANGE.
 fn outside(context: u32) -> Answer
     ensures { λ r. ⌜ r ≡ outsideBy context ⌝ }
 {
@@ -64,7 +64,7 @@ fn outside(context: u32) -> Answer
     frame::refusal(BAD_CONTEXT, 0, 0)
 }
 
-// The call of one record, into the part of the output that is free.
+// Encodes the part of one record into what is free of the output.
 fn single(text: &[u8], field: Field, free: &mut [u8]) -> Answer
     ensures { λ r. ⌜ (r ≡ singleOf (now (text .entry)) field (now (free .entry))) × (now (free .exit) ≡ leaves (now (text .entry)) field (now (free .entry))) ⌝ }
 {
@@ -82,7 +82,7 @@ fn single(text: &[u8], field: Field, free: &mut [u8]) -> Answer
     outside(field.context)
 }
 
-// A record with its answer and where its result begins.
+// Returns a record with its answer and where its result begins.
 fn answered(field: Field, begins: usize, answer: Answer) -> Field
     ensures { λ r. ⌜ r ≡ answeredAt field begins answer ⌝ }
 {
@@ -115,8 +115,8 @@ fn either(first: bool, a: usize, b: usize) -> usize
     b
 }
 
-// One turn: after a refusal nothing; else the record's call behind the results so far, which end at `end`. A refusal is the page's answer, and as many
-// records passed as there are in front.
+// Encodes one record behind the results so far, which end at `end`; after a refusal it does nothing. A refusal of this record becomes the page's answer,
+// and as many records passed as there are in front.
 fn turn(
     output: &mut [u8],
     filled: Filled,
@@ -165,7 +165,7 @@ pub fn fill_page(fields: &mut [Field], text: &[u8], output: &mut [u8]) -> Filled
     filled
 }
 
-// The record of a context and of the numbers that stand at the start of `numbers`.
+// Returns the record of a context and of the numbers at the start of `numbers`.
 fn read_field(context: u32, numbers: &[usize]) -> Field
     requires { ⌜ fieldSize ≤ length (now numbers) ⌝ }
     ensures { λ r. ⌜ r ≡ fieldAs context (now (numbers .entry)) ⌝ }

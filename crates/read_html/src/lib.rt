@@ -32,7 +32,7 @@ const MEDIUM: usize = 4096;
 // The offsets that are kept: of a text that has more units, `&` is searched again from there on.
 const FEW: usize = 64;
 
-const MANY: usize = 1024;
+const MANY: usize = 640;
 
 // Reads a text that has none of the replaced bytes but `&`, with a list for offsets.
 fn read_with(h: Html, places: &mut [u16], text: &[u8], output: &mut [u8]) -> Outcome

@@ -64,7 +64,7 @@ pub fn leads_of(c: Context) -> [u8; 8]
     }
 }
 
-// Whether the byte starts a replaced character. Its only branch is the same for every byte, so that a loop over it compiles to vector code.
+// Reports whether the byte starts a replaced character. Its only branch is the same for every byte, so that a loop over it compiles to vector code.
 fn is_lead(leads: &[u8; 8], b: u8) -> bool
     ensures { λ r. ⌜ r ≡ isLead (now (leads .entry)) b ⌝ }
 {
@@ -162,7 +162,7 @@ pub fn set_of(c: Context) -> [u64; 4]
     }
 }
 
-// Whether the byte is in the set: quicker for one byte, as `is_lead` is for many at once.
+// Reports whether the byte is in the set: quicker for one byte, as `is_lead` is for many at once.
 pub fn is_in(set: &[u64; 4], b: u8) -> bool
     ensures { λ r. ⌜ r ≡ inSet (now (set .entry)) b ⌝ }
 {
@@ -239,7 +239,7 @@ fn find(leads: &[u8; 8], set: &[u64; 4], text: &[u8], from: usize) -> usize
     walk(set, text, pass(leads, text, near), text.len())
 }
 
-// Whether `rest` starts with another byte than E2, or with U+2028 or U+2029.
+// Reports whether `rest` starts with another byte than E2, or with U+2028 or U+2029.
 fn is_whole(rest: &[u8]) -> bool
     requires { ⌜ 0 < length (now rest) ⌝ }
     ensures { λ r. ⌜ r ≡ isWhole (now (rest .entry)) ⌝ }

@@ -23,7 +23,7 @@ use rules::Html;
 use rules::Language;
 use rules::Quotes;
 
-// Whether the byte has a named reference in `unquoted`.
+// Reports whether the byte has a named reference in `unquoted`.
 fn is_named(b: u8) -> bool
     ensures { λ r. ⌜ r ≡ oneOf (ascii "&<>\"") b ⌝ }
 {
@@ -39,7 +39,7 @@ fn is_named(b: u8) -> bool
     b == b'"'
 }
 
-// Whether `unquoted` writes the byte of this value as `&#xHH;`.
+// Reports whether `unquoted` writes the byte of this value as `&#xHH;`.
 fn is_other(v: u32) -> bool
     ensures { λ r. ⌜ r ≡ isOther v ⌝ }
 {

@@ -31,6 +31,7 @@ fn print_report(text: &[u8]) {
     }
 }
 
+// Reads a text, prints its lines, and drops what follows it.
 fn main() {
     let mut input = [0u8; reports::ENOUGH];
     let came = pipes::read_into(&mut input);

@@ -11,6 +11,7 @@ fn print_reply(input: &[u8]) {
     pipes::write(&output[..n]);
 }
 
+// Reads a request, prints the reply, and drops what follows it.
 fn main() {
     let mut input = [0u8; repairs::ENOUGH];
     let came = pipes::read_into(&mut input);

@@ -45,14 +45,14 @@ pub struct Peeled {
     pub layers: usize,
 }
 
-// Whether the first `n` bytes of a request decide the reply, whatever follows them.
+// Reports whether the first `n` bytes of a request decide the reply, whatever follows them.
 pub fn is_enough(n: usize) -> bool
     ensures { λ r. ⌜ (r ≡ true → (s : List ℕ) → repairOf (take n s) ≡ repairOf s) ⌝ }
 {
     ENOUGH <= n
 }
 
-// Whether a context that has units is one of HTML.
+// Reports whether a context is one of HTML.
 fn is_html(context: Context) -> bool
     ensures { λ r. ⌜ r ≡ isHtml (Units context) ⌝ }
 {
@@ -65,7 +65,7 @@ fn is_html(context: Context) -> bool
     }
 }
 
-// Whether a number is that of an HTML context.
+// Reports whether a number is that of an HTML context.
 fn names_html(number: u32) -> bool
     ensures { λ r. ⌜ r ≡ isHtml (contextOf number) ⌝ }
 {

@@ -25,14 +25,14 @@ use replay_list::after;
 use replay_list::byte_at;
 use replay_list::read_number;
 
-// The state after a line that is malformed.
+// Returns the state after a line that is malformed.
 fn malformed(state: State) -> State {
     let mut after = state;
     after.right = false;
     after
 }
 
-// The state at the start of the next line, where a line ends at a place; malformed where none ends there.
+// Returns the state at the start of the next line, where a line ends at a place; malformed where none ends there.
 fn next_line(list: &[u8], state: State, end: usize) -> State {
     if byte_at(list, end) != b'\n' {
         return malformed(state);
@@ -43,12 +43,12 @@ fn next_line(list: &[u8], state: State, end: usize) -> State {
     next
 }
 
-// A remark.
+// Skips a remark.
 fn remark(list: &[u8], state: State) -> State {
     next_line(list, state, replay_list::line_end(list, state.at))
 }
 
-// A t line: the text goes into both buffers.
+// Reads a t line: the text goes into both buffers.
 fn text_line(list: &[u8], state: State, text: &mut [u8], result: &mut [u8]) -> State {
     let start = after(state.at);
     let read = replay_list::text(list, start, text);
@@ -62,7 +62,7 @@ fn text_line(list: &[u8], state: State, text: &mut [u8], result: &mut [u8]) -> S
     next_line(list, next, read.next)
 }
 
-// An r line.
+// Reads an r line: the result goes into its buffer.
 fn result_line(list: &[u8], state: State, result: &mut [u8]) -> State {
     let read = replay_list::text(list, after(state.at), result);
     if !read.right {
@@ -73,7 +73,7 @@ fn result_line(list: &[u8], state: State, result: &mut [u8]) -> State {
     next_line(list, next, read.next)
 }
 
-// The last line: its count must be that of the cases that ran, and nothing may follow it.
+// Reads the last line: its count must be that of the cases that ran, and nothing may follow it.
 fn end_line(list: &[u8], state: State, ran: u64) -> State {
     let start = replay_list::past_letters(list, state.at);
     let count = read_number(list, after(start));
@@ -102,7 +102,7 @@ fn operation_of(letter: u8) -> Letter {
     }
 }
 
-// The context of a letter: 0 for `a`, 1 for `b` and so on, and the largest number for `z`.
+// Returns the context of a letter: 0 for `a`, 1 for `b` and so on, and the largest number for `z`.
 fn context_of(letter: u8) -> u32 {
     if letter == b'z' || letter < b'a' {
         return 4294967295;
@@ -141,7 +141,7 @@ fn case_at(list: &[u8], letters: Letters) -> Asked {
     })
 }
 
-// The letters of the next case: the next kind; else the first kind in the next context; else the first of both in the next operation.
+// Returns the letters of the next case: the next kind; else the first kind in the next context; else the first of both in the next operation.
 fn next_case(list: &[u8], letters: Letters) -> Letters {
     let mut next = letters;
     next.kind = after(letters.kind);
@@ -320,7 +320,7 @@ fn replay(
     state
 }
 
-// Room for the list. The length is what lending a part of it asks for.
+// Returns room for the list. The length is what lending a part of it asks for.
 fn buffer() -> [u8; 2097152]
     ensures { λ r. ⌜ 2097152 ≡ length r ⌝ }
 {

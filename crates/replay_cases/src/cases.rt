@@ -38,7 +38,7 @@ pub enum Difference {
     Check,
 }
 
-// Whether nothing differs.
+// Reports whether nothing differs.
 pub fn is_nothing(difference: Difference) -> bool {
     match difference {
         Difference::Nothing => true,
@@ -46,13 +46,13 @@ pub fn is_nothing(difference: Difference) -> bool {
     }
 }
 
-// The call of a case.
+// Makes the call of a case.
 fn call(case: Case, text: &[u8], output: &mut [u8]) -> Answer {
     let operation = case.operation;
     lintelrye::call(operation, case.context, case.borrows, text, output)
 }
 
-// The byte that stands at a place of the output before a call: 248 to 255 by turns, none of which stands in valid UTF-8.
+// Returns the byte at a place of the output before a call: 248 to 255 by turns, none of which stands in valid UTF-8.
 fn pattern(at: usize) -> u8 {
     match at % 8 {
         0 => 248,
@@ -75,7 +75,7 @@ fn fill(output: &mut [u8], end: usize) {
     }
 }
 
-// Whether the output holds the pattern from a place up to another.
+// Reports whether the output holds the pattern from a place up to another.
 fn is_kept(output: &[u8], start: usize, end: usize) -> bool {
     let mut i = start;
     while i < output.len() && i < end {
@@ -87,7 +87,7 @@ fn is_kept(output: &[u8], start: usize, end: usize) -> bool {
     true
 }
 
-// Whether the first bytes of the output are those of the result.
+// Reports whether the first bytes of the output are those of the result.
 fn is_written(output: &[u8], result: &[u8], written: usize) -> bool {
     if output.len() < written {
         return false;
@@ -105,7 +105,7 @@ fn is_written(output: &[u8], result: &[u8], written: usize) -> bool {
     true
 }
 
-// Whether view gives the result where the call passed, and nothing where it refused.
+// Reports whether view gives the result where the call passed, and nothing where it refused.
 fn is_viewed<'a>(text: &'a [u8], result: &[u8], output: &'a [u8], answer: Answer) -> bool {
     let viewed = lintelrye::view(text, output, answer);
     if answer.status == lintelrye::PASSED {
@@ -114,7 +114,7 @@ fn is_viewed<'a>(text: &'a [u8], result: &[u8], output: &'a [u8], answer: Answer
     viewed.len() == 0
 }
 
-// Whether check, beside a call of read, says the same of the text: status, length and place, with 0 instead of NO_ROOM.
+// Reports whether check, beside a call of read, says the same of the text: status, length and place, with 0 instead of NO_ROOM.
 fn is_checked(case: Case, expected: Expected, text: &[u8]) -> bool {
     let operation = case.operation;
     let Operation::Read = operation else {
@@ -130,7 +130,7 @@ fn is_checked(case: Case, expected: Expected, text: &[u8]) -> bool {
     checked.status == expected.status
 }
 
-// The first of the seven numbers that differs.
+// Returns the first of the seven numbers that differs.
 fn of_numbers(answer: Answer, expected: Expected) -> Difference {
     if answer.status != expected.status {
         return Difference::Status;

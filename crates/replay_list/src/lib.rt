@@ -5,17 +5,17 @@
 //   \*N,B;   N bytes more, each equal to the one B bytes before it.
 ghost use Prim.Native.Nat.{_≤_};
 
-// The byte at a place, 0 past the end.
+// Returns the byte at a place, 0 past the end.
 pub fn byte_at(list: &[u8], at: usize) -> u8 {
     if at < list.len() { list[at] } else { 0 }
 }
 
-// The place after a place; it stays at 4,294,967,295, past the end of every list.
+// Returns the place after a place; it stays at 4,294,967,295, past the end of every list.
 pub fn after(at: usize) -> usize {
     if at < 4294967295 { at + 1 } else { at }
 }
 
-// The place of the first line end from a place on, or the end of the list.
+// Returns the place of the first line end from a place on, or the end of the list.
 pub fn line_end(list: &[u8], at: usize) -> usize {
     let mut i = at;
     while i < list.len() {
@@ -27,7 +27,7 @@ pub fn line_end(list: &[u8], at: usize) -> usize {
     i
 }
 
-// Whether a byte is a letter.
+// Reports whether a byte is a letter.
 fn is_letter(b: u8) -> bool {
     match b {
         b'A'..=b'Z' => true,
@@ -36,7 +36,7 @@ fn is_letter(b: u8) -> bool {
     }
 }
 
-// The place of the first byte from a place on that is no letter.
+// Returns the place of the first byte from a place on that is no letter.
 pub fn past_letters(list: &[u8], at: usize) -> usize {
     let mut i = at;
     while i < list.len() {
@@ -56,7 +56,7 @@ fn digit(b: u8) -> u8 {
     base::digit_value(b)
 }
 
-// The byte as a number.
+// Returns a byte as a number.
 fn size(b: u8) -> usize
     ensures { λ r. ⌜ r ≤ 255 ⌝ }
 {
@@ -99,7 +99,7 @@ pub struct Spelt {
     pub next: usize,
 }
 
-// A text that is not spelt right, or longer than the buffer.
+// Returns what is read of a text that is not spelt right, or longer than the buffer: nothing.
 fn wrong() -> Spelt {
     Spelt {
         right: false,

@@ -23,7 +23,7 @@ pub struct Line {
     pub next: usize,
 }
 
-// Whether the first `n` bytes of a text decide what is printed, whatever follows them.
+// Reports whether the first `n` bytes of a text decide what is printed, whatever follows them.
 pub fn is_enough(n: usize) -> bool
     ensures { λ r. ⌜ (r ≡ true → (s : List ℕ) → reasonsOf (take n s) ≡ reasonsOf s) ⌝ }
 {

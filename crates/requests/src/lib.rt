@@ -35,7 +35,7 @@ const HEADER_LIMIT: usize = 10 + 22 + 5;
 // How much of a request has to be read: the longest header, the longest text, and a byte more, which makes the text too long.
 pub const ENOUGH: usize = HEADER_LIMIT + TEXT_LIMIT + 1;
 
-// Whether the first `n` bytes of a request decide the reply, whatever follows them.
+// Reports whether the first `n` bytes of a request decide the reply, whatever follows them.
 pub fn is_enough(n: usize) -> bool
     ensures { λ r. ⌜ (r ≡ true → (s : List ℕ) → entityOf (take n s) ≡ entityOf s) ⌝ }
 {

@@ -31,7 +31,7 @@ fn line_end(names: &[u8], start: usize) -> usize
     i
 }
 
-// Whether `text` begins with `field` and `name`.
+// Reports whether `text` begins with `field` and `name`.
 fn is_line(field: &[u8], name: &[u8], text: &[u8]) -> bool
     ensures { λ r. ⌜ r ≡ stands (now (field .entry) ++ now (name .entry)) (now (text .entry)) ⌝ }
 {

@@ -80,8 +80,8 @@ fn dash_of(mode: ScriptMode) -> u8
     }
 }
 
-// Returns 0 if the mode may change, or the element end, at three bytes. A byte is compared by xor, which is 0 where it is the other; of several outcomes
-// the least is 0 if one is, and all their bits together if all are. Such a loop compiles to vector code, one over tests that are true or false not everywhere.
+// Returns 0 if the mode may change, or the element end, at three bytes. Bytes are compared by xor, which is 0 for equal ones: the minimum of several is 0 if
+// one of them is, their `or` if all are. A loop over such numbers compiles to vector code on every processor; one over booleans does not.
 fn far(letter: u8, dash: u8, a: u8, b: u8, c: u8) -> u8
     ensures { λ r. ⌜ (0 < r → mark letter dash a b c ≡ false) ⌝ }
 {
@@ -89,7 +89,7 @@ fn far(letter: u8, dash: u8, a: u8, b: u8, c: u8) -> u8
     low((a ^ b'<') | next, (a ^ dash) | (b ^ b'-') | (c ^ b'>'))
 }
 
-// Reports whether that is so at a byte of the block at `at`. The loop has no early exit, so that it becomes vector code.
+// Reports whether the mode may change, or the element end, within the block at `at`. The loop has no early exit, so that it becomes vector code.
 fn has_mark(text: &[u8], at: usize, letter: u8, dash: u8) -> bool
     requires { ⌜ at + 18 ≤ length (now text) ⌝ }
     ensures { λ r. ⌜ (r ≡ false → Free (markAt letter dash (now (text .entry))) at (at + 16)) ⌝ }

@@ -19,7 +19,7 @@ use rules::RawState;
 // The most bytes that are held.
 const HELD: usize = 8;
 
-// A refusal by its three numbers; the other numbers are 0.
+// Returns a refusal by its three numbers; the other numbers are 0.
 fn refusal(status: usize, length: usize, place: usize) -> Answer
     ensures { λ r. ⌜ r ≡ refusalOf status length place ⌝ }
 {
@@ -34,7 +34,7 @@ fn refusal(status: usize, length: usize, place: usize) -> Answer
     }
 }
 
-// The answer of a call that passed, by how many bytes it wrote and how many backslashes are among them; `same` is 0.
+// Returns the answer of a call that passed, by how many bytes it wrote and how many backslashes are among them; `same` is 0.
 fn passed(length: usize, replaced: usize) -> Answer
     ensures { λ r. ⌜ r ≡ partSuccess length replaced ⌝ }
 {
@@ -49,7 +49,7 @@ fn passed(length: usize, replaced: usize) -> Answer
     }
 }
 
-// Whether `rest` is the start of `name` or all of it, its letters in either case: the start of a pattern that goes on behind `name`.
+// Reports whether `rest` is the start of `name` or all of it, its letters in either case: the start of a pattern that goes on behind `name`.
 fn opens_name(name: &[u8], rest: &[u8]) -> bool
     ensures { λ r. ⌜ r ≡ opensName (now (name .entry)) (now (rest .entry)) ⌝ }
 {
@@ -66,7 +66,7 @@ fn opens_name(name: &[u8], rest: &[u8]) -> bool
     true
 }
 
-// Whether `rest` begins a character or an escaped pattern that more bytes could complete.
+// Reports whether `rest` begins a character or an escaped pattern that more bytes could complete.
 fn begins(rest: &[u8]) -> bool
     requires { ⌜ 0 < length (now rest) ⌝ }
     ensures { λ r. ⌜ r ≡ beginsOf (now (rest .entry)) ⌝ }
@@ -101,7 +101,7 @@ fn settled(text: &[u8]) -> usize
     i
 }
 
-// Returns the length of the longest valid prefix of a text where what follows it begins no character; else the text's length.
+// Returns the length of the longest valid prefix if what follows it is no start of a character; else the text's length.
 fn sound_to(text: &[u8]) -> usize
     ensures { λ r. ⌜ Sound (now (text .entry)) r ⌝ }
 {
@@ -115,7 +115,7 @@ fn sound_to(text: &[u8]) -> usize
     valid
 }
 
-// Returns the same; of a text that is `clear`, ASCII without `<`, without a look.
+// Returns the same; a text that is `clear`, ASCII without `<`, is not looked at.
 fn sound_with(clear: bool, text: &[u8]) -> usize
     requires { ⌜ (clear ≡ true → Without 60 (now text)) ⌝ }
     ensures { λ r. ⌜ Sound (now (text .entry)) r ⌝ }
@@ -168,7 +168,7 @@ fn holding(bytes: &[u8], done: usize, finished: bool) -> RawState
     }
 }
 
-// A part call within the limit: `seam` is what is held and the first bytes of the part, of which `s` are settled, and `rest` is what follows those.
+// Encodes a part within the limit: `seam` is what is held and the first bytes of the part, of which `s` are settled, and `rest` is what follows those.
 fn joined(state: RawState, seam: &[u8], s: usize, rest: &[u8], output: &mut [u8]) -> RawPart
     requires { ⌜ (s ≡ settledOf (now seam)) × (s ≤ length (now seam)) × (length (now seam) ≤ 16) × (state .done + s + length (now rest) ≤ 65536) ⌝ }
     ensures { λ r. ⌜ Joined state (now (seam .entry)) (now (rest .entry)) (now (output .entry)) (r .answer) (r .state) (now (output .exit)) ⌝ }
@@ -204,7 +204,7 @@ fn clipped(n: usize) -> usize
     if HELD < n { HELD } else { n }
 }
 
-// Whether `done` bytes, `count` more and `n` more are above the limit. It adds nothing, so that no state overflows it.
+// Reports whether `done` bytes, `count` more and `n` more are above the limit. It adds nothing, so that no state overflows it.
 fn is_long(done: usize, count: usize, n: usize) -> bool
     ensures { λ r. ⌜ r ≡ ltb 65536 (done + (count + n)) ⌝ }
 {
@@ -217,7 +217,7 @@ fn is_long(done: usize, count: usize, n: usize) -> bool
     rules::TEXT_LIMIT - done - count < n
 }
 
-// A part call within the limit, by its seam: the `count` bytes that are held and the first bytes of the part, at most eight.
+// Encodes a part within the limit, by its seam: the `count` bytes that are held and the first bytes of the part, at most eight.
 fn sewn(state: RawState, count: usize, seam: &[u8], text: &[u8], output: &mut [u8]) -> RawPart
     requires { ⌜ (now seam ≡ heldIn state ++ take 8 (now text)) × (count ≡ length (heldIn state)) × (count ≤ 8) × (state .finished ≡ false) × (state .done + (count + length (now text)) ≤ 65536) ⌝ }
     ensures { λ r. ⌜ PartAllowed false state (now (text .entry)) (now (output .entry)) (r .answer) (r .state) (now (output .exit)) ⌝ }
@@ -238,7 +238,7 @@ fn fill(held: &[u8], text: &[u8], seam: &mut [u8]) -> usize
     n + base::put(&text[..clipped(text.len())], &mut seam[n..])
 }
 
-// A part call in a state that is not finished; `held` is its eight bytes, of which `count` are held.
+// Encodes a part in a state that is not finished; `held` is its eight bytes, of which `count` are held.
 fn begun(state: RawState, held: &[u8], count: usize, text: &[u8], output: &mut [u8]) -> RawPart
     requires { ⌜ (now held ≡ state .held) × (length (now held) ≡ 8) × Clipped (state .count) count × (state .finished ≡ false) ⌝ }
     ensures { λ r. ⌜ PartAllowed false state (now (text .entry)) (now (output .entry)) (r .answer) (r .state) (now (output .exit)) ⌝ }
@@ -265,7 +265,7 @@ pub fn script_raw_part(state: RawState, text: &[u8], output: &mut [u8]) -> RawPa
     begun(state, &held, clipped(state.count), text, output)
 }
 
-// finish within the limit: writes what is held as the end of the text.
+// Ends the script within the limit: writes what is held as the end of the text.
 fn end_with(state: RawState, held: &[u8], output: &mut [u8]) -> RawPart
     requires { ⌜ (now held ≡ heldIn state) × (length (now held) ≤ 8) × (state .finished ≡ false) × (state .done + length (now held) ≤ 65536) ⌝ }
     ensures { λ r. ⌜ PartAllowed true state [] (now (output .entry)) (r .answer) (r .state) (now (output .exit)) ⌝ }
@@ -290,7 +290,7 @@ fn end_with(state: RawState, held: &[u8], output: &mut [u8]) -> RawPart
     }
 }
 
-// finish in a state that is not finished; `held` is its eight bytes, of which `count` are held.
+// Ends the script in a state that is not finished; `held` is its eight bytes, of which `count` are held.
 fn ended(state: RawState, held: &[u8], count: usize, output: &mut [u8]) -> RawPart
     requires { ⌜ (now held ≡ state .held) × (length (now held) ≡ 8) × Clipped (state .count) count × (state .finished ≡ false) ⌝ }
     ensures { λ r. ⌜ PartAllowed true state [] (now (output .entry)) (r .answer) (r .state) (now (output .exit)) ⌝ }
@@ -314,7 +314,7 @@ pub fn script_raw_finish(state: RawState, output: &mut [u8]) -> RawPart
     ended(state, &held, clipped(state.count), output)
 }
 
-// The started state.
+// Returns the started state: nothing is given, nothing is held.
 pub fn script_raw_start() -> RawState
     ensures { λ r. ⌜ r ≡ started ⌝ }
 {
