@@ -49,7 +49,7 @@ fn kind_of(h: Html) -> Kind
     }
 }
 
-// An operation in one of the HTML seven: they have all four.
+// Returns the job of an operation in one of the HTML seven: they have all four.
 fn html_job(operation: Operation, h: Html) -> Wanted
     ensures { λ r. ⌜ ruleAt r ≡ ruleIn operation (InHtml h) ⌝ }
 {
@@ -61,7 +61,7 @@ fn html_job(operation: Operation, h: Html) -> Wanted
     }
 }
 
-// An operation in a script string.
+// Returns the job of an operation in a script string.
 fn script_job(operation: Operation, quotes: Quotes) -> Wanted
     ensures { λ r. ⌜ ruleAt r ≡ ruleIn operation (InScript quotes) ⌝ }
 {
@@ -73,7 +73,7 @@ fn script_job(operation: Operation, quotes: Quotes) -> Wanted
     }
 }
 
-// An operation in a style string.
+// Returns the job of an operation in a style string.
 fn style_job(operation: Operation, quotes: Quotes) -> Wanted
     ensures { λ r. ⌜ ruleAt r ≡ ruleIn operation (InStyle quotes) ⌝ }
 {
@@ -85,7 +85,7 @@ fn style_job(operation: Operation, quotes: Quotes) -> Wanted
     }
 }
 
-// An operation in a JSON string.
+// Returns the job of an operation in a JSON string.
 fn json_job(operation: Operation) -> Wanted
     ensures { λ r. ⌜ ruleAt r ≡ ruleIn operation InJson ⌝ }
 {
@@ -97,7 +97,7 @@ fn json_job(operation: Operation) -> Wanted
     }
 }
 
-// An operation in ascii_quoted: it has all four, and its references are decoded and browsed as those of `quoted`.
+// Returns the job of an operation in ascii_quoted: it has all four, and its references are decoded and browsed as those of `quoted`.
 fn ascii_job(operation: Operation) -> Wanted
     ensures { λ r. ⌜ ruleAt r ≡ ruleIn operation InAscii ⌝ }
 {
@@ -109,7 +109,7 @@ fn ascii_job(operation: Operation) -> Wanted
     }
 }
 
-// An operation in script_raw: only encode has it.
+// Returns the job of an operation in script_raw: only encode has it.
 fn raw_job(operation: Operation) -> Wanted
     ensures { λ r. ⌜ ruleAt r ≡ ruleRaw operation ⌝ }
 {
@@ -121,7 +121,7 @@ fn raw_job(operation: Operation) -> Wanted
     }
 }
 
-// An operation in a context that has units.
+// Returns the job of an operation in a context that has units.
 fn units_job(operation: Operation, context: Context) -> Wanted
     ensures { λ r. ⌜ ruleAt r ≡ ruleIn operation context ⌝ }
 {
@@ -134,7 +134,7 @@ fn units_job(operation: Operation, context: Context) -> Wanted
     }
 }
 
-// An operation in the context of a number.
+// Returns the job of an operation in the context of a number.
 pub fn job_of(operation: Operation, number: u32) -> Wanted
     ensures { λ r. ⌜ ruleAt r ≡ ruleOf operation (contextOf number) ⌝ }
 {

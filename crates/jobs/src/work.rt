@@ -57,7 +57,7 @@ fn counted_for(job: Job) -> Counted
     }
 }
 
-// What a first look tells. That of the HTML encoders tells how the encoding grows, how many places are replaced and, by the way, whether the text is
+// Takes a first look at a text. That of the HTML encoders tells how the encoding grows, how many places are replaced and, by the way, whether the text is
 // ASCII (`high` is 0); most other jobs have none.
 pub fn glance(job: Job, text: &[u8]) -> Scan
     requires { ⌜ length (now text) ≤ 65536 ⌝ }
@@ -87,7 +87,7 @@ pub fn settled(job: Job, scan: Scan) -> Job
     job
 }
 
-// How far a text is valid. Where `high` is 0 it is ASCII, and needs no look.
+// Returns the length of the longest valid prefix. Where `high` is 0 it is ASCII, and needs no look.
 pub fn valid_to(text: &[u8], high: usize) -> usize
     requires { ⌜ Low high (now text) ⌝ }
     ensures { λ r. ⌜ r ≡ validTo (now (text .entry)) ⌝ }
@@ -98,7 +98,7 @@ pub fn valid_to(text: &[u8], high: usize) -> usize
     utf8::valid_to(text)
 }
 
-// Whether a call needs no measure, since it copies and `room` holds any result: an encoding is at most six times as long as its text, and what decode
+// Reports whether a call needs no measure, since it copies and `room` holds any result: an encoding is at most six times as long as its text, and what decode
 // or browse makes of it at most a fifth longer. HTML is measured by the glance, and ascii_quoted always, since a reference can be 22 bytes for 3; read, and
 // decode of a JSON string, may refuse a text for its form.
 fn fits_any(job: Job, borrows: bool, text: &[u8], room: usize) -> bool
@@ -124,7 +124,7 @@ fn fits_any(job: Job, borrows: bool, text: &[u8], room: usize) -> bool
     }
 }
 
-// What is known of the result of a job that takes a whole text, of `size` bytes, and leaves no reference.
+// Returns what is known of the result of a job that takes a whole text, of `size` bytes, and leaves no reference.
 fn whole(length: usize, replaced: usize, size: usize) -> Measured
     ensures { λ r. ⌜ (r .length ≡ length) × (r .place ≡ size) × (r .replaced ≡ replaced) × (r .left ≡ 0) × (r .reason ≡ 0) ⌝ }
 {
@@ -137,7 +137,7 @@ fn whole(length: usize, replaced: usize, size: usize) -> Measured
     }
 }
 
-// The same where each replaced place makes the result one byte longer than the text.
+// Returns the same where each replaced place makes the result one byte longer than the text.
 fn by_ones(length: usize, size: usize) -> Measured
     requires { ⌜ size ≤ length ⌝ }
     ensures { λ r. ⌜ (r .length ≡ length) × (r .place ≡ size) × (r .replaced + size ≡ length) × (r .left ≡ 0) × (r .reason ≡ 0) ⌝ }

@@ -11,7 +11,7 @@ ghost use Rattle.names_written.specs.Ties.{Puts};
 mod place;
 mod table;
 
-// Whether a character is from `low` to `high`.
+// Reports whether a character is from `low` to `high`.
 fn is_among(low: u32, high: u32, code: u32) -> bool
     ensures { λ r. ⌜ r ≡ inside (low, high) code ⌝ }
 {

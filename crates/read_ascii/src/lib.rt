@@ -15,7 +15,7 @@ ghost use Rattle.read_ascii.specs.Units.{isHalt, haltAt};
 use rules::Escape;
 use rules::Measured;
 
-// Whether a byte is in no plain stretch: above 7F, or one that the context replaces.
+// Reports whether a byte is in no plain stretch: above 7F, or one that the context replaces.
 fn is_halt(b: u8) -> bool
     ensures { λ r. ⌜ r ≡ isHalt b ⌝ }
 {

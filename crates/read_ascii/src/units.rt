@@ -45,7 +45,7 @@ fn code_of(bytes: &[u8]) -> u32
     first % 8 * 262144 + second * 4096 + third * 64 + fourth
 }
 
-// Whether a number is that of a character.
+// Reports whether a number is that of a character.
 fn is_scalar(code: u32) -> bool
     ensures { λ r. ⌜ r ≡ scalar code ⌝ }
 {

@@ -327,7 +327,7 @@ fn buffer() -> [u8; 2097152]
     [0; 2097152]
 }
 
-// Room for a text, a result or an output.
+// Returns room for a text, a result or an output.
 fn room() -> [u8; 1048576]
     ensures { λ r. ⌜ 1048576 ≡ length r ⌝ }
 {
