@@ -353,6 +353,22 @@ static void check_page(void)
     check(filled.status == LINTELRYE_PASSED && filled.passed == LINTELRYE_FIELD_LIMIT && holds(""), "as many records as a page takes", 0);
 }
 
+/* The longest form there is: 21,845 times U+25AB, 22 bytes for 3, and a quotation mark. */
+static void check_longest(void)
+{
+    static uint8_t text[LINTELRYE_TEXT_LIMIT];
+    static uint8_t form[LINTELRYE_ASCII_ENCODED_AT_MOST(LINTELRYE_TEXT_LIMIT)];
+    size_t i;
+    for (i = 0; i < sizeof text / 3; i++) {
+        memcpy(text + 3 * i, "\xE2\x96\xAB", 3);
+    }
+    text[sizeof text - 1] = '"';
+    check(is(lintelrye_encode(LINTELRYE_ASCII_QUOTED, text, sizeof text, form, 480595), LINTELRYE_NO_ROOM, 480596, 0, 0, 0), "a byte short", 0);
+    check(is(lintelrye_encode(LINTELRYE_ASCII_QUOTED, text, sizeof text, form, sizeof form), LINTELRYE_PASSED, 480596, 0, 21846, 0)
+              && memcmp(form, "&EmptyVerySmallSquare;", 22) == 0 && memcmp(form + 480590, "&quot;", 6) == 0,
+          "the longest form", 0);
+}
+
 int main(void)
 {
     uint32_t which;
@@ -380,6 +396,7 @@ int main(void)
         check_written(6 + which, LINTELRYE_TEXT, "&#0;", 1, "\xEF\xBF\xBD");
         check(is(of(4 + which, LINTELRYE_TEXT_MINIMAL, "a&lt;&gt;", OUTPUT), LINTELRYE_NOT_A_FORM, 0, 0, 0, 5) && holds(""), "no form", 4 + which);
     }
+    check_longest();
     check_without_output();
     check_closing();
     check_left();
