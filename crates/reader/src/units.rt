@@ -13,7 +13,7 @@ ghost use Rattle.decode_strings.specs.Finds.{Finds};
 ghost use Rattle.decode_strings.specs.Strings.{escapeOf};
 ghost use Rattle.decode_strings.specs.Hex.{hexBefore, hexBetween};
 ghost use Rattle.reader.specs.Replaced.{inSet, Leads};
-ghost use Rattle.reader.specs.Units.{isOther, markOf};
+ghost use Rattle.reader.specs.Units.{Ruleless, isOther, markOf};
 use crate::replaced;
 use decode_strings::digits;
 use decode_strings::rows;
@@ -175,9 +175,9 @@ fn json_unit(text: &[u8], at: usize) -> u32
 }
 
 // Reads the unit of the context at offset `at`; `set` is that of the context. Returns it packed, 0 if there is none. It takes an offset and not a
-// slice, which would pass through memory in each turn of a loop.
+// slice, which would pass through memory in each turn of a loop. It is never asked for ascii_quoted, which has a reader of its own.
 pub fn unit(c: Context, set: &[u64; 4], text: &[u8], at: usize) -> u32
-    requires { ⌜ Leads c (inSet (now set)) × (at ≤ length (now text)) ⌝ }
+    requires { ⌜ Leads c (inSet (now set)) × (at ≤ length (now text)) × Ruleless c ⌝ }
     ensures { λ r. ⌜ Finds (rows c) (drop at (now (text .entry))) (escapeOf r) ⌝ }
 {
     match c {
@@ -185,13 +185,13 @@ pub fn unit(c: Context, set: &[u64; 4], text: &[u8], at: usize) -> u32
         Context::InScript(quotes) => string_unit(Language::Script, quotes, text, at),
         Context::InStyle(quotes) => string_unit(Language::Style, quotes, text, at),
         Context::InJson => json_unit(text, at),
-        Context::InAscii => html_unit(Html::Quoted, set, text, at),
+        Context::InAscii => 0,
     }
 }
 
 // Reads the same unit and returns it as an enum.
 pub fn read_unit(c: Context, set: &[u64; 4], text: &[u8], at: usize) -> Escape
-    requires { ⌜ Leads c (inSet (now set)) × (at ≤ length (now text)) ⌝ }
+    requires { ⌜ Leads c (inSet (now set)) × (at ≤ length (now text)) × Ruleless c ⌝ }
     ensures { λ r. ⌜ Finds (rows c) (drop at (now (text .entry))) r ⌝ }
 {
     rows::escape_of(unit(c, set, text, at))

@@ -124,7 +124,7 @@ loop-again c =
     counted-quiet (l .inv) (next-replaced .result) (next-replaced .ensures .after) (next-replaced .ensures .within) (clear (c .before))
 
 unit-requires : tie.Need-unit-requires Inv-loop μ-loop
-unit-requires c κs = (c .before .before .before .before .before .before .set-of .ensures, search needs)
+unit-requires c κs = (c .before .before .before .before .before .before .set-of .ensures, search needs, c .before .before .before .before .before .before .before .before .before .pre .2)
 
 escape-of-requires : tie.Need-escape-of-requires Inv-loop μ-loop
 escape-of-requires c κs = search needs

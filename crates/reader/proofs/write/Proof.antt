@@ -175,7 +175,7 @@ loop-again c =
     (rw size (counted-quiet (l .inv .0) (next-replaced .result) (r .after) (r .within) (clear (c .before .before .before .before .before .before))), filled-put (l .inv .1) (next-part (c .before .before .before .before .before .before)) (put .last .1 .0) (put .result) (put .ensures .0) (put .ensures .1))
 
 read-unit-requires : tie.Need-read-unit-requires Inv-loop μ-loop
-read-unit-requires c κs = (c .before .before .before .before .before .before .set-of .ensures, search needs)
+read-unit-requires c κs = (c .before .before .before .before .before .before .set-of .ensures, search needs, c .before .before .before .before .before .before .before .before .before .before .pre .2)
 
 enum-known-n : tie.Need-enum-known-n Inv-loop μ-loop
 enum-known-n c = search needs
