@@ -7,10 +7,10 @@ type Operation = for<'a> fn(Context, &'a [u8], &'a mut [u8]) -> Result<Written<'
 
 /// The calls, each copying and borrowing, and whether they have the context of a number.
 const OPERATIONS: [(Operation, Operation, fn(usize) -> bool); 4] = [
-    (|c, t, o| lintelrye::encode(c, t, o), |c, t, o| lintelrye::encode_borrowing(c, t, o), |number| number < 15),
-    (|c, t, o| lintelrye::decode(c, t, o), |c, t, o| lintelrye::decode_borrowing(c, t, o), |number| number < 15 && number != 13),
-    (|c, t, o| lintelrye::take(c, t, o), |c, t, o| lintelrye::take_borrowing(c, t, o), |number| number < 15 && number != 13),
-    (|c, t, o| lintelrye::browse(c, t, o), |c, t, o| lintelrye::browse_borrowing(c, t, o), |number| number < 7),
+    (|c, t, o| lintelrye::encode(c, t, o), |c, t, o| lintelrye::encode_borrowing(c, t, o), |number| number < 16),
+    (|c, t, o| lintelrye::decode(c, t, o), |c, t, o| lintelrye::decode_borrowing(c, t, o), |number| number < 16 && number != 13),
+    (|c, t, o| lintelrye::take(c, t, o), |c, t, o| lintelrye::take_borrowing(c, t, o), |number| number < 16 && number != 13),
+    (|c, t, o| lintelrye::browse(c, t, o), |c, t, o| lintelrye::browse_borrowing(c, t, o), |number| number < 7 || number == 15),
 ];
 
 #[test]
