@@ -151,12 +151,12 @@ fn put_low(b: u8, room: &mut [u8]) -> usize
     requires { ⌜ (b < 128) × (32 ≤ length (now room)) ⌝ }
     ensures { λ r. ⌜ Puts (encodeOf InAscii (b ∷ [])) r (now (room .entry)) (now (room .exit)) × (r ≤ 22) × (replaced (through (encodeStep InAscii) (b ∷ [])) ≡ cond (eqb r 1) 0 1) ⌝ }
 {
-    let n = put_quoted(b as u32, room);
-    if n == 0 {
+    let written = put_quoted(b as u32, room);
+    if written == 0 {
         room[0] = b;
         return 1;
     }
-    n
+    written
 }
 
 // Returns 0 if a character is written as one byte, since it is copied then, else 1.
