@@ -17,7 +17,7 @@ use Rattle.rules.specs.declared.Answer.{Answer}
 use Rattle.rules.specs.declared.Html.{Html}
 use Rattle.rules.specs.declared.Context.the-variants.{InHtml}
 use Rattle.rules.proofs.Reasons.{no-lefts, read-leaveless}
-use Rattle.read_html.specs.Outcomes.{Whole}
+use Rattle.outcomes.specs.Outcomes.{Whole}
 use Rattle.jobs.specs.Jobs.{ruleBy, Same, Leaves}
 use Rattle.jobs.specs.declared.job.Job.{Job}
 use Rattle.jobs.specs.declared.job.Job.the-variants.{Read}

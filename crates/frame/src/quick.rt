@@ -2,7 +2,7 @@
 ghost use Rattle.jobs.specs.Jobs.{ruleBy};
 ghost use Rattle.frame.specs.Tries.{Tries};
 use jobs::job::Job;
-use read_html::Outcome;
+use outcomes::Outcome;
 use rules::Answer;
 use rules::Context;
 

@@ -2,4 +2,3 @@
 pub mod Clear
 pub mod Units
 pub mod Marks
-pub mod Outcomes

@@ -9,19 +9,12 @@ ghost use mathlib.Core.Bool.{false};
 ghost use mathlib.Core.Path.{_≡_};
 ghost use Prim.Native.Nat.{_≤_};
 ghost use lib.ListN.{length};
+ghost use Rattle.rules.specs.declared.Context.the-variants.{InHtml};
 ghost use Rattle.plain.specs.Plain.{unquoted};
 ghost use Rattle.read_html.specs.Clear.{Clear};
-ghost use Rattle.read_html.specs.Outcomes.{Reads};
+ghost use Rattle.outcomes.specs.Outcomes.{Reads};
+use outcomes::Outcome;
 use rules::Html;
-
-// What came of it: nothing was done, the text goes the general way; or the text is a form in which nothing is replaced; or the result of this length has
-// no room; or it is written, with this length and so many replaced characters.
-pub enum Outcome {
-    Untried,
-    Same,
-    NoRoom(usize),
-    Written(usize, usize),
-}
 
 // A text up to this length goes the general way.
 const SHORT: usize = 64;
@@ -37,7 +30,7 @@ const MANY: usize = 640;
 // Reads a text that has none of the replaced bytes but `&`, with a list for offsets.
 fn read_with(h: Html, places: &mut [u16], text: &[u8], output: &mut [u8]) -> Outcome
     requires { ⌜ (unquoted h ≡ false) × (length (now text) ≤ 65536) × Clear h (now text) ⌝ }
-    ensures { λ r. ⌜ Reads h (now (text .entry)) (now (output .entry)) (now (output .exit)) r ⌝ }
+    ensures { λ r. ⌜ Reads (InHtml h) (now (text .entry)) (now (output .entry)) (now (output .exit)) r ⌝ }
 {
     let found = measure::measure(h, text, places);
     if !found.whole {
@@ -57,7 +50,7 @@ fn read_with(h: Html, places: &mut [u16], text: &[u8], output: &mut [u8]) -> Out
 // Does so with the short list.
 fn read_medium(h: Html, text: &[u8], output: &mut [u8]) -> Outcome
     requires { ⌜ (unquoted h ≡ false) × (length (now text) ≤ 65536) × Clear h (now text) ⌝ }
-    ensures { λ r. ⌜ Reads h (now (text .entry)) (now (output .entry)) (now (output .exit)) r ⌝ }
+    ensures { λ r. ⌜ Reads (InHtml h) (now (text .entry)) (now (output .entry)) (now (output .exit)) r ⌝ }
 {
     let mut places = [0x100u16; FEW];
     read_with(h, &mut places, text, output)
@@ -66,7 +59,7 @@ fn read_medium(h: Html, text: &[u8], output: &mut [u8]) -> Outcome
 // Does so with the long list.
 fn read_long(h: Html, text: &[u8], output: &mut [u8]) -> Outcome
     requires { ⌜ (unquoted h ≡ false) × (length (now text) ≤ 65536) × Clear h (now text) ⌝ }
-    ensures { λ r. ⌜ Reads h (now (text .entry)) (now (output .entry)) (now (output .exit)) r ⌝ }
+    ensures { λ r. ⌜ Reads (InHtml h) (now (text .entry)) (now (output .entry)) (now (output .exit)) r ⌝ }
 {
     let mut places = [0x100u16; MANY];
     read_with(h, &mut places, text, output)
@@ -74,7 +67,7 @@ fn read_long(h: Html, text: &[u8], output: &mut [u8]) -> Outcome
 
 // Reads a text, if it is long, ASCII, and has none of the bytes that the context replaces but `&`. In an unquoted attribute units hold such bytes.
 pub fn read(h: Html, text: &[u8], output: &mut [u8]) -> Outcome
-    ensures { λ r. ⌜ Reads h (now (text .entry)) (now (output .entry)) (now (output .exit)) r ⌝ }
+    ensures { λ r. ⌜ Reads (InHtml h) (now (text .entry)) (now (output .entry)) (now (output .exit)) r ⌝ }
 {
     if text.len() <= SHORT {
         return Outcome::Untried;

@@ -7,7 +7,7 @@ use borrow.Author.Needs.{needs}
 use Rattle.rules.specs.Moves.{through}
 use Rattle.rules.specs.Reading.{readStep}
 use Rattle.rules.specs.declared.Context.the-variants.{InHtml}
-use Rattle.read_html.specs.Outcomes.{Whole}
+use Rattle.outcomes.specs.Outcomes.{Whole}
 use Rattle.read_html.proofs.Clearing.{clear-valid}
 use Rattle.read_html.proofs.Turns.{affirmed}
 use Rattle.read_html.proofs.read_with.Statement.{statement}

@@ -1,4 +1,4 @@
--- What an outcome of the quick reader says.
+-- What an outcome of a quick reader says.
 -- Assumes nothing.
 use mathlib.Core.Path.{_≡_}
 use mathlib.Core.List.{List}
@@ -9,10 +9,9 @@ use Rattle.rules.specs.Moves.{Move, result, replaced, place as placeOf, through
 use Rattle.rules.specs.Utf8.{validTo}
 use Rattle.rules.specs.Answers.{Measures}
 use Rattle.rules.specs.Reading.{readStep}
-use Rattle.rules.specs.declared.Html.{Html}
-use Rattle.rules.specs.declared.Context.the-variants.{InHtml}
-use Rattle.read_html.specs.declared.Outcome.{Outcome}
-use Rattle.read_html.specs.declared.Outcome.the-variants.{Untried, Same, NoRoom, Written}
+use Rattle.rules.specs.declared.Context.{Context}
+use Rattle.outcomes.specs.declared.Outcome.{Outcome}
+use Rattle.outcomes.specs.declared.Outcome.the-variants.{Untried, Same, NoRoom, Written}
 
 -- A valid text, not too long, through all of which the moves go.
 abbrev pub Whole : List Move → List ℕ → Type 0
@@ -28,5 +27,5 @@ Says ms t out o (Written n k) =
     × (size (result ms) ≤ size out) × (o ≡ over (result ms) out)
 
 -- The same of the moves of read.
-abbrev pub Reads : Html → List ℕ → List ℕ → List ℕ → Outcome → Type 0
-Reads h t out o r = Says (through (readStep (InHtml h)) t) t out o r
+abbrev pub Reads : Context → List ℕ → List ℕ → List ℕ → Outcome → Type 0
+Reads c t out o r = Says (through (readStep c) t) t out o r
