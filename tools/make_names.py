@@ -1,5 +1,5 @@
 #!/usr/bin/env python3
-"""Writes the number tables of the crates names_upper and names_lower from the readable entries of crates/rules/specs/Names.antt, the list of values of
+"""Writes the number tables of the crates names_upper, names_a_to_l and names_m_to_z from the readable entries of crates/rules/specs/Names.antt, the list of values of
 names_search, the choice by first letter in names, the table of names_bare from the entries and the names of Bare.antt, and the tables of names_written, by
 characters, the shortest name of each, and of several as short the first by bytes: the code and the proofs of it.
 
@@ -13,11 +13,13 @@ ROOT = Path(__file__).resolve().parent.parent
 ENTRIES = ROOT / "crates/rules/specs/Names.antt"
 BARE = ROOT / "crates/rules/specs/Bare.antt"
 
-# A group has at most so many names, but for those with the same first two letters: it is laid out anew at each look-up, and searched name by name.
+# A group has at most so many names, since it is laid out anew at each look-up, and searched name by name. Where more have the same first two letters, they
+# are groups by the fourth, which have at most so many.
 LARGEST = 32
+LARGEST_BY_FOURTH = 20
 
 # The letters of each crate.
-CRATES = {"names_upper": "ABCDEFGHIJKLMNOPQRSTUVWXYZ", "names_lower": "abcdefghijklmnopqrstuvwxyz"}
+CRATES = {"names_upper": "ABCDEFGHIJKLMNOPQRSTUVWXYZ", "names_a_to_l": "abcdefghijkl", "names_m_to_z": "mnopqrstuvwxyz"}
 
 # The ranges of characters of names_written, each from its first to its last character that has a name.
 RANGES = [
@@ -38,8 +40,9 @@ RANGES = [
 
 HEAD = """\
 // Made by tools/make_names.py from the entries of crates/rules/specs/Names.antt; not to be edited.
-// The names that begin with {case} letters, a function for each letter, and in it groups by the second byte. Each group is three tables: the names one
-// after the other without their first letter, the length of each, and the numbers of their values (`codeBytes` in crates/names_search/specs/Lent.antt).
+// The names that begin with {letters}, a function for each letter, and in it groups by the second byte, or by the second and the fourth. Each group
+// is three tables: the names one after the other without their first letter, the length of each, and the numbers of their values (`codeBytes` in
+// crates/names_search/specs/Lent.antt).
 ghost use mathlib.Core.Path.{{_≡_}};
 ghost use mathlib.Core.List.{{_∷_}};
 ghost use Prim.Native.Nat.{{_≤_}};
@@ -47,7 +50,7 @@ ghost use lib.ListN.{{getD}};
 ghost use Rattle.rules.specs.Names.{{{lists}}};
 ghost use Rattle.rules.specs.References.{{lookup}};
 ghost use Rattle.rules.specs.Answers.{{meaningBytes}};
-ghost use Rattle.names_search.specs.Seconds.{{seconds}};
+ghost use Rattle.names_search.specs.Having.{{having}};
 use rules::Meaning;
 """
 
@@ -235,8 +238,19 @@ LETTER = """
 // What `{letter}` and `rest` stand for. `second` is the first byte of `rest`, 0 if it has none.
 pub fn {function}(second: u8, rest: &[u8]) -> Meaning
     requires {{ ⌜ (getD (now rest) 0 0 ≡ second) × (second ≤ 255) ⌝ }}
-    ensures {{ λ r. ⌜ meaningBytes r ≡ lookup {list} (0x{first:X} ∷ now (rest .entry)) ⌝ }}
+    ensures {{ λ r. ⌜ meaningBytes r ≡ lookup {rows} (0x{first:X} ∷ now (rest .entry)) ⌝ }}
 {{
+{tests}
+    {last}(rest)
+}}
+"""
+
+BY_FOURTH = """
+// What `{letter}` and `rest` stand for{among}.
+fn {function}(rest: &[u8]) -> Meaning
+    ensures {{ λ r. ⌜ meaningBytes r ≡ lookup {rows} (0x{first:X} ∷ now (rest .entry)) ⌝ }}
+{{
+    let fourth = names_search::fourth(rest);
 {tests}
     {last}(rest)
 }}
@@ -271,15 +285,15 @@ pub {spec}-spec : {{M : Type 1}} → statement M
 {spec}-spec = tie.close (tie.spec slice-aggregate-find slice-aggregate-find-2 slice-aggregate-find-3 find-requires returns)
 """
 
-LETTER_PROOF = """\
--- `{crate}::{function}` meets its contract: a name is looked up in the group of its second byte as it is among all names of its letter.
+PARTS_PROOF = """\
+-- `{crate}::{function}` meets its contract: a name is looked up in the group of its {which} byte as it is in all of them.
 -- Made by tools/make_names.py. Assumes nothing.
 use mathlib.Core.Path.{{_∙_}}
 use mathlib.Core.List.{{_∷_}}
 use native.Mathlib.Omega.{{arith}}
 use borrow.Author.Needs.{{needs}}
 use Rattle.rules.specs.Names.{{{list}}}
-use Rattle.names_search.proofs.Lookups.{{in-seconds}}
+{uses}use Rattle.names_search.proofs.Lookups.{{in-part}}
 use Rattle.{crate}.proofs.{function}.Statement.{{statement}}
 use Rattle.{crate}.proofs.{function}.Tie as tie
 
@@ -291,12 +305,18 @@ pub {spec}-spec : {{M : Type 1}} → statement M
 {names})
 """
 
-LETTER_NEEDS = """\
+PARTS_NEEDS = """\
 {called}-requires : tie.Need-{called}-requires
 {called}-requires c κs = search needs
 
 {name} : tie.Need-{name}
-{name} c = c .{called} .ensures ∙ in-seconds 0x{low:02X} 0x{high:02X} (0x{first:X} ∷ c {before} .args .rest .now) (omega arith) (omega arith) {list}
+{name} c = c .{called} .ensures ∙ in-part {place} 0x{low:02X} 0x{high:02X} (0x{first:X} ∷ c {before} .args .rest .now) (omega {facts}) (omega {facts}) {rows}
+"""
+
+FOURTH_NEEDS = """\
+fourth-requires : tie.Need-fourth-requires
+fourth-requires c κs = search needs
+
 """
 
 CHOICE_CODE = """\
@@ -525,15 +545,15 @@ def listed_files(listed):
     }
 
 
-def groups_of(rows):
-    """The rows of a letter in groups: each has the rows of some second letters."""
+def groups_of(rows, place, largest):
+    """The rows in groups of at most so many, if that can be: each has the rows with some bytes at a place of their names, in the order of the table."""
     groups = [[]]
-    for second in sorted({name[1] for name, _ in rows}):
-        more = [row for row in rows if row[0][1] == second]
-        if groups[-1] and len(groups[-1]) + len(more) > LARGEST:
+    for byte in sorted({name[place : place + 1] for name, _ in rows}):
+        more = [row for row in rows if row[0][place : place + 1] == byte]
+        if groups[-1] and len(groups[-1]) + len(more) > largest:
             groups.append([])
         groups[-1] += more
-    return groups
+    return [[row for row in rows if row in group] for group in groups]
 
 
 def list_of(letter):
@@ -560,54 +580,110 @@ def arguments_of(const):
     return line if len(line) <= 60 else "\n" + "".join(f"        {word},\n" for word in words) + "    "
 
 
-def group_code(letter, rows, listed, function, part):
-    """The tables and the function of one group; `part` is the range of its second bytes, if it is not all of the letter."""
-    rest = [name[1:] for name, _ in rows]
-    return GROUP.format(
-        const=function.upper(),
-        function=function,
-        public="" if part else "pub ",
-        letter=letter,
-        among=f", where `rest` begins with a byte from {part[0]:02X} to {part[1]:02X} hex" if part else "",
-        rows=f"(seconds (0x{part[0]:02X}, 0x{part[1]:02X}) {list_of(letter)})" if part else list_of(letter),
-        first=ord(letter),
+class Group:
+    """Some rows of a letter: how they are called, and which rows of its list they are, as the code says it and as the definitions do."""
+
+    def __init__(self, crate, letter, function, rows, among="", said=None):
+        self.crate, self.letter, self.function, self.rows, self.among, self.said = crate, letter, function, rows, among, said or list_of(letter)
+
+    def facts(self):
+        return {
+            "crate": self.crate,
+            "letter": self.letter,
+            "function": self.function,
+            "spec": self.function.replace("_", "-"),
+            "list": list_of(self.letter),
+            "first": ord(self.letter),
+            "among": self.among,
+            "rows": self.said,
+        }
+
+    def parts(self, place, largest):
+        """Its groups by the byte at a place of the names, each with the range of that byte."""
+        groups = groups_of(self.rows, place, largest)
+        lows = [0] + [min(ord(name[place]) for name, _ in group) for group in groups[1:]]
+        for k, (rows, low, high) in enumerate(zip(groups, lows, lows[1:] + [256])):
+            words = "where `rest` begins with a byte" if place == 1 else "and the fourth byte of the name is one"
+            among = f"{self.among or ','} {words} from {low:02X} to {high - 1:02X} hex"
+            said = f"(having {place} (0x{low:02X}, 0x{high - 1:02X}) {self.said})"
+            yield Group(self.crate, self.letter, f"{self.function}_{k + 1}", rows, among, said), (low, high - 1)
+
+
+def table_code(group, listed, public):
+    """The tables of a group and the function that searches them; and its proof."""
+    rest = [name[1:] for name, _ in group.rows]
+    code = GROUP.format(
+        const=group.function.upper(),
+        public="pub " if public else "",
         size=sum(map(len, rest)),
-        count=len(rows),
+        count=len(rest),
         names=lines_of(rest, 110),
-        lengths=lengths_of(function.upper(), rest),
-        arguments=arguments_of(function.upper()),
-        values="\n".join(f"    0x{code_of(value, listed):04X}, // {name}" for name, value in rows),
+        lengths=lengths_of(group.function.upper(), rest),
+        arguments=arguments_of(group.function.upper()),
+        values="\n".join(f"    0x{code_of(value, listed):04X}, // {name}" for name, value in group.rows),
+        **group.facts(),
     )
+    return code, {group.function: GROUP_PROOF.format(**group.facts())}
+
+
+def choice_code(group, place, parts):
+    """The function that chooses one of the groups of a group by the byte at a place of the name; and its proof."""
+    byte, template = ("second", LETTER) if place == 1 else ("fourth", BY_FOURTH)
+    tests = "\n".join(f"    if {byte} < b'{chr(low)}' {{\n        return {called.function}(rest);\n    }}" for (called, _), (_, (low, _)) in zip(parts, parts[1:]))
+    code = template.format(tests=tests, last=parts[-1][0].function, **group.facts())
+    names = returns(len(parts))
+    needs = "" if place == 1 else FOURTH_NEEDS
+    for k, ((called, (low, high)), name) in enumerate(zip(parts, names)):
+        back = 3 + min(k, len(parts) - 2)
+        needs += PARTS_NEEDS.format(
+            called=called.function.replace("_", "-"),
+            name=name,
+            place=place,
+            low=low,
+            high=high,
+            before=" ".join([".before"] * (back if place == 1 else back + 1)),
+            facts="arith" if place == 1 else f"(arith, c {' '.join(['.before'] * (back - 1))} .fourth .ensures)",
+            first=ord(group.letter),
+            rows=group.said,
+        ) + ("\n" if k + 1 < len(parts) else "")
+    order = "\n".join(["    fourth-requires"] * (place == 3) + [f"    {called.function.replace('_', '-')}-requires\n    {name}" for (called, _), name in zip(parts, names)])
+    uses = "" if place == 1 else "use Rattle.names_search.specs.Having.{having}\n"
+    return code, {group.function: PARTS_PROOF.format(which=byte, uses=uses, needs=needs, names=order, **group.facts())}
+
+
+def group_files(group, listed):
+    """The code of a group of a letter, by the fourth byte if it is large, and its proofs by their functions."""
+    parts = list(group.parts(3, LARGEST_BY_FOURTH)) if len(group.rows) > LARGEST else []
+    if len(parts) < 2:
+        return table_code(group, listed, False)
+    code, proofs = "", {}
+    for part, _ in parts:
+        more, proof = table_code(part, listed, False)
+        code, proofs = code + more, proofs | proof
+    more, proof = choice_code(group, 3, parts)
+    return code + more, proofs | proof
 
 
 def letter_files(crate, letter, rows, listed):
     """The code of one letter, and its proofs by their functions."""
-    function, groups = function_of(letter), groups_of(rows)
-    facts = {"crate": crate, "list": list_of(letter), "first": ord(letter)}
-    if len(groups) == 1:
-        return group_code(letter, rows, listed, function, None), {function: GROUP_PROOF.format(function=function, spec=function.replace("_", "-"), **facts)}
-    lows = [0] + [ord(group[0][0][1]) for group in groups[1:]]
-    parts = [(low, high - 1) for low, high in zip(lows, lows[1:] + [256])]
-    called = [f"{function}_{k + 1}" for k in range(len(groups))]
-    code = "".join(group_code(letter, *row) for row in zip(groups, [listed] * len(groups), called, parts))
-    tests = "\n".join(f"    if second < b'{chr(low)}' {{\n        return {name}(rest);\n    }}" for name, low in zip(called, lows[1:]))
-    code += LETTER.format(letter=letter, function=function, list=facts["list"], first=facts["first"], tests=tests, last=called[-1])
-    names = returns(len(groups))
-    needs = "\n".join(
-        LETTER_NEEDS.format(called=group.replace("_", "-"), name=name, low=part[0], high=part[1], before=" ".join([".before"] * steps(k, len(groups))), **facts)
-        for k, (group, name, part) in enumerate(zip(called, names, parts))
-    )
-    proofs = {name: GROUP_PROOF.format(function=name, spec=name.replace("_", "-"), **facts) for name in called}
-    order = "\n".join(f"    {group.replace('_', '-')}-requires\n    {name}" for group, name in zip(called, names))
-    proofs[function] = LETTER_PROOF.format(function=function, spec=function.replace("_", "-"), needs=needs, names=order, **facts)
-    return code, proofs
+    whole = Group(crate, letter, function_of(letter), rows)
+    parts = list(whole.parts(1, LARGEST))
+    if len(parts) == 1:
+        return table_code(whole, listed, True)
+    code, proofs = "", {}
+    for part, _ in parts:
+        more, proof = group_files(part, listed)
+        code, proofs = code + more, proofs | proof
+    more, proof = choice_code(whole, 1, parts)
+    return code + more, proofs | proof
 
 
 def choice_files(table):
     """The choice by the first letter: the code, and its proof."""
     letters = [letter for crate in CRATES.values() for letter in crate]
-    many = {letter: len(groups_of([row for row in table if row[0][0] == letter])) > 1 for letter in letters}
-    calls = {letter: f"names_{function_of(letter)[:5]}::{function_of(letter)}({'second, ' if many[letter] else ''}rest)" for letter in letters}
+    many = {letter: len(groups_of([row for row in table if row[0][0] == letter], 1, LARGEST)) > 1 for letter in letters}
+    crate_of = {letter: crate for crate, own in CRATES.items() for letter in own}
+    calls = {letter: f"{crate_of[letter]}::{function_of(letter)}({'second, ' if many[letter] else ''}rest)" for letter in letters}
     called = [function_of(letter).replace("_", "-") for letter in letters]
     names = returns(len(letters) + 1)
     arms = [CHOICE_ARM.format(name=name, called=call, first=ord(letter), k=k + 1) for k, (name, call, letter) in enumerate(zip(names, called, letters))]
@@ -623,17 +699,12 @@ def choice_files(table):
     }
 
 
-def steps(k, count):
-    """How many steps before the return of group k the arguments of its letter's function are."""
-    return 3 + min(k, count - 2)
-
-
 def table_files(table, listed):
     """The crates of the tables: the code, and the proof of each function."""
     made = {}
     for crate, letters in CRATES.items():
         folder = ROOT / "crates" / crate
-        code = HEAD.format(case=f"{crate.removeprefix('names_')}-case", lists=", ".join(list_of(letter) for letter in letters))
+        code = HEAD.format(letters=f"{letters[0]} to {letters[-1]}", lists=", ".join(list_of(letter) for letter in letters))
         for letter in letters:
             text, proofs = letter_files(crate, letter, [row for row in table if row[0][0] == letter], listed)
             code += text

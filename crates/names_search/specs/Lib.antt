@@ -1,4 +1,4 @@
 pub mod Pairs
 pub mod Listed
 pub mod Lent
-pub mod Seconds
+pub mod Having

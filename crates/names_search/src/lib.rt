@@ -2,7 +2,8 @@
 // number of the value of each. The names of one table begin with the same byte, which it does not have.
 ghost use mathlib.Core.Path.{_≡_};
 ghost use mathlib.Core.List.{_∷_};
-ghost use Prim.Native.Nat.{ℕ};
+ghost use Prim.Native.Nat.{ℕ, _≤_};
+ghost use lib.ListN.{getD};
 ghost use lib.Dec.{T};
 ghost use Rattle.rules.specs.Bytes.{sameBytes};
 ghost use Rattle.rules.specs.References.{lookup};
@@ -28,6 +29,16 @@ pub fn same(a: &[u8], b: &[u8]) -> bool
         }
     }
     true
+}
+
+// Returns the fourth byte of a name, 0 if it has none; its first byte is no part of `rest`.
+pub fn fourth(rest: &[u8]) -> u8
+    ensures { λ r. ⌜ (r ≡ getD (now (rest .entry)) 2 0) × (r ≤ 255) ⌝ }
+{
+    if 2 < rest.len() {
+        return rest[2];
+    }
+    0
 }
 
 // Returns the value that a table has as a number of two bytes: the number of a character, that of one above FFFF hex less so much that it fits, or that

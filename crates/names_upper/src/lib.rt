@@ -1,6 +1,7 @@
 // Made by tools/make_names.py from the entries of crates/rules/specs/Names.antt; not to be edited.
-// The names that begin with upper-case letters, a function for each letter, and in it groups by the second byte. Each group is three tables: the names one
-// after the other without their first letter, the length of each, and the numbers of their values (`codeBytes` in crates/names_search/specs/Lent.antt).
+// The names that begin with A to Z, a function for each letter, and in it groups by the second byte, or by the second and the fourth. Each group
+// is three tables: the names one after the other without their first letter, the length of each, and the numbers of their values (`codeBytes` in
+// crates/names_search/specs/Lent.antt).
 ghost use mathlib.Core.Path.{_≡_};
 ghost use mathlib.Core.List.{_∷_};
 ghost use Prim.Native.Nat.{_≤_};
@@ -8,7 +9,7 @@ ghost use lib.ListN.{getD};
 ghost use Rattle.rules.specs.Names.{upper-A, upper-B, upper-C, upper-D, upper-E, upper-F, upper-G, upper-H, upper-I, upper-J, upper-K, upper-L, upper-M, upper-N, upper-O, upper-P, upper-Q, upper-R, upper-S, upper-T, upper-U, upper-V, upper-W, upper-X, upper-Y, upper-Z};
 ghost use Rattle.rules.specs.References.{lookup};
 ghost use Rattle.rules.specs.Answers.{meaningBytes};
-ghost use Rattle.names_search.specs.Seconds.{seconds};
+ghost use Rattle.names_search.specs.Having.{having};
 use rules::Meaning;
 
 const UPPER_A_NAMES: [u8; 78] = *b"\
@@ -149,7 +150,7 @@ const UPPER_C_1_VALUES: [u16; 32] = [
 
 // What `C` and `rest` stand for, where `rest` begins with a byte from 00 to 74 hex.
 fn upper_c_1(rest: &[u8]) -> Meaning
-    ensures { λ r. ⌜ meaningBytes r ≡ lookup (seconds (0x00, 0x74) upper-C) (0x43 ∷ now (rest .entry)) ⌝ }
+    ensures { λ r. ⌜ meaningBytes r ≡ lookup (having 1 (0x00, 0x74) upper-C) (0x43 ∷ now (rest .entry)) ⌝ }
 {
     names_search::find(
         rest,
@@ -171,7 +172,7 @@ const UPPER_C_2_VALUES: [u16; 2] = [
 
 // What `C` and `rest` stand for, where `rest` begins with a byte from 75 to FF hex.
 fn upper_c_2(rest: &[u8]) -> Meaning
-    ensures { λ r. ⌜ meaningBytes r ≡ lookup (seconds (0x75, 0xFF) upper-C) (0x43 ∷ now (rest .entry)) ⌝ }
+    ensures { λ r. ⌜ meaningBytes r ≡ lookup (having 1 (0x75, 0xFF) upper-C) (0x43 ∷ now (rest .entry)) ⌝ }
 {
     names_search::find(
         rest,
@@ -244,7 +245,7 @@ const UPPER_D_1_VALUES: [u16; 20] = [
 
 // What `D` and `rest` stand for, where `rest` begins with a byte from 00 to 6E hex.
 fn upper_d_1(rest: &[u8]) -> Meaning
-    ensures { λ r. ⌜ meaningBytes r ≡ lookup (seconds (0x00, 0x6E) upper-D) (0x44 ∷ now (rest .entry)) ⌝ }
+    ensures { λ r. ⌜ meaningBytes r ≡ lookup (having 1 (0x00, 0x6E) upper-D) (0x44 ∷ now (rest .entry)) ⌝ }
 {
     names_search::find(
         rest,
@@ -332,7 +333,7 @@ const UPPER_D_2_VALUES: [u16; 32] = [
 
 // What `D` and `rest` stand for, where `rest` begins with a byte from 6F to 72 hex.
 fn upper_d_2(rest: &[u8]) -> Meaning
-    ensures { λ r. ⌜ meaningBytes r ≡ lookup (seconds (0x6F, 0x72) upper-D) (0x44 ∷ now (rest .entry)) ⌝ }
+    ensures { λ r. ⌜ meaningBytes r ≡ lookup (having 1 (0x6F, 0x72) upper-D) (0x44 ∷ now (rest .entry)) ⌝ }
 {
     names_search::find(
         rest,
@@ -354,7 +355,7 @@ const UPPER_D_3_VALUES: [u16; 2] = [
 
 // What `D` and `rest` stand for, where `rest` begins with a byte from 73 to FF hex.
 fn upper_d_3(rest: &[u8]) -> Meaning
-    ensures { λ r. ⌜ meaningBytes r ≡ lookup (seconds (0x73, 0xFF) upper-D) (0x44 ∷ now (rest .entry)) ⌝ }
+    ensures { λ r. ⌜ meaningBytes r ≡ lookup (having 1 (0x73, 0xFF) upper-D) (0x44 ∷ now (rest .entry)) ⌝ }
 {
     names_search::find(
         rest,
@@ -686,7 +687,7 @@ const UPPER_L_1_VALUES: [u16; 10] = [
 
 // What `L` and `rest` stand for, where `rest` begins with a byte from 00 to 64 hex.
 fn upper_l_1(rest: &[u8]) -> Meaning
-    ensures { λ r. ⌜ meaningBytes r ≡ lookup (seconds (0x00, 0x64) upper-L) (0x4C ∷ now (rest .entry)) ⌝ }
+    ensures { λ r. ⌜ meaningBytes r ≡ lookup (having 1 (0x00, 0x64) upper-L) (0x4C ∷ now (rest .entry)) ⌝ }
 {
     names_search::find(
         rest,
@@ -774,7 +775,7 @@ const UPPER_L_2_VALUES: [u16; 32] = [
 
 // What `L` and `rest` stand for, where `rest` begins with a byte from 65 to 65 hex.
 fn upper_l_2(rest: &[u8]) -> Meaning
-    ensures { λ r. ⌜ meaningBytes r ≡ lookup (seconds (0x65, 0x65) upper-L) (0x4C ∷ now (rest .entry)) ⌝ }
+    ensures { λ r. ⌜ meaningBytes r ≡ lookup (having 1 (0x65, 0x65) upper-L) (0x4C ∷ now (rest .entry)) ⌝ }
 {
     names_search::find(
         rest,
@@ -812,7 +813,7 @@ const UPPER_L_3_VALUES: [u16; 17] = [
 
 // What `L` and `rest` stand for, where `rest` begins with a byte from 66 to FF hex.
 fn upper_l_3(rest: &[u8]) -> Meaning
-    ensures { λ r. ⌜ meaningBytes r ≡ lookup (seconds (0x66, 0xFF) upper-L) (0x4C ∷ now (rest .entry)) ⌝ }
+    ensures { λ r. ⌜ meaningBytes r ≡ lookup (having 1 (0x66, 0xFF) upper-L) (0x4C ∷ now (rest .entry)) ⌝ }
 {
     names_search::find(
         rest,
@@ -884,7 +885,7 @@ const UPPER_N_1_VALUES: [u16; 13] = [
 
 // What `N` and `rest` stand for, where `rest` begins with a byte from 00 to 6E hex.
 fn upper_n_1(rest: &[u8]) -> Meaning
-    ensures { λ r. ⌜ meaningBytes r ≡ lookup (seconds (0x00, 0x6E) upper-N) (0x4E ∷ now (rest .entry)) ⌝ }
+    ensures { λ r. ⌜ meaningBytes r ≡ lookup (having 1 (0x00, 0x6E) upper-N) (0x4E ∷ now (rest .entry)) ⌝ }
 {
     names_search::find(
         rest,
@@ -894,19 +895,13 @@ fn upper_n_1(rest: &[u8]) -> Meaning
     )
 }
 
-const UPPER_N_2_NAMES: [u8; 733] = *b"\
-    oBreakonBreakingSpaceopfototCongruentotCupCapotDoubleVerticalBarotElementotEqualotEqualTildeotExistsotGreater\
+const UPPER_N_2_1_NAMES: [u8; 219] = *b"\
+    onBreakingSpaceototCongruentotCupCapotDoubleVerticalBarotElementotEqualotEqualTildeotExistsotGreater\
     otGreaterEqualotGreaterFullEqualotGreaterGreaterotGreaterLessotGreaterSlantEqualotGreaterTildeotHumpDownHump\
-    otHumpEqualotLeftTriangleotLeftTriangleBarotLeftTriangleEqualotLessotLessEqualotLessGreaterotLessLess\
-    otLessSlantEqualotLessTildeotNestedGreaterGreaterotNestedLessLessotPrecedesotPrecedesEqualotPrecedesSlantEqual\
-    otReverseElementotRightTriangleotRightTriangleBarotRightTriangleEqualotSquareSubsetotSquareSubsetEqual\
-    otSquareSupersetotSquareSupersetEqualotSubsetotSubsetEqualotSucceedsotSucceedsEqualotSucceedsSlantEqual\
-    otSucceedsTildeotSupersetotSupersetEqualotTildeotTildeEqualotTildeFullEqualotTildeTildeotVerticalBar";
+    otHumpEqual";
 
-const UPPER_N_2_LENGTHS: [u8; 55] = [
-    6,
+const UPPER_N_2_1_LENGTHS: [u8; 18] = [
     15,
-    3,
     2,
     11,
     8,
@@ -924,6 +919,47 @@ const UPPER_N_2_LENGTHS: [u8; 55] = [
     14,
     14,
     11,
+];
+
+const UPPER_N_2_1_VALUES: [u16; 18] = [
+    0x00A0, // NonBreakingSpace
+    0x2AEC, // Not
+    0x2262, // NotCongruent
+    0x226D, // NotCupCap
+    0x2226, // NotDoubleVerticalBar
+    0x2209, // NotElement
+    0x2260, // NotEqual
+    0xF000, // NotEqualTilde
+    0x2204, // NotExists
+    0x226F, // NotGreater
+    0x2271, // NotGreaterEqual
+    0xF001, // NotGreaterFullEqual
+    0xF002, // NotGreaterGreater
+    0x2279, // NotGreaterLess
+    0xF003, // NotGreaterSlantEqual
+    0x2275, // NotGreaterTilde
+    0xF004, // NotHumpDownHump
+    0xF005, // NotHumpEqual
+];
+
+// What `N` and `rest` stand for, where `rest` begins with a byte from 6F to 72 hex and the fourth byte of the name is one from 00 to 4B hex.
+fn upper_n_2_1(rest: &[u8]) -> Meaning
+    ensures { λ r. ⌜ meaningBytes r ≡ lookup (having 3 (0x00, 0x4B) (having 1 (0x6F, 0x72) upper-N)) (0x4E ∷ now (rest .entry)) ⌝ }
+{
+    names_search::find(
+        rest,
+        &UPPER_N_2_1_NAMES,
+        &UPPER_N_2_1_LENGTHS,
+        &UPPER_N_2_1_VALUES,
+    )
+}
+
+const UPPER_N_2_2_NAMES: [u8; 269] = *b"\
+    otLeftTriangleotLeftTriangleBarotLeftTriangleEqualotLessotLessEqualotLessGreaterotLessLessotLessSlantEqual\
+    otLessTildeotNestedGreaterGreaterotNestedLessLessotPrecedesotPrecedesEqualotPrecedesSlantEqualotReverseElement\
+    otRightTriangleotRightTriangleBarotRightTriangleEqual";
+
+const UPPER_N_2_2_LENGTHS: [u8; 18] = [
     14,
     17,
     19,
@@ -942,6 +978,49 @@ const UPPER_N_2_LENGTHS: [u8; 55] = [
     15,
     18,
     20,
+];
+
+const UPPER_N_2_2_VALUES: [u16; 18] = [
+    0x22EA, // NotLeftTriangle
+    0xF006, // NotLeftTriangleBar
+    0x22EC, // NotLeftTriangleEqual
+    0x226E, // NotLess
+    0x2270, // NotLessEqual
+    0x2278, // NotLessGreater
+    0xF007, // NotLessLess
+    0xF008, // NotLessSlantEqual
+    0x2274, // NotLessTilde
+    0xF009, // NotNestedGreaterGreater
+    0xF00A, // NotNestedLessLess
+    0x2280, // NotPrecedes
+    0xF00B, // NotPrecedesEqual
+    0x22E0, // NotPrecedesSlantEqual
+    0x220C, // NotReverseElement
+    0x22EB, // NotRightTriangle
+    0xF00C, // NotRightTriangleBar
+    0x22ED, // NotRightTriangleEqual
+];
+
+// What `N` and `rest` stand for, where `rest` begins with a byte from 6F to 72 hex and the fourth byte of the name is one from 4C to 52 hex.
+fn upper_n_2_2(rest: &[u8]) -> Meaning
+    ensures { λ r. ⌜ meaningBytes r ≡ lookup (having 3 (0x4C, 0x52) (having 1 (0x6F, 0x72) upper-N)) (0x4E ∷ now (rest .entry)) ⌝ }
+{
+    names_search::find(
+        rest,
+        &UPPER_N_2_2_NAMES,
+        &UPPER_N_2_2_LENGTHS,
+        &UPPER_N_2_2_VALUES,
+    )
+}
+
+const UPPER_N_2_3_NAMES: [u8; 245] = *b"\
+    oBreakopfotSquareSubsetotSquareSubsetEqualotSquareSupersetotSquareSupersetEqualotSubsetotSubsetEqualotSucceeds\
+    otSucceedsEqualotSucceedsSlantEqualotSucceedsTildeotSupersetotSupersetEqualotTildeotTildeEqualotTildeFullEqual\
+    otTildeTildeotVerticalBar";
+
+const UPPER_N_2_3_LENGTHS: [u8; 19] = [
+    6,
+    3,
     14,
     19,
     16,
@@ -961,45 +1040,9 @@ const UPPER_N_2_LENGTHS: [u8; 55] = [
     13,
 ];
 
-const UPPER_N_2_VALUES: [u16; 55] = [
+const UPPER_N_2_3_VALUES: [u16; 19] = [
     0x2060, // NoBreak
-    0x00A0, // NonBreakingSpace
     0x2115, // Nopf
-    0x2AEC, // Not
-    0x2262, // NotCongruent
-    0x226D, // NotCupCap
-    0x2226, // NotDoubleVerticalBar
-    0x2209, // NotElement
-    0x2260, // NotEqual
-    0xF000, // NotEqualTilde
-    0x2204, // NotExists
-    0x226F, // NotGreater
-    0x2271, // NotGreaterEqual
-    0xF001, // NotGreaterFullEqual
-    0xF002, // NotGreaterGreater
-    0x2279, // NotGreaterLess
-    0xF003, // NotGreaterSlantEqual
-    0x2275, // NotGreaterTilde
-    0xF004, // NotHumpDownHump
-    0xF005, // NotHumpEqual
-    0x22EA, // NotLeftTriangle
-    0xF006, // NotLeftTriangleBar
-    0x22EC, // NotLeftTriangleEqual
-    0x226E, // NotLess
-    0x2270, // NotLessEqual
-    0x2278, // NotLessGreater
-    0xF007, // NotLessLess
-    0xF008, // NotLessSlantEqual
-    0x2274, // NotLessTilde
-    0xF009, // NotNestedGreaterGreater
-    0xF00A, // NotNestedLessLess
-    0x2280, // NotPrecedes
-    0xF00B, // NotPrecedesEqual
-    0x22E0, // NotPrecedesSlantEqual
-    0x220C, // NotReverseElement
-    0x22EB, // NotRightTriangle
-    0xF00C, // NotRightTriangleBar
-    0x22ED, // NotRightTriangleEqual
     0xF00D, // NotSquareSubset
     0x22E2, // NotSquareSubsetEqual
     0xF00E, // NotSquareSuperset
@@ -1019,16 +1062,30 @@ const UPPER_N_2_VALUES: [u16; 55] = [
     0x2224, // NotVerticalBar
 ];
 
-// What `N` and `rest` stand for, where `rest` begins with a byte from 6F to 72 hex.
-fn upper_n_2(rest: &[u8]) -> Meaning
-    ensures { λ r. ⌜ meaningBytes r ≡ lookup (seconds (0x6F, 0x72) upper-N) (0x4E ∷ now (rest .entry)) ⌝ }
+// What `N` and `rest` stand for, where `rest` begins with a byte from 6F to 72 hex and the fourth byte of the name is one from 53 to FF hex.
+fn upper_n_2_3(rest: &[u8]) -> Meaning
+    ensures { λ r. ⌜ meaningBytes r ≡ lookup (having 3 (0x53, 0xFF) (having 1 (0x6F, 0x72) upper-N)) (0x4E ∷ now (rest .entry)) ⌝ }
 {
     names_search::find(
         rest,
-        &UPPER_N_2_NAMES,
-        &UPPER_N_2_LENGTHS,
-        &UPPER_N_2_VALUES,
+        &UPPER_N_2_3_NAMES,
+        &UPPER_N_2_3_LENGTHS,
+        &UPPER_N_2_3_VALUES,
     )
+}
+
+// What `N` and `rest` stand for, where `rest` begins with a byte from 6F to 72 hex.
+fn upper_n_2(rest: &[u8]) -> Meaning
+    ensures { λ r. ⌜ meaningBytes r ≡ lookup (having 1 (0x6F, 0x72) upper-N) (0x4E ∷ now (rest .entry)) ⌝ }
+{
+    let fourth = names_search::fourth(rest);
+    if fourth < b'L' {
+        return upper_n_2_1(rest);
+    }
+    if fourth < b'S' {
+        return upper_n_2_2(rest);
+    }
+    upper_n_2_3(rest)
 }
 
 const UPPER_N_3_NAMES: [u8; 9] = *b"\
@@ -1044,7 +1101,7 @@ const UPPER_N_3_VALUES: [u16; 3] = [
 
 // What `N` and `rest` stand for, where `rest` begins with a byte from 73 to FF hex.
 fn upper_n_3(rest: &[u8]) -> Meaning
-    ensures { λ r. ⌜ meaningBytes r ≡ lookup (seconds (0x73, 0xFF) upper-N) (0x4E ∷ now (rest .entry)) ⌝ }
+    ensures { λ r. ⌜ meaningBytes r ≡ lookup (having 1 (0x73, 0xFF) upper-N) (0x4E ∷ now (rest .entry)) ⌝ }
 {
     names_search::find(
         rest,
@@ -1210,7 +1267,7 @@ const UPPER_R_1_VALUES: [u16; 15] = [
 
 // What `R` and `rest` stand for, where `rest` begins with a byte from 00 to 68 hex.
 fn upper_r_1(rest: &[u8]) -> Meaning
-    ensures { λ r. ⌜ meaningBytes r ≡ lookup (seconds (0x00, 0x68) upper-R) (0x52 ∷ now (rest .entry)) ⌝ }
+    ensures { λ r. ⌜ meaningBytes r ≡ lookup (having 1 (0x00, 0x68) upper-R) (0x52 ∷ now (rest .entry)) ⌝ }
 {
     names_search::find(
         rest,
@@ -1292,7 +1349,7 @@ const UPPER_R_2_VALUES: [u16; 29] = [
 
 // What `R` and `rest` stand for, where `rest` begins with a byte from 69 to FF hex.
 fn upper_r_2(rest: &[u8]) -> Meaning
-    ensures { λ r. ⌜ meaningBytes r ≡ lookup (seconds (0x69, 0xFF) upper-R) (0x52 ∷ now (rest .entry)) ⌝ }
+    ensures { λ r. ⌜ meaningBytes r ≡ lookup (having 1 (0x69, 0xFF) upper-R) (0x52 ∷ now (rest .entry)) ⌝ }
 {
     names_search::find(
         rest,
@@ -1379,7 +1436,7 @@ const UPPER_S_1_VALUES: [u16; 27] = [
 
 // What `S` and `rest` stand for, where `rest` begins with a byte from 00 to 74 hex.
 fn upper_s_1(rest: &[u8]) -> Meaning
-    ensures { λ r. ⌜ meaningBytes r ≡ lookup (seconds (0x00, 0x74) upper-S) (0x53 ∷ now (rest .entry)) ⌝ }
+    ensures { λ r. ⌜ meaningBytes r ≡ lookup (having 1 (0x00, 0x74) upper-S) (0x53 ∷ now (rest .entry)) ⌝ }
 {
     names_search::find(
         rest,
@@ -1412,7 +1469,7 @@ const UPPER_S_2_VALUES: [u16; 13] = [
 
 // What `S` and `rest` stand for, where `rest` begins with a byte from 75 to FF hex.
 fn upper_s_2(rest: &[u8]) -> Meaning
-    ensures { λ r. ⌜ meaningBytes r ≡ lookup (seconds (0x75, 0xFF) upper-S) (0x53 ∷ now (rest .entry)) ⌝ }
+    ensures { λ r. ⌜ meaningBytes r ≡ lookup (having 1 (0x75, 0xFF) upper-S) (0x53 ∷ now (rest .entry)) ⌝ }
 {
     names_search::find(
         rest,
@@ -1571,7 +1628,7 @@ const UPPER_U_1_VALUES: [u16; 32] = [
 
 // What `U` and `rest` stand for, where `rest` begins with a byte from 00 to 71 hex.
 fn upper_u_1(rest: &[u8]) -> Meaning
-    ensures { λ r. ⌜ meaningBytes r ≡ lookup (seconds (0x00, 0x71) upper-U) (0x55 ∷ now (rest .entry)) ⌝ }
+    ensures { λ r. ⌜ meaningBytes r ≡ lookup (having 1 (0x00, 0x71) upper-U) (0x55 ∷ now (rest .entry)) ⌝ }
 {
     names_search::find(
         rest,
@@ -1595,7 +1652,7 @@ const UPPER_U_2_VALUES: [u16; 4] = [
 
 // What `U` and `rest` stand for, where `rest` begins with a byte from 72 to FF hex.
 fn upper_u_2(rest: &[u8]) -> Meaning
-    ensures { λ r. ⌜ meaningBytes r ≡ lookup (seconds (0x72, 0xFF) upper-U) (0x55 ∷ now (rest .entry)) ⌝ }
+    ensures { λ r. ⌜ meaningBytes r ≡ lookup (having 1 (0x72, 0xFF) upper-U) (0x55 ∷ now (rest .entry)) ⌝ }
 {
     names_search::find(
         rest,

@@ -1,26 +1,44 @@
--- `names_upper::upper_n_2` meets its contract: computed, its numbers are those rows of the table.
+-- `names_upper::upper_n_2` meets its contract: a name is looked up in the group of its fourth byte as it is in all of them.
 -- Made by tools/make_names.py. Assumes nothing.
-use mathlib.Core.Path.{refl}
+use mathlib.Core.Path.{_∙_}
+use mathlib.Core.List.{_∷_}
+use native.Mathlib.Omega.{arith}
+use borrow.Author.Needs.{needs}
 use Rattle.rules.specs.Names.{upper-N}
-use Rattle.names_search.specs.Listed.{listed}
+use Rattle.names_search.specs.Having.{having}
+use Rattle.names_search.proofs.Lookups.{in-part}
 use Rattle.names_upper.proofs.upper_n_2.Statement.{statement}
 use Rattle.names_upper.proofs.upper_n_2.Tie as tie
 
-slice-aggregate-find : tie.Need-slice-aggregate-find
-slice-aggregate-find c = refl
+fourth-requires : tie.Need-fourth-requires
+fourth-requires c κs = search needs
 
-slice-aggregate-find-2 : tie.Need-slice-aggregate-find-2
-slice-aggregate-find-2 c = refl
-
-slice-aggregate-find-3 : tie.Need-slice-aggregate-find-3
-slice-aggregate-find-3 c = refl
-
-find-requires : tie.Need-find-requires
-find-requires c κs = tt
+upper-n-2-1-requires : tie.Need-upper-n-2-1-requires
+upper-n-2-1-requires c κs = search needs
 
 returns : tie.Need-returns
-unfolding upper-N listed
-returns c = c .find .ensures 0x4E
+returns c = c .upper-n-2-1 .ensures ∙ in-part 3 0x00 0x4B (0x4E ∷ c .before .before .before .before .args .rest .now) (omega (arith, c .before .before .fourth .ensures)) (omega (arith, c .before .before .fourth .ensures)) (having 1 (0x6F, 0x72) upper-N)
+
+upper-n-2-2-requires : tie.Need-upper-n-2-2-requires
+upper-n-2-2-requires c κs = search needs
+
+returns-2 : tie.Need-returns-2
+returns-2 c = c .upper-n-2-2 .ensures ∙ in-part 3 0x4C 0x52 (0x4E ∷ c .before .before .before .before .before .args .rest .now) (omega (arith, c .before .before .before .fourth .ensures)) (omega (arith, c .before .before .before .fourth .ensures)) (having 1 (0x6F, 0x72) upper-N)
+
+upper-n-2-3-requires : tie.Need-upper-n-2-3-requires
+upper-n-2-3-requires c κs = search needs
+
+returns-3 : tie.Need-returns-3
+returns-3 c = c .upper-n-2-3 .ensures ∙ in-part 3 0x53 0xFF (0x4E ∷ c .before .before .before .before .before .args .rest .now) (omega (arith, c .before .before .before .fourth .ensures)) (omega (arith, c .before .before .before .fourth .ensures)) (having 1 (0x6F, 0x72) upper-N)
 
 pub upper-n-2-spec : {M : Type 1} → statement M
-upper-n-2-spec = tie.close (tie.spec slice-aggregate-find slice-aggregate-find-2 slice-aggregate-find-3 find-requires returns)
+upper-n-2-spec =
+    tie.close
+    (tie.spec
+    fourth-requires
+    upper-n-2-1-requires
+    returns
+    upper-n-2-2-requires
+    returns-2
+    upper-n-2-3-requires
+    returns-3)

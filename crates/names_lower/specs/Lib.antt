@@ -1,1 +1,0 @@
--- No definitions of its own: its contracts cite those of `rules` and `search`.
