@@ -21,22 +21,16 @@ LARGEST_BY_FOURTH = 20
 # The letters of each crate.
 CRATES = {"names_upper": "ABCDEFGHIJKLMNOPQRSTUVWXYZ", "names_a_to_l": "abcdefghijkl", "names_m_to_z": "mnopqrstuvwxyz"}
 
-# The ranges of characters of names_written, each from its first to its last character that has a name.
-RANGES = [
-    (0xA0, 0x17F),
-    (0x180, 0x2FF),
-    (0x300, 0x45F),
-    (0x2000, 0x20FF),
-    (0x2100, 0x21FF),
-    (0x2200, 0x22FF),
-    (0x2300, 0x24FF),
-    (0x2500, 0x25FF),
-    (0x2600, 0x27FF),
-    (0x2900, 0x29FF),
-    (0x2A00, 0x2AFF),
-    (0xFB00, 0xFB04),
-    (0x1D49C, 0x1D56B),
-]
+# The ranges of characters of names_written, each from its first to its last character that has a name, by the function that chooses among them and the
+# span of characters that it is for. The tables of a range are laid out on the stack, so none has much over a kilobyte.
+SPANS = {
+    "put_low": ((0x80, 0x21FF), [(0xA0, 0xFF), (0x100, 0x17F), (0x180, 0x2FF), (0x300, 0x45F), (0x2000, 0x20FF), (0x2100, 0x21FF)]),
+    "put_middle": (
+        (0x2200, 0x29FF),
+        [(0x2200, 0x227F), (0x2280, 0x22FF), (0x2300, 0x24FF), (0x2500, 0x25FF), (0x2600, 0x27FF), (0x2900, 0x297F), (0x2980, 0x29FF)],
+    ),
+    "put_high": ((0x2A00, 0x10FFFF), [(0x2A00, 0x2A7F), (0x2A80, 0x2AFF), (0xFB00, 0xFB04), (0x1D49C, 0x1D56B)]),
+}
 
 HEAD = """\
 // Made by tools/make_names.py from the entries of crates/rules/specs/Names.antt; not to be edited.
@@ -198,6 +192,91 @@ pub fn {function}(code: u32, room: &mut [u8]) -> usize
 {{
     place::put_named(code, 0x{low:X}, &{const}_NAMES, &{const}_OFFSETS, room)
 }}
+"""
+
+SPAN_HEAD = """\
+// Made by tools/make_names.py from the entries of crates/rules/specs/Names.antt; not to be edited.
+// The choice of a table by the range that a character is in.
+ghost use mathlib.Core.Path.{_≡_};
+ghost use Prim.Native.Nat.{_≤_};
+ghost use lib.ListN.{length};
+ghost use Rattle.rules.specs.Bytes.{inside};
+ghost use Rattle.rules.specs.Utf8.{utf8};
+ghost use Rattle.rules.specs.Ascii.{nameOf};
+ghost use Rattle.rules.specs.Browsing.{given};
+ghost use Rattle.names_written.specs.Ties.{Puts};
+use crate::table;
+
+// Reports whether a character is from `low` to `high`.
+fn is_among(low: u32, high: u32, code: u32) -> bool
+    ensures { λ r. ⌜ r ≡ inside (low, high) code ⌝ }
+{
+    (low <= code) & (code <= high)
+}
+"""
+
+SPAN_CODE = """
+// Copies the name of a character from U+{low:04X} to U+{high:04X}, as `put_name` does.
+pub fn {function}(code: u32, room: &mut [u8]) -> usize
+    requires {{ ⌜ (0x{low:X} ≤ code) × (code ≤ 0x{high:X}) × (20 ≤ length (now room)) ⌝ }}
+    ensures {{ λ r. ⌜ Puts (given (nameOf (utf8 code))) r (now (room .entry)) (now (room .exit)) × (r ≤ 20) ⌝ }}
+{{
+{tests}
+    0
+}}
+"""
+
+SPAN_TEST = """\
+    if is_among(0x{low:X}, 0x{high:X}, code) {{
+        return table::from_{low:x}(code, room);
+    }}"""
+
+SPAN_PROOF = """\
+-- `names_written::choice::{function}` meets its contract: the name is in the table of the range that the character is in, and there is none outside of
+-- all ranges.
+-- Made by tools/make_names.py. Assumes nothing.
+use borrow.Author.Needs.{{needs}}
+use mathlib.Core.Bool.{{false}}
+use mathlib.Core.Path.{{_≡_, refl, sym, _∙_}}
+use mathlib.Core.List.{{[], _∷_}}
+use native.Mathlib.Omega.{{arith}}
+use Rattle.rules.specs.Bytes.{{inside}}
+use Rattle.rules.specs.Names.{{names}}
+use Rattle.names_written.proofs.Named.{{among, none-outside}}
+use Rattle.names_written.proofs.choice.{function}.Statement.{{statement}}
+use Rattle.names_written.proofs.choice.{function}.Tie as tie
+
+{needs}
+{rest} : tie.Need-{rest}
+unfolding names
+{rest} c =
+    let code = c {back} .args .code in
+    let h = c {back} .pre in
+{tests}
+    let none = none-outside (0x{low:X}, 0x{high:X}) ({ranges} ∷ []) tt code (h .0) (h .1) (omega (arith, h)) (rw ({facts}) refl) in
+    (rw none (refl, refl), omega arith)
+
+pub {spec}-spec : {{M : Type 1}} → statement M
+{spec}-spec =
+    tie.close
+    (tie.spec
+{names})
+"""
+
+SPAN_NEEDS = """\
+is-among-requires{dash} : tie.Need-is-among-requires{dash}
+is-among-requires{dash} c κs = search needs
+
+from-{low:x}-requires : tie.Need-from-{low:x}-requires
+from-{low:x}-requires c κs =
+    let (l, h) = among (c .before .before .is-among{digit} .result) 0x{low:X} 0x{high:X} (c {back} .args .code) (c .before .before .is-among{digit} .ensures) (c .before .if{k} .taken) in
+    (l, h, c {back} .pre .2)
+
+same-length{dash} : tie.Need-same-length{dash}
+same-length{dash} c = search needs
+
+{name} : tie.Need-{name}
+{name} c = search needs
 """
 
 WRITTEN_PROOF = """\
@@ -487,33 +566,85 @@ def written(table):
     return best
 
 
-def written_of(table):
-    """The code of names_written's tables, and the proofs."""
-    best = written(table)
-    code, proofs, covered = WRITTEN_HEAD, {}, set()
-    for first, last in RANGES:
-        codes = sorted(c for c in best if first <= c <= last)
-        low, high = codes[0], codes[-1]
-        names = [best.get(c, "") for c in range(low, high + 1)]
-        places = [0]
-        for name in names:
-            places.append(places[-1] + len(name))
-        function = f"from_{low:x}"
-        code += WRITTEN_GROUP.format(
-            const=function.upper(),
-            function=function,
-            low=low,
-            high=high,
-            size=places[-1],
-            places=len(places),
-            names=lines_of([name for name in names if name], 110),
-            offsets=", ".join(map(str, places)) if len(places) < 10 else "\n" + "".join(f"    {place},\n" for place in places),
-        )
-        proofs[function] = WRITTEN_PROOF.format(function=function, spec=function.replace("_", "-"), low=low, high=high, places=len(places))
-        covered.update(codes)
-    if covered != set(best):
+def ranges_of(best, parts):
+    """The ranges, each from its first to its last character that has a name."""
+    for first, last in parts:
+        codes = [code for code in best if first <= code <= last]
+        yield min(codes), max(codes)
+
+
+def range_code(best, low, high):
+    """The tables of a range and the function that searches them; and its proof."""
+    names = [best.get(code, "") for code in range(low, high + 1)]
+    places = [0]
+    for name in names:
+        places.append(places[-1] + len(name))
+    function = f"from_{low:x}"
+    code = WRITTEN_GROUP.format(
+        const=function.upper(),
+        function=function,
+        low=low,
+        high=high,
+        size=places[-1],
+        places=len(places),
+        names=lines_of([name for name in names if name], 110),
+        offsets=", ".join(map(str, places)) if len(places) < 10 else "\n" + "".join(f"    {place},\n" for place in places),
+    )
+    return code, WRITTEN_PROOF.format(function=function, spec=function.replace("_", "-"), low=low, high=high, places=len(places))
+
+
+def back(count):
+    """So many steps back in a proof."""
+    return " ".join([".before"] * count)
+
+
+def span_code(function, span, ranges):
+    """The function that chooses among the ranges of a span; and its proof."""
+    count, names = len(ranges), returns(len(ranges) + 1)
+    digits = [""] + [str(k) for k in range(2, count + 1)]
+    dashes = ["-" + digit if digit else "" for digit in digits]
+    code = SPAN_CODE.format(function=function, low=span[0], high=span[1], tests="\n".join(SPAN_TEST.format(low=low, high=high) for low, high in ranges))
+    needs = [
+        SPAN_NEEDS.format(low=low, high=high, dash=dashes[k], digit=digits[k], k=k + 1, back=back(4 + 2 * k), name=names[k])
+        for k, (low, high) in enumerate(ranges)
+    ]
+    tests = [
+        f"    let e{k + 1} : inside (0x{low:X}, 0x{high:X}) code ≡ false = "
+        f"sym (c {back(2 * (count - k) - 1)} .is-among{digits[k]} .ensures) ∙ c {back(2 * (count - k) - 2)} .if{k + 1} .left in".replace("c  .", "c .")
+        for k, (low, high) in enumerate(ranges)
+    ]
+    order = [f"is-among-requires{dashes[k]}\n    from-{low:x}-requires\n    same-length{dashes[k]}\n    {names[k]}" for k, (low, _) in enumerate(ranges)]
+    proof = SPAN_PROOF.format(
+        function=function,
+        spec=function.replace("_", "-"),
+        needs="\n".join(needs),
+        rest=names[-1],
+        back=back(2 * count + 1),
+        tests="\n".join(tests),
+        low=span[0],
+        high=span[1],
+        ranges=" ∷ ".join(f"(0x{low:X}, 0x{high:X})" for low, high in ranges),
+        facts=", ".join(f"e{k + 1}" for k in range(count)),
+        names="\n".join("    " + line for line in order + [names[-1]]),
+    )
+    return code, proof
+
+
+def written_files(table):
+    """The crate names_written: the tables of the ranges, the choice among them, and the proofs."""
+    folder, best = ROOT / "crates/names_written", written(table)
+    made, tables, choice, covered = {}, WRITTEN_HEAD, SPAN_HEAD, set()
+    for function, (span, parts) in SPANS.items():
+        ranges = list(ranges_of(best, parts))
+        for low, high in ranges:
+            code, made[folder / f"proofs/table/from_{low:x}/Proof.antt"] = range_code(best, low, high)
+            tables += code
+            covered.update(range(low, high + 1))
+        code, made[folder / f"proofs/choice/{function}/Proof.antt"] = span_code(function, span, ranges)
+        choice += code
+    if not set(best) <= covered:
         sys.exit("a character that has a name is in no range")
-    return code, proofs
+    return made | {folder / "src/table.rt": tables, folder / "src/choice.rt": choice}
 
 
 def pack(value):
@@ -725,12 +856,7 @@ def files():
     made[folder / "specs/Words.antt"] = specs
     for function, proof in proofs.items():
         made[folder / "proofs/table" / function / "Proof.antt"] = proof
-    folder = ROOT / "crates/names_written"
-    code, proofs = written_of(table)
-    made[folder / "src/table.rt"] = code
-    for function, proof in proofs.items():
-        made[folder / "proofs/table" / function / "Proof.antt"] = proof
-    return made
+    return made | written_files(table)
 
 
 def main():

@@ -142,32 +142,23 @@ in-unicode code high a b = omega arith
 
 -- ---- characters outside of every range
 
--- The ranges of the tables.
-abbrev pub ranges : List Range
-ranges =
-    (0xA0, 0x17E) ∷ (0x192, 0x2DD) ∷ (0x311, 0x45F) ∷ (0x2002, 0x20DC) ∷ (0x2102, 0x21FF) ∷ (0x2200, 0x22FE) ∷ (0x2305, 0x24C8) ∷ (0x2500, 0x25FC)
-    ∷ (0x2605, 0x27FF) ∷ (0x2902, 0x29F6) ∷ (0x2A00, 0x2AFD) ∷ (0xFB00, 0xFB04) ∷ (0x1D49C, 0x1D56B) ∷ []
+-- A row that stands for one character of the span has one of a range.
+abbrev pub isRanged : Range → List Range → Row → Bool
+isRanged span ranges row = not (isOne span row) || any (λ (range : Range). inside range (codeOf (value row))) ranges
 
--- A row that stands for one character above 7F has one of a range.
-abbrev isRanged : Row → Bool
-isRanged row = not (isOne (0x80, 0x10FFFF) row) || any (λ (range : Range). inside range (codeOf (value row))) ranges
-
-names-ranged : T (all isRanged names)
-unfolding names
-names-ranged = tt
-
--- So any other character has no name.
-pub none-outside : (code : ℕ) → 0x80 ≤ code → code ≤ 0x10FFFF → any (λ (range : Range). inside range code) ranges ≡ false → given (nameOf (utf8 code)) ≡ []
+-- So any other character of the span has no name.
+pub none-outside : (span : Range) (ranges : List Range) → T (all (isRanged span ranges) names) → (code : ℕ) → span .0 ≤ code → code ≤ span .1 → code ≤ 0x10FFFF
+    → any (λ (range : Range). inside range code) ranges ≡ false → given (nameOf (utf8 code)) ≡ []
 unfolding nameOf
-none-outside code low top out = go (nameIn names (utf8 code)) refl
+none-outside span ranges ranged code low high top out = go (nameIn names (utf8 code)) refl
   where
     back : codeOf (utf8 code) ≡ code
     back = code-utf8 code top
 
-    one : (n : List ℕ) → T (isOne (0x80, 0x10FFFF) (n, utf8 code))
+    one : (n : List ℕ) → T (isOne span (n, utf8 code))
     one n =
-        and-both (inside (0x80, 0x10FFFF) (codeOf (utf8 code))) (sameBytes (utf8 (codeOf (utf8 code))) (utf8 code))
-        (subst (λ (k : ℕ). T (inside (0x80, 0x10FFFF) k)) (sym back) (and-both (leb 0x80 code) (leb code 0x10FFFF) (le→leb 0x80 code low) (le→leb code 0x10FFFF top)))
+        and-both (inside span (codeOf (utf8 code))) (sameBytes (utf8 (codeOf (utf8 code))) (utf8 code))
+        (subst (λ (k : ℕ). T (inside span k)) (sym back) (and-both (leb (span .0) code) (leb code (span .1)) (le→leb (span .0) code low) (le→leb code (span .1) high)))
         (subst (λ (k : ℕ). T (sameBytes (utf8 k) (utf8 code))) (sym back) (same-refl (utf8 code)))
 
     denied : (a b : Bool) → T a → T (not a || b) → T b
@@ -178,15 +169,8 @@ none-outside code low top out = go (nameIn names (utf8 code)) refl
     go none e = refl
     go (some n) e =
         let (i, most) = name-in names (utf8 code) n e in
-        let t = denied (isOne (0x80, 0x10FFFF) (n, utf8 code)) (any (λ (range : Range). inside range (codeOf (utf8 code))) ranges) (one n) (all-in isRanged names names-ranged (n, utf8 code) i) in
+        let t = denied (isOne span (n, utf8 code)) (any (λ (range : Range). inside range (codeOf (utf8 code))) ranges) (one n) (all-in (isRanged span ranges) names ranged (n, utf8 code) i) in
         absurd (subst T out (subst (λ (k : ℕ). T (any (λ (range : Range). inside range k) ranges)) back t))
-
--- A range that a character does not reach, or that it lies beyond.
-pub not-below : (low high code : ℕ) → code < low → inside (low, high) code ≡ false
-not-below low high code h = rw (lt-leb low code h)
-
-pub not-above : (low high code : ℕ) → high < code → inside (low, high) code ≡ false
-not-above low high code h = is-false (inside (low, high) code) (λ t. let k = leb→le code high (and-right (leb low code) (leb code high) t) in let f : ⊥ = omega arith in f)
 
 -- What the test of a range says.
 pub among : (r : Bool) (low high code : ℕ) → r ≡ inside (low, high) code → r ≡ true → (low ≤ code) × (code ≤ high)

@@ -19,7 +19,7 @@ put-named-requires : tie.Need-put-named-requires
 unfolding isTied names
 put-named-requires c κs =
     let h = c .before .before .before .before .pre in
-    (h .0, in-table (c .before .before .before .before .args .code) 0x2200 0x22FE 256 (h .0) (h .1) (omega arith), in-unicode (c .before .before .before .before .args .code) 0x22FE (h .1) (omega arith), h .2, tt)
+    (h .0, in-table (c .before .before .before .before .args .code) 0x2200 0x227F 129 (h .0) (h .1) (omega arith), in-unicode (c .before .before .before .before .args .code) 0x227F (h .1) (omega arith), h .2, tt)
 
 same-length : tie.Need-same-length
 same-length c = search needs

@@ -1,0 +1,160 @@
+-- `names_written::choice::put_middle` meets its contract: the name is in the table of the range that the character is in, and there is none outside of
+-- all ranges.
+-- Made by tools/make_names.py. Assumes nothing.
+use borrow.Author.Needs.{needs}
+use mathlib.Core.Bool.{false}
+use mathlib.Core.Path.{_≡_, refl, sym, _∙_}
+use mathlib.Core.List.{[], _∷_}
+use native.Mathlib.Omega.{arith}
+use Rattle.rules.specs.Bytes.{inside}
+use Rattle.rules.specs.Names.{names}
+use Rattle.names_written.proofs.Named.{among, none-outside}
+use Rattle.names_written.proofs.choice.put_middle.Statement.{statement}
+use Rattle.names_written.proofs.choice.put_middle.Tie as tie
+
+is-among-requires : tie.Need-is-among-requires
+is-among-requires c κs = search needs
+
+from-2200-requires : tie.Need-from-2200-requires
+from-2200-requires c κs =
+    let (l, h) = among (c .before .before .is-among .result) 0x2200 0x227F (c .before .before .before .before .args .code) (c .before .before .is-among .ensures) (c .before .if1 .taken) in
+    (l, h, c .before .before .before .before .pre .2)
+
+same-length : tie.Need-same-length
+same-length c = search needs
+
+returns : tie.Need-returns
+returns c = search needs
+
+is-among-requires-2 : tie.Need-is-among-requires-2
+is-among-requires-2 c κs = search needs
+
+from-2280-requires : tie.Need-from-2280-requires
+from-2280-requires c κs =
+    let (l, h) = among (c .before .before .is-among2 .result) 0x2280 0x22FE (c .before .before .before .before .before .before .args .code) (c .before .before .is-among2 .ensures) (c .before .if2 .taken) in
+    (l, h, c .before .before .before .before .before .before .pre .2)
+
+same-length-2 : tie.Need-same-length-2
+same-length-2 c = search needs
+
+returns-2 : tie.Need-returns-2
+returns-2 c = search needs
+
+is-among-requires-3 : tie.Need-is-among-requires-3
+is-among-requires-3 c κs = search needs
+
+from-2305-requires : tie.Need-from-2305-requires
+from-2305-requires c κs =
+    let (l, h) = among (c .before .before .is-among3 .result) 0x2305 0x24C8 (c .before .before .before .before .before .before .before .before .args .code) (c .before .before .is-among3 .ensures) (c .before .if3 .taken) in
+    (l, h, c .before .before .before .before .before .before .before .before .pre .2)
+
+same-length-3 : tie.Need-same-length-3
+same-length-3 c = search needs
+
+returns-3 : tie.Need-returns-3
+returns-3 c = search needs
+
+is-among-requires-4 : tie.Need-is-among-requires-4
+is-among-requires-4 c κs = search needs
+
+from-2500-requires : tie.Need-from-2500-requires
+from-2500-requires c κs =
+    let (l, h) = among (c .before .before .is-among4 .result) 0x2500 0x25FC (c .before .before .before .before .before .before .before .before .before .before .args .code) (c .before .before .is-among4 .ensures) (c .before .if4 .taken) in
+    (l, h, c .before .before .before .before .before .before .before .before .before .before .pre .2)
+
+same-length-4 : tie.Need-same-length-4
+same-length-4 c = search needs
+
+returns-4 : tie.Need-returns-4
+returns-4 c = search needs
+
+is-among-requires-5 : tie.Need-is-among-requires-5
+is-among-requires-5 c κs = search needs
+
+from-2605-requires : tie.Need-from-2605-requires
+from-2605-requires c κs =
+    let (l, h) = among (c .before .before .is-among5 .result) 0x2605 0x27FF (c .before .before .before .before .before .before .before .before .before .before .before .before .args .code) (c .before .before .is-among5 .ensures) (c .before .if5 .taken) in
+    (l, h, c .before .before .before .before .before .before .before .before .before .before .before .before .pre .2)
+
+same-length-5 : tie.Need-same-length-5
+same-length-5 c = search needs
+
+returns-5 : tie.Need-returns-5
+returns-5 c = search needs
+
+is-among-requires-6 : tie.Need-is-among-requires-6
+is-among-requires-6 c κs = search needs
+
+from-2902-requires : tie.Need-from-2902-requires
+from-2902-requires c κs =
+    let (l, h) = among (c .before .before .is-among6 .result) 0x2902 0x297F (c .before .before .before .before .before .before .before .before .before .before .before .before .before .before .args .code) (c .before .before .is-among6 .ensures) (c .before .if6 .taken) in
+    (l, h, c .before .before .before .before .before .before .before .before .before .before .before .before .before .before .pre .2)
+
+same-length-6 : tie.Need-same-length-6
+same-length-6 c = search needs
+
+returns-6 : tie.Need-returns-6
+returns-6 c = search needs
+
+is-among-requires-7 : tie.Need-is-among-requires-7
+is-among-requires-7 c κs = search needs
+
+from-2985-requires : tie.Need-from-2985-requires
+from-2985-requires c κs =
+    let (l, h) = among (c .before .before .is-among7 .result) 0x2985 0x29F6 (c .before .before .before .before .before .before .before .before .before .before .before .before .before .before .before .before .args .code) (c .before .before .is-among7 .ensures) (c .before .if7 .taken) in
+    (l, h, c .before .before .before .before .before .before .before .before .before .before .before .before .before .before .before .before .pre .2)
+
+same-length-7 : tie.Need-same-length-7
+same-length-7 c = search needs
+
+returns-7 : tie.Need-returns-7
+returns-7 c = search needs
+
+returns-8 : tie.Need-returns-8
+unfolding names
+returns-8 c =
+    let code = c .before .before .before .before .before .before .before .before .before .before .before .before .before .before .before .args .code in
+    let h = c .before .before .before .before .before .before .before .before .before .before .before .before .before .before .before .pre in
+    let e1 : inside (0x2200, 0x227F) code ≡ false = sym (c .before .before .before .before .before .before .before .before .before .before .before .before .before .is-among .ensures) ∙ c .before .before .before .before .before .before .before .before .before .before .before .before .if1 .left in
+    let e2 : inside (0x2280, 0x22FE) code ≡ false = sym (c .before .before .before .before .before .before .before .before .before .before .before .is-among2 .ensures) ∙ c .before .before .before .before .before .before .before .before .before .before .if2 .left in
+    let e3 : inside (0x2305, 0x24C8) code ≡ false = sym (c .before .before .before .before .before .before .before .before .before .is-among3 .ensures) ∙ c .before .before .before .before .before .before .before .before .if3 .left in
+    let e4 : inside (0x2500, 0x25FC) code ≡ false = sym (c .before .before .before .before .before .before .before .is-among4 .ensures) ∙ c .before .before .before .before .before .before .if4 .left in
+    let e5 : inside (0x2605, 0x27FF) code ≡ false = sym (c .before .before .before .before .before .is-among5 .ensures) ∙ c .before .before .before .before .if5 .left in
+    let e6 : inside (0x2902, 0x297F) code ≡ false = sym (c .before .before .before .is-among6 .ensures) ∙ c .before .before .if6 .left in
+    let e7 : inside (0x2985, 0x29F6) code ≡ false = sym (c .before .is-among7 .ensures) ∙ c .if7 .left in
+    let none = none-outside (0x2200, 0x29FF) ((0x2200, 0x227F) ∷ (0x2280, 0x22FE) ∷ (0x2305, 0x24C8) ∷ (0x2500, 0x25FC) ∷ (0x2605, 0x27FF) ∷ (0x2902, 0x297F) ∷ (0x2985, 0x29F6) ∷ []) tt code (h .0) (h .1) (omega (arith, h)) (rw (e1, e2, e3, e4, e5, e6, e7) refl) in
+    (rw none (refl, refl), omega arith)
+
+pub put-middle-spec : {M : Type 1} → statement M
+put-middle-spec =
+    tie.close
+    (tie.spec
+    is-among-requires
+    from-2200-requires
+    same-length
+    returns
+    is-among-requires-2
+    from-2280-requires
+    same-length-2
+    returns-2
+    is-among-requires-3
+    from-2305-requires
+    same-length-3
+    returns-3
+    is-among-requires-4
+    from-2500-requires
+    same-length-4
+    returns-4
+    is-among-requires-5
+    from-2605-requires
+    same-length-5
+    returns-5
+    is-among-requires-6
+    from-2902-requires
+    same-length-6
+    returns-6
+    is-among-requires-7
+    from-2985-requires
+    same-length-7
+    returns-7
+    returns-8)
