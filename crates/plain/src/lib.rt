@@ -10,6 +10,8 @@ ghost use Rattle.plain.specs.Plain.{plain, specialAt, farOf};
 use look::low;
 
 // The sizes of the blocks in which a text is tested: the largest that fits into it, since fewer blocks are fewer branches. LARGE is four vectors.
+const TINY: usize = 4;
+
 const SMALL: usize = 8;
 
 const MEDIUM: usize = 16;
@@ -111,9 +113,9 @@ fn longest(unquoted: bool) -> usize
     if unquoted { rules::TEXT_LIMIT } else { LARGE }
 }
 
-// Reports whether a text of eight bytes or more is plain; false also for a text that is not tested. The longer it is, the larger the blocks.
+// Reports whether a text of four bytes or more is plain; false also for a text that is not tested. The longer it is, the larger the blocks.
 pub fn is_plain(unquoted: bool, text: &[u8]) -> bool
-    ensures { λ r. ⌜ (r ≡ true → (8 ≤ length (now (text .entry))) × (length (now (text .entry)) ≤ 65536) × Free (specialAt unquoted (now (text .entry))) 0 (length (now (text .entry)))) ⌝ }
+    ensures { λ r. ⌜ (r ≡ true → (length (now (text .entry)) ≤ 65536) × Free (specialAt unquoted (now (text .entry))) 0 (length (now (text .entry)))) ⌝ }
 {
     if longest(unquoted) < text.len() {
         return false;
@@ -126,6 +128,9 @@ pub fn is_plain(unquoted: bool, text: &[u8]) -> bool
     }
     if SMALL <= text.len() {
         return all_plain(unquoted, text, SMALL);
+    }
+    if TINY <= text.len() {
+        return all_plain(unquoted, text, TINY);
     }
     false
 }
