@@ -16,11 +16,20 @@ pub fn put_name(code: u32, room: &mut [u8]) -> usize
     requires { ⌜ (0x80 ≤ code) × (code ≤ 0x10FFFF) × (20 ≤ length (now room)) ⌝ }
     ensures { λ r. ⌜ Puts (given (nameOf (utf8 code))) r (now (room .entry)) (now (room .exit)) × (r ≤ 20) ⌝ }
 {
-    if code < 0x2200 {
-        return choice::put_low(code, room);
+    if code < 0x300 {
+        return choice::put_from_80(code, room);
     }
-    if code < 0x2A00 {
-        return choice::put_middle(code, room);
+    if code < 0x2160 {
+        return choice::put_from_300(code, room);
     }
-    choice::put_high(code, room)
+    if code < 0x2300 {
+        return choice::put_from_2160(code, room);
+    }
+    if code < 0x2800 {
+        return choice::put_from_2300(code, room);
+    }
+    if code < 0x2A80 {
+        return choice::put_from_2800(code, room);
+    }
+    choice::put_from_2a80(code, room)
 }

@@ -19,7 +19,7 @@ put-named-requires : tie.Need-put-named-requires
 unfolding isTied names
 put-named-requires c κs =
     let h = c .before .before .before .before .pre in
-    (h .0, in-table (c .before .before .before .before .args .code) 0x2102 0x21FF 255 (h .0) (h .1) (omega arith), in-unicode (c .before .before .before .before .args .code) 0x21FF (h .1) (omega arith), h .2, tt)
+    (h .0, in-table (c .before .before .before .before .args .code) 0x2102 0x215E 94 (h .0) (h .1) (omega arith), in-unicode (c .before .before .before .before .args .code) 0x215E (h .1) (omega arith), h .2, tt)
 
 same-length : tie.Need-same-length
 same-length c = search needs
