@@ -4,7 +4,6 @@ ghost use Rattle.frame.specs.Tries.{Tries};
 use jobs::job::Job;
 use outcomes::Outcome;
 use rules::Answer;
-use rules::Context;
 
 // What a try gives: the answer, with the output as it should be; or nothing is done yet.
 pub enum Tried {
@@ -12,18 +11,14 @@ pub enum Tried {
     Untried,
 }
 
-// Reads a text in an HTML context, if it is long, ASCII, and has none of the bytes that the context replaces but `&`; any other job, and any other text, is
-// left as it is.
+// Reads a text, if there is a quick way for its context and length; any other job, and any other text, is left as it is.
 pub fn read(job: Job, borrows: bool, text: &[u8], output: &mut [u8]) -> Tried
     ensures { λ r. ⌜ Tries (ruleBy job) borrows (now (text .entry)) (now (output .entry)) (now (output .exit)) r ⌝ }
 {
     let Job::Read(context) = job else {
         return Tried::Untried;
     };
-    let Context::InHtml(h) = context else {
-        return Tried::Untried;
-    };
-    match read_html::read(h, text, output) {
+    match readers::read(context, text, output) {
         Outcome::Untried => Tried::Untried,
         Outcome::Same => Tried::Answered(crate::unchanged(borrows, 0, 0, text, output)),
         Outcome::NoRoom(length) => Tried::Answered(crate::refusal(rules::NO_ROOM, length, 0)),

@@ -87,14 +87,6 @@ read-four c p s = ruled (ruleBack c s) (byRule c (charAt s))
     ruled none (some v) e = four e
     ruled none none e = go (rowAt value (rows c) s) (any (λ (k : List ℕ). stands k s) (replacedChars c)) (sequenceAt s) e
 
--- A context that is not ascii_quoted has no rule beside its table.
-pub ruleless : (c : Context) → (c ≡ InAscii → ⊥) → (a : List ℕ) → byRule c a ≡ none
-ruleless (InHtml h) n a = refl
-ruleless (InScript q) n a = refl
-ruleless (InStyle q) n a = refl
-ruleless InJson n a = refl
-ruleless InAscii n a = absurd (n refl)
-
 -- Only decode of a JSON string stops for half a surrogate pair.
 pub four-only : (job : Job) (t : List ℕ) → (job ≡ DecodeJson → ⊥) → place (through (ruleBy job) t) < size t → eqb (whyAt (ruleBy job) t) 10 ≡ false
 unfolding ruleBy decodeStep

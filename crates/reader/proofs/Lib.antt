@@ -4,3 +4,4 @@ pub mod Narrow
 pub mod Placed
 pub mod Scanning
 pub mod JsonRows
+pub mod Ruleless

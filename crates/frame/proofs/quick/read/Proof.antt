@@ -1,10 +1,8 @@
 -- `read` meets its contract: each outcome of the quick reader settles a row of the table (Outcomes), or nothing is done.
 -- Assumes nothing.
-use mathlib.Core.Path.{_≡_, ap, _∙_}
+use mathlib.Core.Path.{_∙_}
 use borrow.Author.Needs.{needs}
-use Rattle.rules.specs.declared.Context.the-variants.{InHtml}
 use Rattle.jobs.specs.Jobs.{ruleBy}
-use Rattle.jobs.specs.declared.job.Job.the-variants.{Read}
 use Rattle.frame.proofs.Outcomes.{leaves-at, quick-same, quick-room, quick-written}
 use Rattle.frame.proofs.quick.read.Statement.{statement}
 use Rattle.frame.proofs.quick.read.Tie as tie
@@ -14,12 +12,6 @@ enum-known-job c = search needs
 
 returns : tie.Need-returns
 returns c = search needs
-
-enum-known-context : tie.Need-enum-known-context
-enum-known-context c = search needs
-
-returns-2 : tie.Need-returns-2
-returns-2 c = search needs
 
 read-requires : tie.Need-read-requires
 read-requires c κs = search needs
@@ -48,45 +40,40 @@ passed-requires c κs = search needs
 same-length : tie.Need-same-length
 same-length c = search needs
 
-returns-3 : tie.Need-returns-3
-returns-3 c = rw (c .enum-told .given .1) at (c .before .before .before .before .read .ensures)
+returns-2 : tie.Need-returns-2
+returns-2 c = rw (c .enum-told .given .1) at (c .before .before .before .before .read .ensures)
 
 same-length-2 : tie.Need-same-length-2
 same-length-2 c = search needs
 
-returns-4 : tie.Need-returns-4
-returns-4 c =
-    let a = c .before .before .before .before .before .before .before .before .before .before .before .before .before .before .before .before .before .before .args in
+returns-3 : tie.Need-returns-3
+returns-3 c =
+    let a = c .before .before .before .before .before .before .before .before .before .before .before .before .before .before .before .args in
     let t = a .text .now in
-    let h = c .before .before .before .before .before .before .before .before .before .before .before .context .given .0 .0 in
-    let is : a .job ≡ Read (InHtml h) = c .before .before .before .before .before .before .before .before .before .before .before .before .before .before .job .given .1 ∙ ap Read (c .before .before .before .before .before .before .before .before .before .before .before .context .given .1) in
+    let is = c .before .before .before .before .before .before .before .before .before .before .before .job .given in
     let s = rw (c .before .before .before .before .enum-told2 .given .1) at (c .before .before .before .before .before .before .before .before .read .ensures) in
-    leaves-at (ruleBy (a .job)) (a .borrows) t (s .2) (c .before .before .unchanged .ensures (ruleBy (a .job)) (quick-same (a .job) h is t (s .0) (s .1)))
+    leaves-at (ruleBy (a .job)) (a .borrows) t (s .2) (c .before .before .unchanged .ensures (ruleBy (a .job)) (quick-same (a .job) (is .0 .0) (is .1) t (s .0) (s .1)))
 
 same-length-3 : tie.Need-same-length-3
 same-length-3 c = search needs
 
-returns-5 : tie.Need-returns-5
-returns-5 c =
-    let a = c .before .before .before .before .before .before .before .before .before .before .before .before .before .before .before .before .args in
-    let t = a .text .now in
-    let h = c .before .before .before .before .before .before .before .before .before .context .given .0 .0 in
-    let is : a .job ≡ Read (InHtml h) = c .before .before .before .before .before .before .before .before .before .before .before .before .job .given .1 ∙ ap Read (c .before .before .before .before .before .before .before .before .before .context .given .1) in
+returns-4 : tie.Need-returns-4
+returns-4 c =
+    let a = c .before .before .before .before .before .before .before .before .before .before .before .before .before .args in
+    let is = c .before .before .before .before .before .before .before .before .before .job .given in
     let s = rw (c .before .before .length .given .1) at (c .before .before .before .before .before .before .read .ensures) in
-    let l = quick-room (a .job) h is t (s .0) (s .1) (a .borrows) (a .output .now) (c .before .before .length .given .0 .0) (s .2) (s .3) in
+    let l = quick-room (a .job) (is .0 .0) (is .1) (a .text .now) (s .0) (s .1) (a .borrows) (a .output .now) (c .before .before .length .given .0 .0) (s .2) (s .3) in
     (c .refusal .ensures ∙ l .0, s .4 ∙ l .1)
 
 same-length-4 : tie.Need-same-length-4
 same-length-4 c = search needs
 
-returns-6 : tie.Need-returns-6
-returns-6 c =
-    let a = c .before .before .before .before .before .before .before .before .before .before .before .before .before .before .before .before .args in
-    let t = a .text .now in
-    let h = c .before .before .before .before .before .before .before .before .before .context .given .0 .0 in
-    let is : a .job ≡ Read (InHtml h) = c .before .before .before .before .before .before .before .before .before .before .before .before .job .given .1 ∙ ap Read (c .before .before .before .before .before .before .before .before .before .context .given .1) in
+returns-5 : tie.Need-returns-5
+returns-5 c =
+    let a = c .before .before .before .before .before .before .before .before .before .before .before .before .before .args in
+    let is = c .before .before .before .before .before .before .before .before .before .job .given in
     let s = rw (c .before .before .length2 .given .1) at (c .before .before .before .before .before .before .read .ensures) in
-    let l = quick-written (a .job) h is t (s .0) (s .1) (a .borrows) (a .output .now) (c .before .before .length2 .given .0 .0) (c .before .before .length2 .given .0 .1 .0) (s .2) (s .3) in
+    let l = quick-written (a .job) (is .0 .0) (is .1) (a .text .now) (s .0) (s .1) (a .borrows) (a .output .now) (c .before .before .length2 .given .0 .0) (c .before .before .length2 .given .0 .1 .0) (s .2) (s .3) in
     (c .passed .ensures ∙ l .0, s .4 ∙ l .1)
 
 pub read-spec : {M : Type 1} → statement M
@@ -95,8 +82,6 @@ read-spec =
     (tie.spec
     enum-known-job
     returns
-    enum-known-context
-    returns-2
     read-requires
     enum-told
     enum-told-2
@@ -106,10 +91,10 @@ read-spec =
     enum-known-length-2
     passed-requires
     same-length
-    returns-3
+    returns-2
     same-length-2
-    returns-4
+    returns-3
     same-length-3
-    returns-5
+    returns-4
     same-length-4
-    returns-6)
+    returns-5)

@@ -3,7 +3,7 @@
 use mathlib.Core.List.{[], _∷_}
 use types.Run.{miss}
 use borrow.Author.Needs.{needs}
-use Rattle.jobs.proofs.Found.{ruleless}
+use Rattle.reader.proofs.Ruleless.{ruleless}
 use Rattle.jobs.proofs.work.write_read.Statement.{statement}
 use Rattle.jobs.proofs.work.write_read.Tie as tie
 

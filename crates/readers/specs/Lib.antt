@@ -1,0 +1,1 @@
+-- No definitions of its own: its contracts cite those of `rules` and `outcomes`.

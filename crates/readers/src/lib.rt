@@ -1,0 +1,19 @@
+// The strict reader by the quickest way for a context and a length, where there is one that is quicker than measuring and writing.
+mod short;
+
+ghost use Rattle.outcomes.specs.Outcomes.{Reads};
+use outcomes::Outcome;
+use rules::Context;
+
+// Reads a text, if there is a quick way for it; tells the caller otherwise, and then the output is as it was.
+pub fn read(c: Context, text: &[u8], output: &mut [u8]) -> Outcome
+    ensures { λ r. ⌜ Reads c (now (text .entry)) (now (output .entry)) (now (output .exit)) r ⌝ }
+{
+    if text.len() <= short::LONGEST {
+        return short::read(c, text, output);
+    }
+    match c {
+        Context::InHtml(h) => read_html::read(h, text, output),
+        _ => Outcome::Untried,
+    }
+}

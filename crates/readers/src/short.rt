@@ -1,0 +1,58 @@
+// Short texts: the result is written at once to a room of its own, and copied if the text is a form. Measuring it first would take as long again.
+ghost use mathlib.Core.Path.{_≡_};
+ghost use Prim.Native.Nat.{_≤_};
+ghost use lib.ListN.{length};
+ghost use Rattle.rules.specs.Bytes.{over};
+ghost use Rattle.rules.specs.Utf8.{validTo};
+ghost use Rattle.outcomes.specs.Outcomes.{Reads};
+ghost use Rattle.reader.specs.Units.{Ruleless};
+use outcomes::Outcome;
+use rules::Context;
+
+// The longest text that is short, which is as long as the room.
+pub const LONGEST: usize = 64;
+
+// Copies a text to the start of `output`; the bytes after it keep their values.
+fn copy(text: &[u8], output: &mut [u8]) -> usize
+    requires { ⌜ length (now text) ≤ length (now output) ⌝ }
+    ensures { λ r. ⌜ (r ≡ length (now (text .entry))) × (now (output .exit) ≡ over (now (text .entry)) (now (output .entry))) ⌝ }
+{
+    if text.len() < 8 {
+        return base::put(text, output);
+    }
+    base::put_short(text, output)
+}
+
+// Reads a short text that is valid.
+fn read_valid(c: Context, text: &[u8], output: &mut [u8]) -> Outcome
+    requires { ⌜ (length (now text) ≤ 64) × (validTo (now text) ≡ length (now text)) × Ruleless c ⌝ }
+    ensures { λ r. ⌜ Reads c (now (text .entry)) (now (output .entry)) (now (output .exit)) r ⌝ }
+{
+    let mut room = [0u8; LONGEST];
+    let done = reader::write(c, text, &mut room);
+    if done.place < text.len() {
+        return Outcome::Untried;
+    }
+    if done.replaced == 0 {
+        return Outcome::Same;
+    }
+    if output.len() < done.length {
+        return Outcome::NoRoom(done.length);
+    }
+    copy(&room[..done.length], output);
+    Outcome::Written(done.length, done.replaced)
+}
+
+// Reads a short text, if it is valid and its context has a table of units.
+pub fn read(c: Context, text: &[u8], output: &mut [u8]) -> Outcome
+    requires { ⌜ length (now text) ≤ 64 ⌝ }
+    ensures { λ r. ⌜ Reads c (now (text .entry)) (now (output .entry)) (now (output .exit)) r ⌝ }
+{
+    if let Context::InAscii = c {
+        return Outcome::Untried;
+    }
+    if utf8::valid_to(text) < text.len() {
+        return Outcome::Untried;
+    }
+    read_valid(c, text, output)
+}
