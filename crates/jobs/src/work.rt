@@ -10,12 +10,10 @@ ghost use Rattle.rules.specs.Bytes.{over};
 ghost use Rattle.rules.specs.Moves.{through, result, taken};
 ghost use Rattle.rules.specs.Utf8.{validTo};
 ghost use Rattle.rules.specs.Answers.{Measures};
-ghost use Rattle.rules.specs.Reading.{readStep};
-ghost use Rattle.rules.specs.Operations.{readOf};
 ghost use Rattle.jobs.specs.Jobs.{ruleBy, countedFor, Low, Seen, Judged};
 use crate::job::Job;
 use encode_html::Scan;
-use rules::Context;
+use readers::general;
 use rules::Html;
 use rules::Language;
 use rules::Measured;
@@ -145,28 +143,6 @@ fn by_ones(length: usize, size: usize) -> Measured
     whole(length, length - size, size)
 }
 
-// Measures what read makes of a valid text: ascii_quoted has units by rule, the others those of a table.
-fn measure_read(context: Context, text: &[u8]) -> Measured
-    requires { ⌜ (length (now text) ≤ 65536) × (validTo (now text) ≡ length (now text)) ⌝ }
-    ensures { λ r. ⌜ Measures r (through (readStep context) (now (text .entry))) ⌝ }
-{
-    let Context::InAscii = context else {
-        return reader::measure(context, text);
-    };
-    read_ascii::measure(text)
-}
-
-// Writes what read makes of a valid text to the start of `output`; what lies past it keeps its values.
-fn write_read(context: Context, text: &[u8], output: &mut [u8]) -> Measured
-    requires { ⌜ (validTo (now text) ≡ length (now text)) × (length (readOf context (now text)) ≤ length (now output)) ⌝ }
-    ensures { λ r. ⌜ Measures r (through (readStep context) (now (text .entry))) × (now (output .exit) ≡ over (readOf context (now (text .entry))) (now (output .entry))) ⌝ }
-{
-    let Context::InAscii = context else {
-        return reader::write(context, text, output);
-    };
-    read_ascii::write(text, output)
-}
-
 // Measures what a job makes of a valid text; `scan` is what the glance told.
 fn measure(job: Job, scan: Scan, text: &[u8]) -> Measured
     requires { ⌜ (length (now text) ≤ 65536) × (validTo (now text) ≡ length (now text)) × Seen job scan (now text) ⌝ }
@@ -181,7 +157,7 @@ fn measure(job: Job, scan: Scan, text: &[u8]) -> Measured
         Job::BrowseReferences(kind) => browse_html::measure(kind, text),
         Job::DecodeScript(quotes) => decode_strings::measure(Language::Script, quotes, text),
         Job::DecodeStyle(quotes) => decode_strings::measure(Language::Style, quotes, text),
-        Job::Read(context) => measure_read(context, text),
+        Job::Read(context) => general::measure_read(context, text),
         Job::EncodeJson => encode_strings::measure(Notation::Json, Quotes::Double, text),
         Job::DecodeJson => decode_json::measure(text),
         Job::EncodeAscii => encode_ascii::measure(text),
@@ -230,7 +206,7 @@ pub fn write(job: Job, scan: Scan, text: &[u8], output: &mut [u8]) -> Measured
         Job::BrowseReferences(kind) => browse_html::write(kind, text, output),
         Job::DecodeScript(quotes) => decode_strings::write(Language::Script, quotes, text, output),
         Job::DecodeStyle(quotes) => decode_strings::write(Language::Style, quotes, text, output),
-        Job::Read(context) => write_read(context, text, output),
+        Job::Read(context) => general::write_read(context, text, output),
         Job::EncodeJson => encode_strings::write(Notation::Json, Quotes::Double, text, output),
         Job::DecodeJson => decode_json::write(text, output),
         Job::EncodeAscii => encode_ascii::write(text, output),

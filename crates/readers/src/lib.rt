@@ -1,4 +1,5 @@
 // The strict reader by the quickest way for a context and a length, where there is one that is quicker than measuring and writing.
+pub mod general;
 mod short;
 
 ghost use Rattle.outcomes.specs.Outcomes.{Reads};

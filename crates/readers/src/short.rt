@@ -5,7 +5,7 @@ ghost use lib.ListN.{length};
 ghost use Rattle.rules.specs.Bytes.{over};
 ghost use Rattle.rules.specs.Utf8.{validTo};
 ghost use Rattle.outcomes.specs.Outcomes.{Reads};
-ghost use Rattle.reader.specs.Units.{Ruleless};
+use crate::general;
 use outcomes::Outcome;
 use rules::Context;
 
@@ -25,11 +25,11 @@ fn copy(text: &[u8], output: &mut [u8]) -> usize
 
 // Reads a short text that is valid.
 fn read_valid(c: Context, text: &[u8], output: &mut [u8]) -> Outcome
-    requires { ⌜ (length (now text) ≤ 64) × (validTo (now text) ≡ length (now text)) × Ruleless c ⌝ }
+    requires { ⌜ (length (now text) ≤ 64) × (validTo (now text) ≡ length (now text)) ⌝ }
     ensures { λ r. ⌜ Reads c (now (text .entry)) (now (output .entry)) (now (output .exit)) r ⌝ }
 {
     let mut room = [0u8; LONGEST];
-    let done = reader::write(c, text, &mut room);
+    let done = general::write_read(c, text, &mut room);
     if done.place < text.len() {
         return Outcome::Untried;
     }
@@ -43,14 +43,11 @@ fn read_valid(c: Context, text: &[u8], output: &mut [u8]) -> Outcome
     Outcome::Written(done.length, done.replaced)
 }
 
-// Reads a short text, if it is valid and its context has a table of units.
+// Reads a short text, if it is valid.
 pub fn read(c: Context, text: &[u8], output: &mut [u8]) -> Outcome
     requires { ⌜ length (now text) ≤ 64 ⌝ }
     ensures { λ r. ⌜ Reads c (now (text .entry)) (now (output .entry)) (now (output .exit)) r ⌝ }
 {
-    if let Context::InAscii = c {
-        return Outcome::Untried;
-    }
     if utf8::valid_to(text) < text.len() {
         return Outcome::Untried;
     }

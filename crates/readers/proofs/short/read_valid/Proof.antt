@@ -8,14 +8,14 @@ use Rattle.readers.proofs.Rooms.{fits, whole, measured, head, reaches, 
 use Rattle.readers.proofs.short.read_valid.Statement.{statement}
 use Rattle.readers.proofs.short.read_valid.Tie as tie
 
-slice-aggregate-write : tie.Need-slice-aggregate-write
-slice-aggregate-write c = search needs
+slice-aggregate-write-read : tie.Need-slice-aggregate-write-read
+slice-aggregate-write-read c = search needs
 
-write-requires : tie.Need-write-requires
-write-requires c κs =
+write-read-requires : tie.Need-write-read-requires
+write-read-requires c κs =
     let a = c .before .before .before .args in
     let p = c .before .before .before .pre in
-    (p .1, fits (a .c) (a .text .now) (p .0), p .2)
+    (p .1, fits (a .c) (a .text .now) (p .0))
 
 returns : tie.Need-returns
 returns c = search needs
@@ -24,35 +24,35 @@ returns-2 : tie.Need-returns-2
 returns-2 c =
     let a = c .before .before .before .before .before .before .before .before .before .args in
     let p = c .before .before .before .before .before .before .before .before .before .pre in
-    let w = c .before .before .before .before .before .write in
+    let w = c .before .before .before .before .before .write-read in
     (whole (a .c) (a .text .now) (p .0) (w .result) (w .ensures .0) (p .1) (c .before .before .if1 .left), sym (w .ensures .0 .many) ∙ c .if2 .taken, refl)
 
 returns-3 : tie.Need-returns-3
 returns-3 c =
     let a = c .before .before .before .before .before .before .before .before .before .before .before .args in
     let p = c .before .before .before .before .before .before .before .before .before .before .before .pre in
-    let w = c .before .before .before .before .before .before .before .write in
+    let w = c .before .before .before .before .before .before .before .write-read in
     (whole (a .c) (a .text .now) (p .0) (w .result) (w .ensures .0) (p .1) (c .before .before .before .before .if1 .left), λ z. c .before .before .if2 .left (w .ensures .0 .many ∙ z), w .ensures .0 .long, c .if3 .taken, refl)
 
 array-share-prefix-room : tie.Need-array-share-prefix-room
 array-share-prefix-room c =
     let a = c .before .before .before .before .before .before .before .before .before .before .before .args in
     let p = c .before .before .before .before .before .before .before .before .before .before .before .pre in
-    let w = c .before .before .before .before .before .before .before .write in
+    let w = c .before .before .before .before .before .before .before .write-read in
     reaches (a .c) (a .text .now) (p .0) (w .result) (w .ensures .0) _ (w .last .1 .1 .0) (w .ensures .1)
 
 slice-aggregate-copy : tie.Need-slice-aggregate-copy
 slice-aggregate-copy c =
     let a = c .before .before .before .before .before .before .before .before .before .before .before .before .args in
     let p = c .before .before .before .before .before .before .before .before .before .before .before .before .pre in
-    let w = c .before .before .before .before .before .before .before .before .write in
+    let w = c .before .before .before .before .before .before .before .before .write-read in
     head-size (a .c) (a .text .now) (p .0) (w .result) (w .ensures .0) _ (w .last .1 .1 .0) (w .ensures .1)
 
 copy-requires : tie.Need-copy-requires
 copy-requires c κs =
     let a = c .before .before .before .before .before .before .before .before .before .before .before .before .before .args in
     let p = c .before .before .before .before .before .before .before .before .before .before .before .before .before .pre in
-    let w = c .before .before .before .before .before .before .before .before .before .write in
+    let w = c .before .before .before .before .before .before .before .before .before .write-read in
     omega (arith, c .before .before .if3 .left, head-size (a .c) (a .text .now) (p .0) (w .result) (w .ensures .0) _ (w .last .1 .1 .0) (w .ensures .1))
 
 same-length : tie.Need-same-length
@@ -62,7 +62,7 @@ returns-4 : tie.Need-returns-4
 returns-4 c =
     let a = c .before .before .before .before .before .before .before .before .before .before .before .before .before .before .before .before .args in
     let p = c .before .before .before .before .before .before .before .before .before .before .before .before .before .before .before .before .pre in
-    let w = c .before .before .before .before .before .before .before .before .before .before .before .before .write in (
+    let w = c .before .before .before .before .before .before .before .before .before .before .before .before .write-read in (
       whole (a .c) (a .text .now) (p .0) (w .result) (w .ensures .0) (p .1) (c .before .before .before .before .before .before .before .before .before .if1 .left),
       λ z. c .before .before .before .before .before .before .before .if2 .left (w .ensures .0 .many ∙ z),
       measured (a .c) (a .text .now) (p .0) (w .result) (w .ensures .0) (c .before .before .before .before .before .before .before .before .before .if1 .left),
@@ -74,8 +74,8 @@ pub read-valid-spec : {M : Type 1} → statement M
 read-valid-spec =
     tie.close
     (tie.spec
-    slice-aggregate-write
-    write-requires
+    slice-aggregate-write-read
+    write-read-requires
     returns
     returns-2
     returns-3

@@ -4,8 +4,8 @@ use mathlib.Core.List.{[], _∷_}
 use types.Run.{miss}
 use borrow.Author.Needs.{needs}
 use Rattle.reader.proofs.Ruleless.{ruleless}
-use Rattle.jobs.proofs.work.write_read.Statement.{statement}
-use Rattle.jobs.proofs.work.write_read.Tie as tie
+use Rattle.readers.proofs.general.write_read.Statement.{statement}
+use Rattle.readers.proofs.general.write_read.Tie as tie
 
 enum-told : tie.Need-enum-told
 enum-told c = search needs
