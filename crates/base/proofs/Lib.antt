@@ -1,5 +1,6 @@
 pub mod Eights
 pub mod Filled
+pub mod Spilt
 pub mod Part
 pub mod Counted
 pub mod Firsts

@@ -3,3 +3,4 @@ pub mod First
 pub mod Places
 pub mod Closing
 pub mod Digits
+pub mod Words

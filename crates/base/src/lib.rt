@@ -2,6 +2,7 @@
 pub mod chars;
 pub mod find;
 pub mod prefix;
+pub mod words;
 
 ghost use mathlib.Core.Bool.{cond};
 ghost use mathlib.Core.Path.{_≡_};

@@ -15,7 +15,7 @@ use Rattle.rules.specs.declared.Html.the-variants.{Unquoted}
 use Rattle.rules.proofs.Tests.{same-bytes}
 use Rattle.plain.specs.Plain.{unquoted}
 use Rattle.encode_html.specs.Written.{written, onlyText}
-use Rattle.encode_html.specs.Words.{wordOf, eight}
+use Rattle.base.specs.Words.{wordOf, eight}
 use Rattle.encode_html.proofs.Seven.{seven-bytes, agree}
 
 -- The choice between `&`, `<`, `>` and the byte itself, and that between all six.

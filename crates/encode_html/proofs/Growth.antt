@@ -17,7 +17,7 @@ use Rattle.rules.specs.declared.Context.the-variants.{InHtml}
 use Rattle.plain.specs.Plain.{unquoted}
 use Rattle.encode_html.specs.Written.{written, onlyText}
 use Rattle.encode_html.specs.Gains.{gainOf, grows, growsBy, gainsOf, Grows, hitsOf, Hits}
-use Rattle.encode_html.specs.Words.{wordOf}
+use Rattle.base.specs.Words.{wordOf}
 use Rattle.encode_html.specs.declared.gains.Gains.{Gains}
 use Rattle.encode_html.proofs.Seven.{seven-bytes, agree}
 use Rattle.base.proofs.Part.{part-length}

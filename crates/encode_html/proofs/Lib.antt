@@ -2,6 +2,5 @@ pub mod Seven
 pub mod Text
 pub mod Growth
 pub mod Choices
-pub mod Spilt
 pub mod Unchanged
 pub mod Sixteen

@@ -13,18 +13,13 @@ use Rattle.rules.specs.Encoding.{encodeStep}
 use Rattle.rules.specs.Operations.{encodeOf}
 use Rattle.rules.specs.declared.Html.{Html}
 use Rattle.rules.specs.declared.Context.the-variants.{InHtml}
-use Rattle.plain.specs.Plain.{unquoted, lesser}
-use Rattle.plain.proofs.Xors.{lesser-most}
+use Rattle.plain.specs.Plain.{unquoted}
 use Rattle.encode_html.specs.Written.{written}
 use Rattle.encode_html.specs.Gains.{gainsOf}
 use Rattle.encode_html.specs.Keys.{keysOf, farOf}
 use Rattle.encode_html.specs.declared.look.Keys.{Keys}
 use Rattle.encode_html.proofs.Seven.{agree}
 use Rattle.encode_html.proofs.Text.{copied, single-length}
-
--- The lesser of two is above 0 only if both are.
-pub lesser-some : (a b : ℕ) → 0 < lesser a b → (0 < a) × (0 < b)
-lesser-some a b l = let most = lesser-most a b in (omega (arith, l, most), omega (arith, l, most))
 
 far-single : (h : Html) → unquoted h ≡ false → (b : ℕ) → b < 256 → 0 < farOf (keysOf (gainsOf h)) b → length (written h b) ≡ 1
 unfolding written encodeStep

@@ -10,7 +10,7 @@ use super::words::word;
 use rules::Html;
 ghost use mathlib.Core.Bool.{false};
 ghost use mathlib.Core.Path.{_≡_};
-ghost use Prim.Native.Nat.{_+_, _/_, _≤_, _<_};
+ghost use Prim.Native.Nat.{_+_, _≤_, _<_};
 ghost use lib.ListN.{length};
 ghost use Rattle.rules.specs.Bytes.{over};
 ghost use Rattle.rules.specs.Operations.{encodeOf};
@@ -19,7 +19,8 @@ ghost use Rattle.plain.specs.Plain.{unquoted};
 ghost use Rattle.encode_html.specs.Written.{written};
 ghost use Rattle.encode_html.specs.Gains.{gainsOf};
 ghost use Rattle.encode_html.specs.Keys.{keysOf};
-ghost use Rattle.encode_html.specs.Words.{eight, wordOf, wordsOf, Table, Spills};
+ghost use Rattle.base.specs.Words.{wordOf, Spills};
+ghost use Rattle.encode_html.specs.Words.{wordsOf, Table};
 
 // Bytes that are copied together if none is replaced: one vector, and few enough for most parts of a text to have nothing to replace.
 const PART: usize = 16;
@@ -27,28 +28,12 @@ const PART: usize = 16;
 // A text above this length is written by a table of the words of all bytes, which takes longer to make than it saves on a shorter one.
 const LONG: usize = 256;
 
-// Stores the eight bytes of a word and returns how many of them count.
-fn store(x: u64, output: &mut [u8]) -> usize
-    requires { ⌜ 8 ≤ length (now output) ⌝ }
-    ensures { λ r. ⌜ (r ≡ x / 0x100000000000000) × (now (output .exit) ≡ over (eight x) (now (output .entry))) ⌝ }
-{
-    output[0] = (x % 0x100) as u8;
-    output[1] = (x / 0x100 % 0x100) as u8;
-    output[2] = (x / 0x1_0000 % 0x100) as u8;
-    output[3] = (x / 0x100_0000 % 0x100) as u8;
-    output[4] = (x / 0x1_0000_0000 % 0x100) as u8;
-    output[5] = (x / 0x100_0000_0000 % 0x100) as u8;
-    output[6] = (x / 0x1_0000_0000_0000 % 0x100) as u8;
-    output[7] = (x / 0x100_0000_0000_0000 % 0x100) as u8;
-    (x / 0x100_0000_0000_0000) as usize
-}
-
 // Writes the encoding of a byte, given its word.
 fn write_byte(h: Html, b: u8, word: u64, output: &mut [u8]) -> usize
     requires { ⌜ (word ≡ wordOf (written h b)) × (length (written h b) + 7 ≤ length (now output)) ⌝ }
-    ensures { λ r. ⌜ (r ≡ length (written h b)) × Spills (written h b) (now (output .entry)) (now (output .exit)) ⌝ }
+    ensures { λ r. ⌜ (r ≡ length (written h b)) × Spills 7 (written h b) (now (output .entry)) (now (output .exit)) ⌝ }
 {
-    store(word, output)
+    base::words::store(word, output)
 }
 
 // Writes the encoding of a short text byte by byte.
@@ -56,7 +41,7 @@ fn write_bytes(h: Html, w: Words, text: &[u8], output: &mut [u8]) -> usize
     requires { ⌜ w ≡ wordsOf h ⌝ }
     requires { ⌜ length (encodeOf (InHtml h) (now text)) + 7 ≤ length (now output) ⌝ }
     ensures { λ r. ⌜ r ≡ length (encodeOf (InHtml h) (now (text .entry))) ⌝ }
-    ensures { λ _. ⌜ Spills (encodeOf (InHtml h) (now (text .entry))) (now (output .entry)) (now (output .exit)) ⌝ }
+    ensures { λ _. ⌜ Spills 7 (encodeOf (InHtml h) (now (text .entry))) (now (output .entry)) (now (output .exit)) ⌝ }
 {
     let mut at: usize = 0;
     let mut i: usize = 0;
@@ -73,7 +58,7 @@ fn write_words(h: Html, table: &[u64; 256], text: &[u8], output: &mut [u8]) -> u
     requires { ⌜ Table h (now table) ⌝ }
     requires { ⌜ length (encodeOf (InHtml h) (now text)) + 7 ≤ length (now output) ⌝ }
     ensures { λ r. ⌜ r ≡ length (encodeOf (InHtml h) (now (text .entry))) ⌝ }
-    ensures { λ _. ⌜ Spills (encodeOf (InHtml h) (now (text .entry))) (now (output .entry)) (now (output .exit)) ⌝ }
+    ensures { λ _. ⌜ Spills 7 (encodeOf (InHtml h) (now (text .entry))) (now (output .entry)) (now (output .exit)) ⌝ }
 {
     let mut at: usize = 0;
     let mut i: usize = 0;
@@ -90,7 +75,7 @@ fn write_part(h: Html, k: Keys, table: &[u64; 256], part: &[u8], output: &mut [u
     requires { ⌜ (unquoted h ≡ false) × (k ≡ keysOf (gainsOf h)) × Table h (now table) × (length (now part) ≡ 16) ⌝ }
     requires { ⌜ length (encodeOf (InHtml h) (now part)) + 7 ≤ length (now output) ⌝ }
     ensures { λ r. ⌜ r ≡ length (encodeOf (InHtml h) (now (part .entry))) ⌝ }
-    ensures { λ _. ⌜ Spills (encodeOf (InHtml h) (now (part .entry))) (now (output .entry)) (now (output .exit)) ⌝ }
+    ensures { λ _. ⌜ Spills 7 (encodeOf (InHtml h) (now (part .entry))) (now (output .entry)) (now (output .exit)) ⌝ }
 {
     if 0 < least(k, part) {
         return base::put_short(part, output);
@@ -103,7 +88,7 @@ fn write_parts(h: Html, k: Keys, table: &[u64; 256], text: &[u8], output: &mut [
     requires { ⌜ (unquoted h ≡ false) × (k ≡ keysOf (gainsOf h)) × Table h (now table) ⌝ }
     requires { ⌜ length (encodeOf (InHtml h) (now text)) + 7 ≤ length (now output) ⌝ }
     ensures { λ r. ⌜ r ≡ length (encodeOf (InHtml h) (now (text .entry))) ⌝ }
-    ensures { λ _. ⌜ Spills (encodeOf (InHtml h) (now (text .entry))) (now (output .entry)) (now (output .exit)) ⌝ }
+    ensures { λ _. ⌜ Spills 7 (encodeOf (InHtml h) (now (text .entry))) (now (output .entry)) (now (output .exit)) ⌝ }
 {
     let mut at: usize = 0;
     let mut i: usize = 0;
@@ -121,7 +106,7 @@ fn write_long(h: Html, w: Words, text: &[u8], grow: usize, output: &mut [u8]) ->
     requires { ⌜ w ≡ wordsOf h ⌝ }
     requires { ⌜ length (encodeOf (InHtml h) (now text)) + 7 ≤ length (now output) ⌝ }
     ensures { λ r. ⌜ r ≡ length (encodeOf (InHtml h) (now (text .entry))) ⌝ }
-    ensures { λ _. ⌜ Spills (encodeOf (InHtml h) (now (text .entry))) (now (output .entry)) (now (output .exit)) ⌝ }
+    ensures { λ _. ⌜ Spills 7 (encodeOf (InHtml h) (now (text .entry))) (now (output .entry)) (now (output .exit)) ⌝ }
 {
     let table = table_of(h, w);
     if text.len() / 8 <= grow {
@@ -138,7 +123,7 @@ pub fn write_most(h: Html, w: Words, text: &[u8], grow: usize, output: &mut [u8]
     requires { ⌜ w ≡ wordsOf h ⌝ }
     requires { ⌜ length (encodeOf (InHtml h) (now text)) + 7 ≤ length (now output) ⌝ }
     ensures { λ r. ⌜ r ≡ length (encodeOf (InHtml h) (now (text .entry))) ⌝ }
-    ensures { λ _. ⌜ Spills (encodeOf (InHtml h) (now (text .entry))) (now (output .entry)) (now (output .exit)) ⌝ }
+    ensures { λ _. ⌜ Spills 7 (encodeOf (InHtml h) (now (text .entry))) (now (output .entry)) (now (output .exit)) ⌝ }
 {
     if LONG < text.len() {
         return write_long(h, w, text, grow, output);

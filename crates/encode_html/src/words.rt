@@ -1,14 +1,15 @@
 // The encoding of a byte as one word: up to six bytes, the first the lowest, and their number in the highest byte.
 // html-escape's `write_html_entity` and `write_hex`.
+use base::words::plain;
 use rules::Html;
 ghost use mathlib.Core.Path.{_≡_};
 ghost use mathlib.Core.Bool.{cond};
-ghost use mathlib.Core.List.{[], _∷_};
 ghost use lib.Dec.{eqb};
 ghost use Rattle.rules.specs.Tables.{value, reference};
 ghost use Rattle.rules.specs.declared.Html.the-variants.{Unquoted};
 ghost use Rattle.encode_html.specs.Written.{written};
-ghost use Rattle.encode_html.specs.Words.{wordOf, wordsOf, Table};
+ghost use Rattle.base.specs.Words.{wordOf};
+ghost use Rattle.encode_html.specs.Words.{wordsOf, Table};
 
 // `&amp;`
 const AMP: u64 = 0x0500_003B_706D_6126;
@@ -57,13 +58,6 @@ impl Words {
             slash,
         }
     }
-}
-
-// Returns the word of a byte that is copied.
-fn plain(b: u8) -> u64
-    ensures { λ r. ⌜ r ≡ wordOf (b ∷ []) ⌝ }
-{
-    0x0100_0000_0000_0000 + b as u64
 }
 
 // Returns the words of a context: of the four bytes that not every context replaces.

@@ -19,6 +19,10 @@ lesser-most a b = go (ltb a b) refl
     go true q = (omega arith, omega (arith, ltb-true a b q))
     go false q = (omega (arith, ltb-false a b q), omega arith)
 
+-- The lesser of two is above 0 only if both are.
+pub lesser-some : (a b : ℕ) → 0 < lesser a b → (0 < a) × (0 < b)
+lesser-some a b l = let most = lesser-most a b in (omega (arith, l, most), omega (arith, l, most))
+
 -- The xor of a byte with a key whose highest bit is set.
 xor-high : (h b k : ℕ) → b < 128 → k < 128 → bitXor (h * 128 + b) (1 * 128 + k) ≡ bitXor h 1 * 128 + bitXor b k
 xor-high h b k l m = xor-block 7 h 1 b k l m

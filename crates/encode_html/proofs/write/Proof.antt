@@ -11,7 +11,7 @@ use Rattle.rules.specs.Bytes.{over}
 use Rattle.rules.specs.Operations.{encodeOf}
 use Rattle.rules.specs.declared.Context.the-variants.{InHtml}
 use Rattle.base.proofs.Filled.{lent-rest}
-use Rattle.encode_html.proofs.Spilt.{over-spilt}
+use Rattle.base.proofs.Spilt.{over-spilt}
 use Rattle.encode_html.proofs.Text.{halves, half-sizes}
 use Rattle.encode_html.proofs.write.Statement.{statement}
 use Rattle.encode_html.proofs.write.Tie as tie
@@ -101,7 +101,7 @@ returns-2 c =
     let rest = encodeOf (InHtml (a .h)) (take (length t - (length t - 7)) (drop (length t - 7) t)) in
     let sizes = half-sizes (a .h) t (length t - 7) in
     let spilt = m .last .1 .1 .1 .1 .0 in
-    let out = over-spilt first rest (a .output .now) spilt (x .last .1 .1 .1 .0) (m .result) (m .ensures .0) (omega arith) (m .ensures .1) (x .ensures .1) in
+    let out = over-spilt 7 first rest (a .output .now) spilt (x .last .1 .1 .1 .0) (m .result) (m .ensures .0) (omega arith) (m .ensures .1) (x .ensures .1) in
     (omega (arith, m .ensures .0, x .ensures .0), out ∙ ap (λ (w : List ℕ). over w (a .output .now)) (sym (halves (a .h) t (length t - 7))))
 
 pub write-spec : {M : Type 1} → statement M

@@ -5,8 +5,8 @@ use native.Mathlib.Omega.{arith}
 use lib.ListN.{getD}
 use borrow.Author.Count.{below-more}
 use borrow.Author.Needs.{needs}
+use Rattle.plain.proofs.Xors.{lesser-some}
 use Rattle.encode_html.specs.Keys.{farOf}
-use Rattle.encode_html.proofs.Sixteen.{lesser-some}
 use Rattle.encode_html.proofs.cold.least.Statement.{statement}
 use Rattle.encode_html.proofs.cold.least.Tie as tie
 

@@ -3,10 +3,10 @@
 use mathlib.Core.Path.{refl, _∙_}
 use native.Mathlib.Omega.{arith}
 use borrow.Author.Needs.{needs}
-use Rattle.encode_html.specs.Words.{wordOf, eight}
+use Rattle.base.specs.Words.{wordOf, eight}
 use Rattle.encode_html.specs.Written.{written}
 use Rattle.encode_html.proofs.Choices.{word-is}
-use Rattle.encode_html.proofs.Spilt.{word-spills}
+use Rattle.base.proofs.Spilt.{part-spills}
 use Rattle.encode_html.proofs.Text.{written-some, written-most}
 use Rattle.encode_html.proofs.fill.write_byte.Statement.{statement}
 use Rattle.encode_html.proofs.fill.write_byte.Tie as tie
@@ -26,7 +26,7 @@ returns c =
     let e = word-is (a .h) (a .b) (s .fits .b .fits) in (
       p .ensures .0 ∙ rw (s .pre .0) (e .0),
       rw (p .ensures .1, s .pre .0)
-          (word-spills w (eight (wordOf w)) (a .output .now) (e .1) refl (written-some (a .h) (a .b)) (omega (arith, written-most (a .h) (a .b)))),
+          (part-spills 7 w (eight (wordOf w)) (a .output .now) (e .1) (omega (arith, written-most (a .h) (a .b))) (omega (arith, written-some (a .h) (a .b)))),
     )
 
 pub write-byte-spec : {M : Type 1} → statement M

@@ -6,13 +6,13 @@ use lib.ListN.{length, drop}
 use borrow.Author.Needs.{needs}
 use Rattle.rules.specs.Operations.{encodeOf}
 use Rattle.rules.specs.declared.Context.the-variants.{InHtml}
-use Rattle.encode_html.proofs.Spilt.{Spilt, spilt-start, spilt-room, spilt-next, spilt-put, spilt-end}
+use Rattle.base.proofs.Spilt.{Spilt, spilt-start, spilt-room, spilt-next, spilt-put, spilt-end}
 use Rattle.encode_html.proofs.Text.{next-byte, next-none}
 use Rattle.encode_html.proofs.fill.write_bytes.Statement.{statement}
 use Rattle.encode_html.proofs.fill.write_bytes.Tie as tie
 
 abbrev Inv-loop : tie.InvT-loop
-Inv-loop h w text output₀ at₀ i₀ output at i = (i ≤ length text) × Spilt (encodeOf (InHtml h) text) (encodeOf (InHtml h) (drop i text)) output₀ output at
+Inv-loop h w text output₀ at₀ i₀ output at i = (i ≤ length text) × Spilt 7 7 (encodeOf (InHtml h) text) (encodeOf (InHtml h) (drop i text)) output₀ output at
 
 abbrev μ-loop : tie.MeasureT-loop
 μ-loop h w text output₀ at₀ i₀ output at i = length text - i
@@ -39,13 +39,13 @@ write-byte-requires : tie.Need-write-byte-requires Inv-loop μ-loop
 write-byte-requires c κs =
     let s = c .before .before .before .before .before .before .before in
     let l = c .before .before .before .before .loop in
-    (c .before .word .ensures, spilt-room (l .inv .1) (next-byte (s .args .h) (s .args .text .now) (l .i) (search needs)))
+    (c .before .word .ensures, spilt-room (l .inv .1) (next-byte (s .args .h) (s .args .text .now) (l .i) (search needs)) (omega arith))
 
 add-at : tie.Need-add-at Inv-loop μ-loop
 add-at c =
     let s = c .before .before .before .before .before .before .before .before .before .before in
     let l = c .before .before .before .before .before .before .before .loop in
-    omega (arith, c .before .before .write-byte .ensures .0, spilt-next (l .inv .1) (next-byte (s .args .h) (s .args .text .now) (l .i) (search needs)))
+    omega (arith, c .before .before .write-byte .ensures .0, spilt-next (l .inv .1) (next-byte (s .args .h) (s .args .text .now) (l .i) (search needs)) (omega arith))
 
 add-i : tie.Need-add-i Inv-loop μ-loop
 add-i c = search needs
@@ -59,7 +59,7 @@ loop-again c =
     let l = c .before .before .before .before .before .before .before .loop in
     let p = c .before .before .write-byte in
     let next = next-byte (s .args .h) (s .args .text .now) (l .i) (search needs) in
-    (search needs, spilt-put (l .inv .1) next (p .last .1 .1 .1 .0) (p .result) (p .ensures .0) (p .kept .1 .1 .1 .0) (p .ensures .1))
+    (search needs, spilt-put (l .inv .1) next (omega arith) (p .last .1 .1 .1 .0) (p .result) (p .ensures .0) (p .kept .1 .1 .1 .0) (p .ensures .1))
 
 same-length : tie.Need-same-length Inv-loop μ-loop
 same-length c = search needs

@@ -5,7 +5,7 @@ use native.Mathlib.Omega.{arith}
 use lib.ListN.{length}
 use borrow.Author.Needs.{needs}
 use Rattle.encode_html.proofs.Sixteen.{cold-copied}
-use Rattle.encode_html.proofs.Spilt.{put-spills}
+use Rattle.base.proofs.Spilt.{put-spills}
 use Rattle.encode_html.proofs.fill.write_part.Statement.{statement}
 use Rattle.encode_html.proofs.fill.write_part.Tie as tie
 
@@ -30,7 +30,7 @@ returns c =
     let q = s .pre .0 in
     let e = cold-copied (a .h) (a .k) (q .0) (q .1) (a .part .now) (q .3) (λ i. c .before .before .before .before .before .before .before .shared-slice-known .given i .fits) (c .before .before .before .before .before .least .ensures (c .before .before .before .before .if1 .taken)) in
     let p = c .before .before .put-short .ensures in
-    rw (e, p .1) (p .0, put-spills (a .part .now) (a .output .now))
+    rw (e, p .1) (p .0, put-spills 7 (a .part .now) (a .output .now))
 
 write-words-requires : tie.Need-write-words-requires
 write-words-requires c κs = (c .before .before .before .before .before .pre .0 .2, c .before .before .before .before .before .pre .1)

@@ -8,13 +8,13 @@ use borrow.Author.Needs.{needs}
 use Rattle.rules.specs.Operations.{encodeOf}
 use Rattle.rules.specs.declared.Context.the-variants.{InHtml}
 use Rattle.base.proofs.Part.{part-length}
-use Rattle.encode_html.proofs.Spilt.{Spilt, spilt-start, spilt-room, spilt-next, spilt-put, spilt-end}
+use Rattle.base.proofs.Spilt.{Spilt, spilt-start, spilt-room, spilt-next, spilt-put, spilt-end}
 use Rattle.encode_html.proofs.Text.{next-part, next-none}
 use Rattle.encode_html.proofs.fill.write_parts.Statement.{statement}
 use Rattle.encode_html.proofs.fill.write_parts.Tie as tie
 
 abbrev Inv-loop : tie.InvT-loop
-Inv-loop h k table text output₀ at₀ i₀ output at i = (i ≤ length text) × Spilt (encodeOf (InHtml h) text) (encodeOf (InHtml h) (drop i text)) output₀ output at
+Inv-loop h k table text output₀ at₀ i₀ output at i = (i ≤ length text) × Spilt 7 7 (encodeOf (InHtml h) text) (encodeOf (InHtml h) (drop i text)) output₀ output at
 
 abbrev μ-loop : tie.MeasureT-loop
 μ-loop h k table text output₀ at₀ i₀ output at i = length text - i
@@ -52,14 +52,14 @@ write-part-requires c κs =
     let l = c .before .before .before .loop in
     let size = part-length (s .args .text .now) (l .i) (l .i + 16) (search needs) (search needs) in
     let next = next-part (s .args .h) (s .args .text .now) (l .i) (l .i + 16) (search needs) in
-    ((s .pre .0 .0, s .pre .0 .1, s .pre .0 .2, omega (arith, size)), spilt-room (l .inv .1) next)
+    ((s .pre .0 .0, s .pre .0 .1, s .pre .0 .2, omega (arith, size)), spilt-room (l .inv .1) next (omega arith))
 
 add-at : tie.Need-add-at Inv-loop μ-loop
 add-at c =
     let s = c .before .before .before .before .before .before .before .before .before in
     let l = c .before .before .before .before .before .before .loop in
     let next = next-part (s .args .h) (s .args .text .now) (l .i) (l .i + 16) (search needs) in
-    omega (arith, c .before .before .write-part .ensures .0, spilt-next (l .inv .1) next)
+    omega (arith, c .before .before .write-part .ensures .0, spilt-next (l .inv .1) next (omega arith))
 
 loop-less : tie.Need-loop-less Inv-loop μ-loop
 loop-less c = search needs
@@ -70,7 +70,7 @@ loop-again c =
     let l = c .before .before .before .before .before .before .loop in
     let p = c .before .before .write-part in
     let next = next-part (s .args .h) (s .args .text .now) (l .i) (l .i + 16) (search needs) in
-    (search needs, spilt-put (l .inv .1) next (p .last .1 .1 .1 .1 .0) (p .result) (p .ensures .0) (p .kept .1 .1 .1 .1 .0) (p .ensures .1))
+    (search needs, spilt-put (l .inv .1) next (omega arith) (p .last .1 .1 .1 .1 .0) (p .result) (p .ensures .0) (p .kept .1 .1 .1 .1 .0) (p .ensures .1))
 
 sub-write-words : tie.Need-sub-write-words Inv-loop μ-loop
 sub-write-words c = search needs
@@ -95,14 +95,14 @@ write-words-requires c κs =
     let s = c .before .before .before .before .before .before in
     let l = c .before .before .before .loop in
     let t = s .args .text .now in
-    (s .pre .0 .2, spilt-room (l .inv .1) (next-part (s .args .h) t (l .i) (length t) (l .inv .0)))
+    (s .pre .0 .2, spilt-room (l .inv .1) (next-part (s .args .h) t (l .i) (length t) (l .inv .0)) (omega arith))
 
 add-result : tie.Need-add-result Inv-loop μ-loop
 add-result c =
     let s = c .before .before .before .before .before .before .before .before .before in
     let l = c .before .before .before .before .before .before .loop in
     let t = s .args .text .now in
-    omega (arith, c .before .before .write-words .ensures .0, spilt-next (l .inv .1) (next-part (s .args .h) t (l .i) (length t) (l .inv .0)))
+    omega (arith, c .before .before .write-words .ensures .0, spilt-next (l .inv .1) (next-part (s .args .h) t (l .i) (length t) (l .inv .0)) (omega arith))
 
 same-length : tie.Need-same-length Inv-loop μ-loop
 same-length c = search needs
@@ -114,7 +114,7 @@ returns c =
     let t = s .args .text .now in
     let p = c .before .before .write-words in
     let next = next-part (s .args .h) t (l .i) (length t) (l .inv .0) in
-    let all = spilt-put (l .inv .1) next (p .last .1 .1 .1 .0) (p .result) (p .ensures .0) (p .kept .1 .1 .1 .0) (p .ensures .1) in
+    let all = spilt-put (l .inv .1) next (omega arith) (p .last .1 .1 .1 .0) (p .result) (p .ensures .0) (p .kept .1 .1 .1 .0) (p .ensures .1) in
     spilt-end (rw (next-none (s .args .h) t (length t) (omega arith)) at all)
 
 pub write-parts-spec : {M : Type 1} → statement M

@@ -7,7 +7,7 @@ use lib.ListN.{length, getD}
 use lib.Seq.{getD-set-same, getD-set-other}
 use borrow.Author.Count.{below-more}
 use borrow.Author.Needs.{needs}
-use Rattle.encode_html.specs.Words.{wordOf}
+use Rattle.base.specs.Words.{wordOf}
 use Rattle.encode_html.specs.Written.{written}
 use Rattle.encode_html.proofs.words.table_of.Statement.{statement}
 use Rattle.encode_html.proofs.words.table_of.Tie as tie

@@ -2,7 +2,7 @@
 -- Assumes nothing.
 use mathlib.Core.Path.{_≡_, sym, ap, _∙_}
 use borrow.Author.Needs.{needs}
-use Rattle.encode_html.specs.Words.{wordOf}
+use Rattle.base.specs.Words.{wordOf}
 use Rattle.encode_html.specs.declared.words.Words.{Words}
 use Rattle.encode_html.proofs.Choices.{choice3, choice6, word3, word6, word-unquoted}
 use Rattle.encode_html.proofs.words.word.Statement.{statement}

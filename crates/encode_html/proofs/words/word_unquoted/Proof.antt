@@ -3,7 +3,7 @@
 use mathlib.Core.Path.{_∙_}
 use borrow.Author.Needs.{needs}
 use borrow.Author.Tests.{lt-ltb, le-ltb}
-use Rattle.encode_html.specs.Words.{wordOf}
+use Rattle.base.specs.Words.{wordOf}
 use Rattle.encode_html.proofs.Choices.{choiceOfAll, word-all}
 use Rattle.encode_html.proofs.words.word_unquoted.Statement.{statement}
 use Rattle.encode_html.proofs.words.word_unquoted.Tie as tie

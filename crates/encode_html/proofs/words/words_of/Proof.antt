@@ -2,7 +2,7 @@
 -- Assumes nothing.
 use borrow.Author.Needs.{needs}
 use Rattle.rules.specs.Encoding.{encodeStep}
-use Rattle.encode_html.specs.Words.{wordOf}
+use Rattle.base.specs.Words.{wordOf}
 use Rattle.encode_html.specs.Written.{written}
 use Rattle.encode_html.proofs.words.words_of.Statement.{statement}
 use Rattle.encode_html.proofs.words.words_of.Tie as tie

@@ -2,9 +2,9 @@
 -- Assumes nothing.
 use native.Mathlib.Omega.{arith}
 use borrow.Author.Needs.{needs}
-use Rattle.encode_html.specs.Words.{wordOf}
-use Rattle.encode_html.proofs.words.plain.Statement.{statement}
-use Rattle.encode_html.proofs.words.plain.Tie as tie
+use Rattle.base.specs.Words.{wordOf}
+use Rattle.base.proofs.words.plain.Statement.{statement}
+use Rattle.base.proofs.words.plain.Tie as tie
 
 add-result : tie.Need-add-result
 add-result c = search needs

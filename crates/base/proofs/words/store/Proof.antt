@@ -3,9 +3,9 @@
 use lib.ListN.{length-set}
 use lib.Seq.{sets-eq}
 use borrow.Author.Needs.{needs}
-use Rattle.encode_html.specs.Words.{eight}
-use Rattle.encode_html.proofs.fill.store.Statement.{statement}
-use Rattle.encode_html.proofs.fill.store.Tie as tie
+use Rattle.base.specs.Words.{eight}
+use Rattle.base.proofs.words.store.Statement.{statement}
+use Rattle.base.proofs.words.store.Tie as tie
 
 cast-output : tie.Need-cast-output
 cast-output c = search needs
