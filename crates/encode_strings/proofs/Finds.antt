@@ -26,7 +26,7 @@ use Rattle.rules.specs.declared.Replaced.{Replaced}
 use Rattle.rules.specs.declared.Replaced.the-variants.{By, Nothing}
 use Rattle.rules.proofs.Tests.{and-left, and-right, or-cases, same-bytes}
 use Rattle.rules.proofs.Below.{below, eqb-comm}
-use Rattle.encode_strings.specs.Strings.{isSlashed, isHexed, hexBy, replacedBy, starts, Held, HeldAt, singleKey, doubleKey, escapedOf, hexedOf, sameOf, endsOf, ended, quotesIn, singleOf, doubleOf, separates, moreOf, replacedWith}
+use Rattle.encode_strings.specs.Strings.{alone, isSlashed, isHexed, hexBy, replacedBy, starts, Held, HeldAt, singleKey, doubleKey, escapedOf, hexedOf, sameOf, endsOf, ended, quotesIn, singleOf, doubleOf, separates, moreOf, replacedWith}
 use Rattle.rules.proofs.Bytewise.{by-table}
 use Rattle.encode_strings.proofs.Heads.{strings-ruleless, not-ascii, kept, no-start, lone}
 use Rattle.rules.specs.Contexts.{writtenIn}
@@ -73,10 +73,6 @@ abbrev pub less : Notation → ℕ → ℕ
 less Script b = 0
 less Style b = sameOf 0 b
 less Json b = 0
-
--- The move of one byte by itself.
-abbrev pub alone : Notation → Quotes → ℕ → Move
-alone notation quotes b = encodeStep (writtenIn notation quotes) 0 (b ∷ [])
 
 abbrev ruled : Notation → Quotes → ℕ → Bool
 ruled notation quotes b = sameMove (replacedMove notation (b ∷ []) (replacedBy notation quotes b)) (alone notation quotes b)
@@ -140,7 +136,7 @@ unfolding isHexed
 hexed-high b h = rw (le-ltb b 32 (omega arith), not-ascii b 0x3C h (omega arith))
 
 -- The rule makes the move of the definition at every byte but E2.
-byte-ruled : (notation : Notation) (quotes : Quotes) (b : ℕ) → (b ≡ 0xE2 → ⊥)
+pub byte-ruled : (notation : Notation) (quotes : Quotes) (b : ℕ) → (b ≡ 0xE2 → ⊥)
     → (p : ℕ) (s : List ℕ) → replacedMove notation (b ∷ s) (replacedBy notation quotes b) ≡ encodeStep (writtenIn notation quotes) p (b ∷ s)
 byte-ruled notation quotes b ne p s =
     headmost notation (isSlashed (singleKey notation quotes) (doubleKey notation quotes) b) (isHexed b) (eqb b 0) refl ∙ go (ltb b 0x80) refl ∙ sym (lone (writtenIn notation quotes) (strings-ruleless notation quotes) p b s ne)

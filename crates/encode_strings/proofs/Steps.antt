@@ -39,7 +39,7 @@ held-within Hex s h = h
 held-within Separator s h = h .0
 held-within Substitute s h = h
 
-takes-taken : (notation : Notation) (r : Replacement) (s : List ℕ) → Held r s → length (takes (replacementMove notation s r)) ≡ takenBy r
+pub takes-taken : (notation : Notation) (r : Replacement) (s : List ℕ) → Held r s → length (takes (replacementMove notation s r)) ≡ takenBy r
 takes-taken notation Slashed s h = refl
 takes-taken Script Hex s h = refl
 takes-taken Style Hex s h = refl
@@ -51,7 +51,7 @@ takes-byte : (s : List ℕ) → 1 ≤ length s → length (takes (keepByte s)) �
 takes-byte [] h = absurd (not-suc-le-zero h)
 takes-byte (x ∷ s) h = refl
 
-taken-some : (r : Replacement) → 0 < takenBy r
+pub taken-some : (r : Replacement) → 0 < takenBy r
 taken-some Slashed = omega arith
 taken-some Hex = omega arith
 taken-some Separator = omega arith

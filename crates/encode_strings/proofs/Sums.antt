@@ -20,9 +20,9 @@ use Rattle.rules.specs.declared.Replacement.the-variants.{Separator}
 use Rattle.rules.proofs.Blind.{Blind, blind-next, replaced-append}
 use Rattle.rules.proofs.Loops.{drop-next}
 use Rattle.rules.proofs.Growth.{encode-sum}
-use Rattle.encode_strings.specs.Strings.{singleKey, doubleKey, isSlashed, isHexed, escapedOf, hexedOf, sameOf, total, endsOf, ended, separatorsIn, separates, hexGrowth, moreOf, placesBy}
+use Rattle.encode_strings.specs.Strings.{alone, singleKey, doubleKey, isSlashed, isHexed, escapedOf, hexedOf, sameOf, total, endsOf, ended, separatorsIn, separates, hexGrowth, moreOf, placesBy}
 use Rattle.encode_strings.proofs.Heads.{strings-ruleless, not-ascii, kept, no-start, lone}
-use Rattle.encode_strings.proofs.Finds.{less, alone, Grows, ascii-grows, slashed-high, hexed-high, ends-are, lead-kept, lead-taken, lead-style, separator-sizes}
+use Rattle.encode_strings.proofs.Finds.{less, Grows, ascii-grows, slashed-high, hexed-high, ends-are, lead-kept, lead-taken, lead-style, separator-sizes}
 use Rattle.rules.specs.Contexts.{writtenIn}
 use Rattle.rules.specs.declared.Notation.{Notation}
 use Rattle.rules.specs.declared.Notation.the-variants.{Script, Style, Json}

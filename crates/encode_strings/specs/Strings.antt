@@ -8,7 +8,10 @@ use Prim.Native.Nat.{ℕ, _+_, _-_, _*_, _/_, _≤_, _<_}
 use lib.Dec.{eqb, ltb}
 use lib.ListN.{length, getD}
 use Rattle.rules.specs.Bytes.{any}
+use Rattle.rules.specs.Moves.{Move}
 use Rattle.rules.specs.Tables.{Row, key, value, hexRow}
+use Rattle.rules.specs.Contexts.{writtenIn}
+use Rattle.rules.specs.Encoding.{encodeStep}
 use Rattle.rules.specs.declared.Quotes.{Quotes}
 use Rattle.rules.specs.declared.Quotes.the-variants.{Single, Double, Both}
 use Rattle.rules.specs.declared.Notation.{Notation}
@@ -72,6 +75,10 @@ replacedWith notation quotes b = cond (isSlashed (singleOf quotes) (doubleOf quo
 -- What replaces it in a string.
 abbrev pub replacedBy : Notation → Quotes → ℕ → Replaced
 replacedBy notation quotes b = replacedWith notation (quotesIn notation quotes) b
+
+-- The move of one byte by itself.
+abbrev pub alone : Notation → Quotes → ℕ → Move
+alone notation quotes b = encodeStep (writtenIn notation quotes) 0 (b ∷ [])
 
 -- The bytes begin with b, if there are any.
 abbrev pub headed : ℕ → List ℕ → Bool

@@ -49,7 +49,7 @@ fn separator_at(rest: &[u8]) -> Replaced
 }
 
 // Finds what replaces the start of `rest`, which begins with E2: style sheets do not escape line separators.
-fn separator(notation: Notation, rest: &[u8]) -> Replaced
+pub fn separator(notation: Notation, rest: &[u8]) -> Replaced
     requires { ⌜ (0 < length (now rest)) × (getD (now rest) 0 0 ≡ 0xE2) ⌝ }
     ensures { λ r. ⌜ ((quotes : Quotes) (p : ℕ) → replacedMove notation (now (rest .entry)) r ≡ encodeStep (writtenIn notation quotes) p (now (rest .entry))) × HeldAt r (now (rest .entry)) ⌝ }
 {
@@ -96,7 +96,7 @@ fn escape(notation: Notation, quotes: Quotes, rest: &[u8]) -> Replaced
 }
 
 // Returns how many bytes of the text the replacement takes.
-fn taken(found: Replacement) -> usize
+pub fn taken(found: Replacement) -> usize
     ensures { λ r. ⌜ (r ≡ takenBy found) × (1 ≤ r) ⌝ }
 {
     match found {
@@ -122,7 +122,7 @@ fn put_hex(notation: Notation, b: u8, output: &mut [u8]) -> usize
 }
 
 // Writes what replaces the start of `rest`. The last byte of U+2028 and U+2029, A8 or A9, is 70 above its digit.
-fn put_found(notation: Notation, found: Replacement, rest: &[u8], output: &mut [u8]) -> usize
+pub fn put_found(notation: Notation, found: Replacement, rest: &[u8], output: &mut [u8]) -> usize
     requires { ⌜ Held found (now rest) × (length (gives (replacementMove notation (now rest) found)) ≤ length (now output)) ⌝ }
     ensures { λ r. ⌜ (r ≡ length (gives (replacementMove notation (now (rest .entry)) found))) × (now (output .exit) ≡ over (gives (replacementMove notation (now (rest .entry)) found)) (now (output .entry))) ⌝ }
 {

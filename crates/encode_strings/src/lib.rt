@@ -1,7 +1,7 @@
 // Escapes a text for a string of a script, a style sheet or JSON.
-mod escapes;
+pub mod escapes;
 mod growth;
-mod rule;
+pub mod rule;
 
 use rules::Measured;
 use rules::Notation;
