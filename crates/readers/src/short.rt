@@ -2,7 +2,6 @@
 ghost use mathlib.Core.Path.{_≡_};
 ghost use Prim.Native.Nat.{_≤_};
 ghost use lib.ListN.{length};
-ghost use Rattle.rules.specs.Bytes.{over};
 ghost use Rattle.rules.specs.Utf8.{validTo};
 ghost use Rattle.outcomes.specs.Outcomes.{Reads};
 use crate::general;
@@ -11,17 +10,6 @@ use rules::Context;
 
 // The longest text that is short, which is as long as the room.
 pub const LONGEST: usize = 64;
-
-// Copies a text to the start of `output`; the bytes after it keep their values.
-fn copy(text: &[u8], output: &mut [u8]) -> usize
-    requires { ⌜ length (now text) ≤ length (now output) ⌝ }
-    ensures { λ r. ⌜ (r ≡ length (now (text .entry))) × (now (output .exit) ≡ over (now (text .entry)) (now (output .entry))) ⌝ }
-{
-    if text.len() < 8 {
-        return base::put(text, output);
-    }
-    base::put_short(text, output)
-}
 
 // Reads a short text that is valid.
 fn read_valid(c: Context, text: &[u8], output: &mut [u8]) -> Outcome
@@ -39,7 +27,7 @@ fn read_valid(c: Context, text: &[u8], output: &mut [u8]) -> Outcome
     if output.len() < done.length {
         return Outcome::NoRoom(done.length);
     }
-    copy(&room[..done.length], output);
+    base::put_run(&room[..done.length], output);
     Outcome::Written(done.length, done.replaced)
 }
 

@@ -41,15 +41,15 @@ array-share-prefix-room c =
     let w = c .before .before .before .before .before .before .before .write-read in
     reaches (a .c) (a .text .now) (p .0) (w .result) (w .ensures .0) _ (w .last .1 .1 .0) (w .ensures .1)
 
-slice-aggregate-copy : tie.Need-slice-aggregate-copy
-slice-aggregate-copy c =
+slice-aggregate-put-run : tie.Need-slice-aggregate-put-run
+slice-aggregate-put-run c =
     let a = c .before .before .before .before .before .before .before .before .before .before .before .before .args in
     let p = c .before .before .before .before .before .before .before .before .before .before .before .before .pre in
     let w = c .before .before .before .before .before .before .before .before .write-read in
     head-size (a .c) (a .text .now) (p .0) (w .result) (w .ensures .0) _ (w .last .1 .1 .0) (w .ensures .1)
 
-copy-requires : tie.Need-copy-requires
-copy-requires c κs =
+put-run-requires : tie.Need-put-run-requires
+put-run-requires c κs =
     let a = c .before .before .before .before .before .before .before .before .before .before .before .before .before .args in
     let p = c .before .before .before .before .before .before .before .before .before .before .before .before .before .pre in
     let w = c .before .before .before .before .before .before .before .before .before .write-read in
@@ -67,7 +67,7 @@ returns-4 c =
       λ z. c .before .before .before .before .before .before .before .if2 .left (w .ensures .0 .many ∙ z),
       measured (a .c) (a .text .now) (p .0) (w .result) (w .ensures .0) (c .before .before .before .before .before .before .before .before .before .if1 .left),
       omega (arith, c .before .before .before .before .before .if3 .left, w .ensures .0 .long),
-      c .before .before .copy .ensures .1 ∙ ap (λ r. over r (a .output .now)) (head (a .c) (a .text .now) (p .0) (w .result) (w .ensures .0) _ (w .last .1 .1 .0) (w .ensures .1)),
+      c .before .before .put-run .ensures .1 ∙ ap (λ r. over r (a .output .now)) (head (a .c) (a .text .now) (p .0) (w .result) (w .ensures .0) _ (w .last .1 .1 .0) (w .ensures .1)),
     )
 
 pub read-valid-spec : {M : Type 1} → statement M
@@ -80,7 +80,7 @@ read-valid-spec =
     returns-2
     returns-3
     array-share-prefix-room
-    slice-aggregate-copy
-    copy-requires
+    slice-aggregate-put-run
+    put-run-requires
     same-length
     returns-4)
