@@ -2,5 +2,4 @@
 pub mod Clearing
 pub mod Numbers
 pub mod Reading
-pub mod Kept
 pub mod Turns

@@ -10,6 +10,7 @@ use Rattle.rules.specs.Moves.{swap, before}
 use Rattle.rules.specs.declared.Html.{Html}
 use Rattle.rules.specs.declared.Html.the-variants.{TextMinimal, Text, DoubleQuoted, SingleQuoted, Quoted, Safe, Unquoted}
 use Rattle.rules.specs.declared.Context.the-variants.{InHtml}
+use Rattle.marks.specs.Marks.{endBy}
 use Rattle.reader.specs.Units.{byteStep}
 
 -- The first n bytes of a text as a number, the first lowest; past the end they are 0.
@@ -44,7 +45,7 @@ charOf b e = cond (eqb b 108) 60 0 + cond (eqb b 103) 62 0 + cond (eqb b 97) 38 
 
 -- Where the unit at place p of the text ends, and its character.
 abbrev pub endOf : List ℕ → ℕ → ℕ
-endOf t p = p + lengthOf (getD t (p + 1) 0)
+endOf t p = endBy lengthOf t p
 
 abbrev pub charAt : List ℕ → ℕ → ℕ
 charAt t p = charOf (getD t (p + 1) 0) (getD t (p + 4) 0)

@@ -10,17 +10,11 @@ ghost use Rattle.plain.specs.Plain.{unquoted};
 ghost use Rattle.rules.specs.declared.Context.the-variants.{InHtml};
 ghost use Rattle.base.specs.Places.{Nearest};
 ghost use Rattle.reader.specs.Units.{byteStep};
+ghost use Rattle.marks.specs.Marks.{Marked};
 ghost use Rattle.read_html.specs.Clear.{Clear};
-ghost use Rattle.read_html.specs.Marks.{Marked};
+ghost use Rattle.read_html.specs.Units.{lengthOf};
 use crate::units;
 use rules::Html;
-
-// Returns a kept offset.
-fn offset(place: u16) -> usize
-    ensures { λ r. ⌜ r ≡ place ⌝ }
-{
-    place as usize
-}
 
 // Returns the offset of the next `&` from `from` on, or the text's length: that which is kept, or it is searched.
 fn next_mark(text: &[u8], places: &[u16], kept: usize, k: usize, from: usize) -> usize
@@ -28,26 +22,15 @@ fn next_mark(text: &[u8], places: &[u16], kept: usize, k: usize, from: usize) ->
     ensures { λ r. ⌜ Nearest (now (text .entry)) from 38 r × (k < kept → r ≡ getD (now (places .entry)) k 0) ⌝ }
 {
     if k < kept {
-        return offset(places[k]);
+        return marks::offset(places[k]);
     }
     base::find::find_byte(text, from, b'&')
-}
-
-// Copies a run of bytes to the start of `output`, leaves the bytes after it as they were, and returns how many they are.
-fn put_run(run: &[u8], output: &mut [u8]) -> usize
-    requires { ⌜ length (now run) ≤ length (now output) ⌝ }
-    ensures { λ r. ⌜ (r ≡ length (now (run .entry))) × (now (output .exit) ≡ over (now (run .entry)) (now (output .entry))) ⌝ }
-{
-    if run.len() < 8 {
-        return base::put(run, output);
-    }
-    base::put_short(run, output)
 }
 
 // Writes the result of a text that is read as a whole, given the offsets of its first `kept` units; what lies past it keeps its values.
 pub fn write(h: Html, text: &[u8], places: &[u16], kept: usize, output: &mut [u8])
     requires { ⌜ (unquoted h ≡ false) × Clear h (now text) × (place (through (byteStep (InHtml h)) (now text)) ≡ length (now text)) ⌝ }
-    requires { ⌜ (kept ≤ length (now places)) × Marked (now text) (now places) kept × (length (readOf (InHtml h) (now text)) ≤ length (now output)) ⌝ }
+    requires { ⌜ (kept ≤ length (now places)) × Marked lengthOf 38 (now text) (now places) kept × (length (readOf (InHtml h) (now text)) ≤ length (now output)) ⌝ }
     ensures { λ _. ⌜ now (output .exit) ≡ over (readOf (InHtml h) (now (text .entry))) (now (output .entry)) ⌝ }
 {
     let mut at: usize = 0;
@@ -55,11 +38,11 @@ pub fn write(h: Html, text: &[u8], places: &[u16], kept: usize, output: &mut [u8
     let mut i: usize = 0;
     let mut mark = next_mark(text, places, kept, 0, 0);
     while mark < text.len() {
-        at += put_run(&text[i..mark], &mut output[at..]);
+        at += marks::put_run(&text[i..mark], &mut output[at..]);
         at += units::put_char(h, text, mark, &mut output[at..]);
         i = mark + units::length_of(text[mark + 1]);
         k += 1;
         mark = next_mark(text, places, kept, k, i);
     }
-    put_run(&text[i..], &mut output[at..]);
+    marks::put_run(&text[i..], &mut output[at..]);
 }

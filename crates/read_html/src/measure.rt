@@ -1,8 +1,8 @@
 // Measures what a clear text reads back as, and keeps where its units are.
 ghost use mathlib.Core.Bool.{false};
 ghost use mathlib.Core.Path.{_≡_};
-ghost use Prim.Native.Nat.{_≤_, _<_};
-ghost use lib.ListN.{length, set};
+ghost use Prim.Native.Nat.{_≤_};
+ghost use lib.ListN.{length};
 ghost use Rattle.plain.specs.Plain.{unquoted};
 ghost use Rattle.read_html.specs.Clear.{Clear};
 ghost use Rattle.read_html.specs.Marks.{Told};
@@ -14,16 +14,6 @@ pub struct Found {
     pub whole: bool,
     pub length: usize,
     pub units: usize,
-}
-
-// Keeps the offset of a unit, if the list has room for one more.
-fn keep(places: &mut [u16], k: usize, at: usize)
-    requires { ⌜ at < 65536 ⌝ }
-    ensures { λ _. ⌜ now (places .exit) ≡ set (now (places .entry)) k at ⌝ }
-{
-    if k < places.len() {
-        places[k] = at as u16;
-    }
 }
 
 // Measures a text in which only `&` is replaced, and keeps the offsets of its first units in `places`.
@@ -43,7 +33,7 @@ pub fn measure(h: Html, text: &[u8], places: &mut [u16]) -> Found
                 units: 0,
             };
         }
-        keep(places, units, i);
+        marks::keep(places, units, i);
         let n = units::length_of(text[i + 1]);
         gain += n - 1;
         units += 1;

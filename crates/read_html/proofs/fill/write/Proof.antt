@@ -17,10 +17,10 @@ use Rattle.base.proofs.Part.{part-length}
 use Rattle.base.specs.Places.{Nearest}
 use Rattle.reader.proofs.Bytewise.{byte-result}
 use Rattle.reader.specs.Units.{byteStep}
-use Rattle.read_html.specs.Marks.{startOf}
-use Rattle.read_html.specs.Units.{endOf, UnitAt}
+use Rattle.marks.specs.Marks.{startOf}
+use Rattle.marks.proofs.Kept.{start-after}
+use Rattle.read_html.specs.Units.{lengthOf, endOf, UnitAt}
 use Rattle.read_html.proofs.Clearing.{clear-valid}
-use Rattle.read_html.proofs.Kept.{start-after}
 use Rattle.read_html.proofs.Turns.{Rest, count-mark, count-unit, mark-unit, next-mark, next-unit, last-part}
 use Rattle.read_html.proofs.fill.write.Statement.{statement}
 use Rattle.read_html.proofs.fill.write.Tie as tie
@@ -28,7 +28,7 @@ use Rattle.read_html.proofs.fill.write.Tie as tie
 abbrev Inv-loop : tie.InvT-loop
 Inv-loop h text places kept output₀ at₀ k₀ i₀ mark₀ output at k i mark =
     Counted (byteStep (InHtml h)) text i at k × Filled (readOf (InHtml h) text) (Rest h text i) output₀ output at
-    × Nearest text i 38 mark × (k ≤ kept → i ≡ startOf text places k) × (k < kept → mark ≡ getD places k 0)
+    × Nearest text i 38 mark × (k ≤ kept → i ≡ startOf lengthOf text places k) × (k < kept → mark ≡ getD places k 0)
 
 abbrev μ-loop : tie.MeasureT-loop
 μ-loop h text places kept output₀ at₀ k₀ i₀ mark₀ output at k i mark = length text - mark
@@ -139,7 +139,7 @@ next-mark-requires-2 c κs =
     let end : endOf t (l .mark) ≡ l .mark + c .length-of .result = ap (λ (m : ℕ). l .mark + m) (sym n) in (
       subst (λ (e : ℕ). e ≤ length t) end (unit (c .before .before .before .before .before .before .before .before .before .before .before) .ends),
       c .before .before .before .before .before .before .before .before .before .before .before .before .before .before .before .before .before .pre .1 .0,
-      λ z. subst (λ (i : ℕ). Nearest t i 38 (getD (a .places .now) (l .k + 1) 0)) (start-after t (a .places .now) (l .k) (l .mark) (l .inv .4 (omega arith)) ∙ end) (c .before .before .before .before .before .before .before .before .before .before .before .before .before .before .before .before .before .pre .1 .1 (l .k + 1) z (omega (arith, z, c .before .before .before .before .before .before .before .before .before .before .before .before .before .before .before .before .before .pre .1 .0))),
+      λ z. subst (λ (i : ℕ). Nearest t i 38 (getD (a .places .now) (l .k + 1) 0)) (start-after lengthOf t (a .places .now) (l .k) (l .mark) (l .inv .4 (omega arith)) ∙ end) (c .before .before .before .before .before .before .before .before .before .before .before .before .before .before .before .before .before .pre .1 .1 (l .k + 1) z (omega (arith, z, c .before .before .before .before .before .before .before .before .before .before .before .before .before .before .before .before .before .pre .1 .0))),
     )
 
 loop-less : tie.Need-loop-less Inv-loop μ-loop
@@ -162,7 +162,7 @@ loop-again c =
       subst (λ (at : ℕ). Counted (byteStep (InHtml h)) t (l .mark + c .before .length-of .result) at (l .k + 1)) total count,
       filled-put (copied (c .before .before .before .before .before .before .before .before .before)) (next-unit h t clear (l .mark) (c .before .length-of .result) n u) (c .before .before .before .before .before .put-char .last .1 .1 .1 .0) (c .before .before .before .before .before .put-char .result) (c .before .before .before .before .before .put-char .ensures .0) (c .before .before .before .before .before .put-char .ensures .1),
       c .next-mark2 .ensures .0,
-      λ z. sym (start-after t (a .places .now) (l .k) (l .mark) (l .inv .4 (omega arith)) ∙ end),
+      λ z. sym (start-after lengthOf t (a .places .now) (l .k) (l .mark) (l .inv .4 (omega arith)) ∙ end),
       c .next-mark2 .ensures .1,
     )
 

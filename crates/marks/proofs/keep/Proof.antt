@@ -3,8 +3,8 @@
 use mathlib.Core.Path.{sym}
 use lib.Seq.{set-out}
 use borrow.Author.Needs.{needs}
-use Rattle.read_html.proofs.measure.keep.Statement.{statement}
-use Rattle.read_html.proofs.measure.keep.Tie as tie
+use Rattle.marks.proofs.keep.Statement.{statement}
+use Rattle.marks.proofs.keep.Tie as tie
 
 cast-places : tie.Need-cast-places
 cast-places c = search needs
