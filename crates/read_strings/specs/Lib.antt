@@ -1,0 +1,4 @@
+-- What the contracts cite.
+pub mod Clear
+pub mod Units
+pub mod Marks
