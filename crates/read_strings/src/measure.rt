@@ -3,6 +3,7 @@ ghost use mathlib.Core.Path.{_≡_};
 ghost use Prim.Native.Nat.{_≤_};
 ghost use lib.ListN.{length};
 ghost use Rattle.base.specs.Places.{Nearest};
+ghost use Rattle.find_ascii.specs.Words.{Ascii};
 ghost use Rattle.read_strings.specs.Clear.{Clear};
 ghost use Rattle.read_strings.specs.Marks.{Told};
 use crate::look;
@@ -17,15 +18,16 @@ pub struct Found {
     pub units: usize,
 }
 
-// Returns the first offset of a backslash from `from` on, or the text's length. In dense text it is often `from` itself, which is tested without a call.
+// Returns the first offset of a backslash of an ASCII text from `from` on, or the text's length. In dense text it is often `from` itself, which is tested
+// without a call.
 fn next_mark(text: &[u8], from: usize) -> usize
-    requires { ⌜ from ≤ length (now text) ⌝ }
+    requires { ⌜ (from ≤ length (now text)) × Ascii (now text) ⌝ }
     ensures { λ r. ⌜ Nearest (now (text .entry)) from 92 r ⌝ }
 {
     if units::byte_at(text, from) == b'\\' {
         return from;
     }
-    base::find::find_byte(text, from, b'\\')
+    find_ascii::find(text, from, b'\\')
 }
 
 // Measures a text in which only backslashes are to be tested, and keeps the offsets of its first units in `places`. That a unit is none is told at the

@@ -40,7 +40,7 @@ keys-of-requires : tie.Need-keys-of-requires Inv-loop μ-loop
 keys-of-requires c κs = search needs
 
 next-mark-requires : tie.Need-next-mark-requires Inv-loop μ-loop
-next-mark-requires c κs = search needs
+next-mark-requires c κs = (omega arith, λ k b. c .before .before .before .pre .1 k b .0)
 
 loop-holds : tie.Need-loop-holds Inv-loop μ-loop
 loop-holds c =
@@ -85,7 +85,7 @@ add-next-mark : tie.Need-add-next-mark Inv-loop μ-loop
 add-next-mark c = search needs
 
 next-mark-requires-2 : tie.Need-next-mark-requires-2 Inv-loop μ-loop
-next-mark-requires-2 c κs = omega arith
+next-mark-requires-2 c κs = (omega arith, λ k b. c .before .before .before .before .before .before .before .before .before .before .before .before .before .before .before .before .pre .1 k b .0)
 
 loop-less : tie.Need-loop-less Inv-loop μ-loop
 loop-less c = omega (arith, c .next-mark2 .ensures .after, c .next-mark2 .ensures .within, c .before .before .before .length-of .ensures .1)
