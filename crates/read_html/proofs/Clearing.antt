@@ -3,26 +3,24 @@
 -- the next `&` of a clear text every byte is kept.
 -- Assumes nothing.
 use mathlib.Core.Bool.{Bool, false, not, _&&_, _||_}
-use mathlib.Core.Path.{_≡_, sym, ap, _∙_, subst}
-use mathlib.Core.List.{List, _∷_}
-use Prim.Native.Nat.{ℕ, _+_, _≤_, _<_}
+use mathlib.Core.Path.{_≡_, subst}
+use mathlib.Core.List.{List}
+use Prim.Native.Nat.{ℕ, _<_}
 use native.Mathlib.Omega.{arith}
 use borrow.Author.Tests.{lt-ltb, ne-eqb}
 use lib.Dec.{T, ltb, eqb, ltb→lt, T-not}
-use lib.ListN.{length, drop, getD}
-use Rattle.rules.specs.Moves.{before}
+use lib.ListN.{length, getD}
 use Rattle.rules.specs.Utf8.{validTo}
 use Rattle.rules.specs.declared.Html.{Html}
 use Rattle.rules.specs.declared.Context.the-variants.{InHtml}
 use Rattle.rules.proofs.Tests.{and-left, and-right, is-false}
-use Rattle.rules.proofs.Loops.{drop-next}
 use Rattle.rules.proofs.Quiet.{Keeps}
-use Rattle.base.specs.Places.{Absent}
+use Rattle.base.specs.Places.{Nearest}
 use Rattle.utf8.proofs.Texts.{ascii-valid}
 use Rattle.encode_html.proofs.Seven.{seven-bytes}
-use Rattle.reader.specs.Replaced.{begins, isWhole}
+use Rattle.reader.specs.Replaced.{begins}
 use Rattle.reader.specs.Units.{byteStep}
-use Rattle.reader.proofs.Characters.{replaced-here, keeps-plain}
+use Rattle.read_units.proofs.Turns.{byte-kept}
 use Rattle.read_html.specs.Clear.{Clear, keysOf, farOf}
 
 -- ASCII, and not replaced but for `&`.
@@ -44,13 +42,11 @@ far-clear h b l f =
     (ltb→lt b 128 low, λ n. is-false (begins (InHtml h) b) (T-not (begins (InHtml h) b) (subst (λ (x : Bool). T (x || not (begins (InHtml h) b))) (ne-eqb b 38 n) free)))
 
 module _ (h : Html) (t : List ℕ) (clear : Clear h t) where
-  pub clear-keeps : (i r : ℕ) → r ≤ length t → Absent t i r 38 → Keeps (byteStep (InHtml h)) t i r
-  clear-keeps i r l a k p q =
-      let b : k < length t = omega arith in
-      let x = getD t k 0 in
-      let s = drop (k + 1) t in
+  pub clear-keeps : (i r : ℕ) → Nearest t i 38 r → Keeps (byteStep (InHtml h)) t i r
+  clear-keeps i r near k p q =
+      let b : k < length t = omega (arith, q, near .within) in
       let (low, free) = clear k b in
-      rw (drop-next t k b) (keeps-plain (InHtml h) (before t k) x s (sym (replaced-here (InHtml h) x s (omega (arith, low))) ∙ ap (λ (b : Bool). b && isWhole (x ∷ s)) (free (a k p q))))
+      byte-kept h t k b (omega (arith, low)) (free (near .none k p q))
 
   pub clear-valid : validTo t ≡ length t
   clear-valid = ascii-valid t (λ k b. clear k b .0)

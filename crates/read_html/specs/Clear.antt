@@ -16,6 +16,10 @@ use Rattle.reader.specs.Replaced.{begins}
 abbrev pub Clear : Html → List ℕ → Type 0
 Clear h t = (k : ℕ) → k < length t → (getD t k 0 < 128) × ((getD t k 0 ≡ 38 → ⊥) → begins (InHtml h) (getD t k 0) ≡ false)
 
+-- The same, but where the context is the unquoted attribute.
+abbrev pub Tame : Html → List ℕ → Type 0
+Tame h t = (h ≡ Unquoted → ⊥) → Clear h t
+
 -- What a byte is compared with: a mask and a key, twice, and a key. No byte passes in an unquoted attribute.
 abbrev pub keysOf : Html → List ℕ
 keysOf TextMinimal = 0 ∷ 0xBC ∷ 0 ∷ 0xBC ∷ 0xBC ∷ []

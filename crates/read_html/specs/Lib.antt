@@ -1,4 +1,2 @@
 -- What the contracts cite.
 pub mod Clear
-pub mod Units
-pub mod Marks

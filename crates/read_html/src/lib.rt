@@ -1,23 +1,20 @@
 // The strict reader of the HTML contexts, for long ASCII texts. What encode writes has none of the bytes that it replaces but `&`: one look tells that
-// the others are absent, and then only `&` is searched, once, since its offsets are kept for the writing.
-mod fill;
+// the others are absent, and then only `&` is searched, once, since its offsets are kept for the writing. In an unquoted attribute units hold such bytes, and
+// crates/read_unquoted measures.
 mod look;
 mod measure;
-mod units;
 
-ghost use mathlib.Core.Bool.{false};
+ghost use mathlib.Core.Bool.{true};
 ghost use mathlib.Core.Path.{_≡_};
 ghost use Prim.Native.Nat.{_≤_};
 ghost use lib.ListN.{length};
 ghost use Rattle.rules.specs.declared.Context.the-variants.{InHtml};
-ghost use Rattle.plain.specs.Plain.{unquoted};
-ghost use Rattle.read_html.specs.Clear.{Clear};
+ghost use Rattle.read_units.specs.Marks.{Told};
+ghost use Rattle.read_html.specs.Clear.{Tame};
 ghost use Rattle.outcomes.specs.Outcomes.{Reads};
 use outcomes::Outcome;
+use read_units::Found;
 use rules::Html;
-
-// A text up to this length goes the general way.
-const SHORT: usize = 64;
 
 // A text up to this length gets the short list of offsets, which takes less time to make.
 const MEDIUM: usize = 4096;
@@ -27,12 +24,23 @@ const FEW: usize = 64;
 
 const MANY: usize = 640;
 
-// Reads a text that has none of the replaced bytes but `&`, with a list for offsets.
+// Measures a text by the reader of its context, and keeps the offsets of its first units.
+fn survey(h: Html, text: &[u8], places: &mut [u16]) -> Found
+    requires { ⌜ (length (now text) ≤ 65536) × Tame h (now text) ⌝ }
+    ensures { λ r. ⌜ Told h (now (text .entry)) (now (places .exit)) r ⌝ }
+{
+    if let Html::Unquoted = h {
+        return read_unquoted::measure(text, places);
+    }
+    measure::measure(h, text, places)
+}
+
+// Reads a text, with a list for offsets.
 fn read_with(h: Html, places: &mut [u16], text: &[u8], output: &mut [u8]) -> Outcome
-    requires { ⌜ (unquoted h ≡ false) × (length (now text) ≤ 65536) × Clear h (now text) ⌝ }
+    requires { ⌜ (length (now text) ≤ 65536) × Tame h (now text) ⌝ }
     ensures { λ r. ⌜ Reads (InHtml h) (now (text .entry)) (now (output .entry)) (now (output .exit)) r ⌝ }
 {
-    let found = measure::measure(h, text, places);
+    let found = survey(h, text, places);
     if !found.whole {
         return Outcome::Untried;
     }
@@ -42,14 +50,13 @@ fn read_with(h: Html, places: &mut [u16], text: &[u8], output: &mut [u8]) -> Out
     if output.len() < found.length {
         return Outcome::NoRoom(found.length);
     }
-    let kept = base::min(found.units, places.len());
-    fill::write(h, text, places, kept, output);
+    read_units::fill::write(h, text, places, found.length, found.units, output);
     Outcome::Written(found.length, found.units)
 }
 
 // Does so with the short list.
 fn read_medium(h: Html, text: &[u8], output: &mut [u8]) -> Outcome
-    requires { ⌜ (unquoted h ≡ false) × (length (now text) ≤ 65536) × Clear h (now text) ⌝ }
+    requires { ⌜ (length (now text) ≤ 65536) × Tame h (now text) ⌝ }
     ensures { λ r. ⌜ Reads (InHtml h) (now (text .entry)) (now (output .entry)) (now (output .exit)) r ⌝ }
 {
     let mut places = [0x100u16; FEW];
@@ -58,27 +65,32 @@ fn read_medium(h: Html, text: &[u8], output: &mut [u8]) -> Outcome
 
 // Does so with the long list.
 fn read_long(h: Html, text: &[u8], output: &mut [u8]) -> Outcome
-    requires { ⌜ (unquoted h ≡ false) × (length (now text) ≤ 65536) × Clear h (now text) ⌝ }
+    requires { ⌜ (length (now text) ≤ 65536) × Tame h (now text) ⌝ }
     ensures { λ r. ⌜ Reads (InHtml h) (now (text .entry)) (now (output .entry)) (now (output .exit)) r ⌝ }
 {
     let mut places = [0x100u16; MANY];
     read_with(h, &mut places, text, output)
 }
 
-// Reads a text, if it is long, ASCII, and has none of the bytes that the context replaces but `&`. In an unquoted attribute units hold such bytes.
+// Reports whether a text is ASCII and has none of the bytes that the context replaces but `&`; true in an unquoted attribute, where units hold such bytes
+// and the measuring finds whether another is in the text.
+fn is_tame(h: Html, text: &[u8]) -> bool
+    ensures { λ r. ⌜ (r ≡ true → Tame h (now (text .entry))) ⌝ }
+{
+    if let Html::Unquoted = h {
+        return true;
+    }
+    look::is_clear(h, text)
+}
+
+// Reads a text, if it is ASCII and has none of the bytes that the context replaces but `&`, or in an unquoted attribute those of its units.
 pub fn read(h: Html, text: &[u8], output: &mut [u8]) -> Outcome
     ensures { λ r. ⌜ Reads (InHtml h) (now (text .entry)) (now (output .entry)) (now (output .exit)) r ⌝ }
 {
-    if text.len() <= SHORT {
-        return Outcome::Untried;
-    }
     if rules::TEXT_LIMIT < text.len() {
         return Outcome::Untried;
     }
-    if let Html::Unquoted = h {
-        return Outcome::Untried;
-    }
-    if !look::is_clear(h, text) {
+    if !is_tame(h, text) {
         return Outcome::Untried;
     }
     if text.len() <= MEDIUM {

@@ -1,24 +1,15 @@
 // Measures what a clear text reads back as, and keeps where its units are.
-ghost use mathlib.Core.Bool.{false};
-ghost use mathlib.Core.Path.{_≡_};
 ghost use Prim.Native.Nat.{_≤_};
 ghost use lib.ListN.{length};
-ghost use Rattle.plain.specs.Plain.{unquoted};
 ghost use Rattle.read_html.specs.Clear.{Clear};
-ghost use Rattle.read_html.specs.Marks.{Told};
-use crate::units;
+ghost use Rattle.read_units.specs.Marks.{Told};
+use read_units::Found;
+use read_units::units;
 use rules::Html;
-
-// What is found: whether the whole text is units and bytes that are kept, the length of the result, and how many units it has.
-pub struct Found {
-    pub whole: bool,
-    pub length: usize,
-    pub units: usize,
-}
 
 // Measures a text in which only `&` is replaced, and keeps the offsets of its first units in `places`.
 pub fn measure(h: Html, text: &[u8], places: &mut [u16]) -> Found
-    requires { ⌜ (unquoted h ≡ false) × (length (now text) ≤ 65536) × Clear h (now text) ⌝ }
+    requires { ⌜ (length (now text) ≤ 65536) × Clear h (now text) ⌝ }
     ensures { λ r. ⌜ Told h (now (text .entry)) (now (places .exit)) r ⌝ }
 {
     let words = units::words_of(h);
@@ -33,7 +24,7 @@ pub fn measure(h: Html, text: &[u8], places: &mut [u16]) -> Found
                 units: 0,
             };
         }
-        marks::keep(places, units, i);
+        read_units::keep(places, units, i);
         let n = units::length_of(text[i + 1]);
         gain += n - 1;
         units += 1;

@@ -14,9 +14,6 @@ use outcomes::Outcome;
 use rules::Language;
 use rules::Quotes;
 
-// A text up to this length goes the general way.
-const SHORT: usize = 64;
-
 // A text up to this length gets the short list of offsets, which takes less time to make.
 const MEDIUM: usize = 4096;
 
@@ -69,13 +66,10 @@ fn read_long(language: Language, quotes: Quotes, text: &[u8], output: &mut [u8])
     read_with(language, quotes, &mut places, text, output)
 }
 
-// Reads a text of a string, if it is long, ASCII, and has none of the bytes that the string replaces but in its units.
+// Reads a text of a string, if it is ASCII and has none of the bytes that the string replaces but in its units.
 pub fn read(language: Language, quotes: Quotes, text: &[u8], output: &mut [u8]) -> Outcome
     ensures { λ r. ⌜ Reads (stringOf language quotes) (now (text .entry)) (now (output .entry)) (now (output .exit)) r ⌝ }
 {
-    if text.len() <= SHORT {
-        return Outcome::Untried;
-    }
     if rules::TEXT_LIMIT < text.len() {
         return Outcome::Untried;
     }

@@ -5,6 +5,7 @@ mod short;
 ghost use Rattle.outcomes.specs.Outcomes.{Reads};
 use outcomes::Outcome;
 use rules::Context;
+use rules::Language;
 
 // Reads a text, if there is a quick way for it; tells the caller otherwise, and then the output is as it was.
 pub fn read(c: Context, text: &[u8], output: &mut [u8]) -> Outcome
@@ -15,6 +16,8 @@ pub fn read(c: Context, text: &[u8], output: &mut [u8]) -> Outcome
     }
     match c {
         Context::InHtml(h) => read_html::read(h, text, output),
+        Context::InScript(q) => read_strings::read(Language::Script, q, text, output),
+        Context::InStyle(q) => read_strings::read(Language::Style, q, text, output),
         _ => Outcome::Untried,
     }
 }

@@ -1,20 +1,18 @@
 -- `read_with` meets its contract: each outcome by what is measured.
 -- Assumes nothing.
 use mathlib.Core.Path.{refl, sym, _∙_}
-use Prim.Native.Nat.{_-_}
 use native.Mathlib.Omega.{arith}
 use borrow.Author.Needs.{needs}
 use Rattle.rules.specs.Moves.{through}
 use Rattle.rules.specs.Reading.{readStep}
 use Rattle.rules.specs.declared.Context.the-variants.{InHtml}
 use Rattle.outcomes.specs.Outcomes.{Whole}
-use Rattle.read_html.proofs.Clearing.{clear-valid}
-use Rattle.read_html.proofs.Turns.{affirmed}
+use Rattle.read_units.proofs.Turns.{affirmed}
 use Rattle.read_html.proofs.read_with.Statement.{statement}
 use Rattle.read_html.proofs.read_with.Tie as tie
 
-measure-requires : tie.Need-measure-requires
-measure-requires c κs = search needs
+survey-requires : tie.Need-survey-requires
+survey-requires c κs = search needs
 
 same-length : tie.Need-same-length
 same-length c = search needs
@@ -29,9 +27,9 @@ returns-2 : tie.Need-returns-2
 returns-2 c =
     let a = c .before .before .before .before .before .before .before .before .before .before .before .args in
     let t = a .text .now in
-    let m = c .before .before .before .before .before .before .measure .ensures (affirmed _ (c .before .before .if1 .left)) in
-    let whole : Whole (through (readStep (InHtml (a .h))) t) t = (c .before .before .before .before .before .before .before .before .before .before .before .pre .1, clear-valid (a .h) t (c .before .before .before .before .before .before .before .before .before .before .before .pre .2), sym (m .0 .reach)) in
-    (whole, sym (m .0 .many) ∙ c .if2 .taken, refl)
+    let m = c .before .before .before .before .before .before .survey .ensures (affirmed _ (c .before .before .if1 .left)) in
+    let whole : Whole (through (readStep (InHtml (a .h))) t) t = (c .before .before .before .before .before .before .before .before .before .before .before .pre .0, m .0, sym (m .1 .reach)) in
+    (whole, sym (m .1 .many) ∙ c .if2 .taken, refl)
 
 same-length-3 : tie.Need-same-length-3
 same-length-3 c = search needs
@@ -40,17 +38,14 @@ returns-3 : tie.Need-returns-3
 returns-3 c =
     let a = c .before .before .before .before .before .before .before .before .before .before .before .before .before .args in
     let t = a .text .now in
-    let m = c .before .before .before .before .before .before .before .before .measure .ensures (affirmed _ (c .before .before .before .before .if1 .left)) in
-    let whole : Whole (through (readStep (InHtml (a .h))) t) t = (c .before .before .before .before .before .before .before .before .before .before .before .before .before .pre .1, clear-valid (a .h) t (c .before .before .before .before .before .before .before .before .before .before .before .before .before .pre .2), sym (m .0 .reach)) in
-    (whole, λ z. c .before .before .if2 .left (m .0 .many ∙ z), m .0 .long, c .if3 .taken, refl)
-
-min-requires : tie.Need-min-requires
-min-requires c κs = search needs
+    let m = c .before .before .before .before .before .before .before .before .survey .ensures (affirmed _ (c .before .before .before .before .if1 .left)) in
+    let whole : Whole (through (readStep (InHtml (a .h))) t) t = (c .before .before .before .before .before .before .before .before .before .before .before .before .before .pre .0, m .0, sym (m .1 .reach)) in
+    (whole, λ z. c .before .before .if2 .left (m .1 .many ∙ z), m .1 .long, c .if3 .taken, refl)
 
 write-requires : tie.Need-write-requires
 write-requires c κs =
-    let m = c .before .before .before .before .before .before .before .before .before .before .before .measure .ensures (affirmed _ (c .before .before .before .before .before .before .before .if1 .left)) in
-    ((c .before .before .before .before .before .before .before .before .before .before .before .before .before .before .before .before .pre .0, c .before .before .before .before .before .before .before .before .before .before .before .before .before .before .before .before .pre .2, m .1), (c .before .before .min .ensures .1, λ k l s. m .2 k (omega (arith, l, c .before .before .min .ensures .0)) s, omega (arith, m .0 .long, c .before .before .before .if3 .left)))
+    let m = c .before .before .before .before .before .before .before .before .before .before .survey .ensures (affirmed _ (c .before .before .before .before .before .before .if1 .left)) in
+    (m .0, omega (arith, m .2), m .3, omega (arith, m .1 .long, c .before .before .if3 .left))
 
 same-length-4 : tie.Need-same-length-4
 same-length-4 c = search needs
@@ -60,24 +55,23 @@ same-length-5 c = search needs
 
 returns-4 : tie.Need-returns-4
 returns-4 c =
-    let a = c .before .before .before .before .before .before .before .before .before .before .before .before .before .before .before .before .before .before .before .args in
+    let a = c .before .before .before .before .before .before .before .before .before .before .before .before .before .before .before .before .before .before .args in
     let t = a .text .now in
-    let m = c .before .before .before .before .before .before .before .before .before .before .before .before .before .before .measure .ensures (affirmed _ (c .before .before .before .before .before .before .before .before .before .before .if1 .left)) in
-    let whole : Whole (through (readStep (InHtml (a .h))) t) t = (c .before .before .before .before .before .before .before .before .before .before .before .before .before .before .before .before .before .before .before .pre .1, clear-valid (a .h) t (c .before .before .before .before .before .before .before .before .before .before .before .before .before .before .before .before .before .before .before .pre .2), sym (m .0 .reach)) in
-    (whole, λ z. c .before .before .before .before .before .before .before .before .if2 .left (m .0 .many ∙ z), m .0, omega (arith, m .0 .long, c .before .before .before .before .before .before .if3 .left), c .before .before .write .ensures)
+    let m = c .before .before .before .before .before .before .before .before .before .before .before .before .before .survey .ensures (affirmed _ (c .before .before .before .before .before .before .before .before .before .if1 .left)) in
+    let whole : Whole (through (readStep (InHtml (a .h))) t) t = (c .before .before .before .before .before .before .before .before .before .before .before .before .before .before .before .before .before .before .pre .0, m .0, sym (m .1 .reach)) in
+    (whole, λ z. c .before .before .before .before .before .before .before .if2 .left (m .1 .many ∙ z), m .1, omega (arith, m .1 .long, c .before .before .before .before .before .if3 .left), c .before .before .write .ensures)
 
 pub read-with-spec : {M : Type 1} → statement M
 read-with-spec =
     tie.close
     (tie.spec
-    measure-requires
+    survey-requires
     same-length
     returns
     same-length-2
     returns-2
     same-length-3
     returns-3
-    min-requires
     write-requires
     same-length-4
     same-length-5

@@ -8,44 +8,40 @@ use Rattle.read_strings.proofs.read.Tie as tie
 returns : tie.Need-returns
 returns c = search needs
 
-returns-2 : tie.Need-returns-2
-returns-2 c = search needs
-
 is-clear-requires : tie.Need-is-clear-requires
 is-clear-requires c κs = search needs
 
-returns-3 : tie.Need-returns-3
-returns-3 c = search needs
+returns-2 : tie.Need-returns-2
+returns-2 c = search needs
 
 read-medium-requires : tie.Need-read-medium-requires
-read-medium-requires c κs = (c .before .before .before .before .if2 .left, c .before .before .before .is-clear .ensures (affirmed _ (c .before .before .if3 .left)))
+read-medium-requires c κs = (c .before .before .before .before .if1 .left, c .before .before .before .is-clear .ensures (affirmed _ (c .before .before .if2 .left)))
 
 same-length : tie.Need-same-length
 same-length c = search needs
 
-returns-4 : tie.Need-returns-4
-returns-4 c = search needs
+returns-3 : tie.Need-returns-3
+returns-3 c = search needs
 
 read-long-requires : tie.Need-read-long-requires
-read-long-requires c κs = (c .before .before .before .before .if2 .left, c .before .before .before .is-clear .ensures (affirmed _ (c .before .before .if3 .left)))
+read-long-requires c κs = (c .before .before .before .before .if1 .left, c .before .before .before .is-clear .ensures (affirmed _ (c .before .before .if2 .left)))
 
 same-length-2 : tie.Need-same-length-2
 same-length-2 c = search needs
 
-returns-5 : tie.Need-returns-5
-returns-5 c = search needs
+returns-4 : tie.Need-returns-4
+returns-4 c = search needs
 
 pub read-spec : {M : Type 1} → statement M
 read-spec =
     tie.close
     (tie.spec
     returns
-    returns-2
     is-clear-requires
-    returns-3
+    returns-2
     read-medium-requires
     same-length
-    returns-4
+    returns-3
     read-long-requires
     same-length-2
-    returns-5)
+    returns-4)

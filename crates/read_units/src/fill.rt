@@ -1,0 +1,96 @@
+// Writes what a text that can be read to its end reads back as. What stands between two units is copied at once, and a unit gives way to its character.
+ghost use mathlib.Core.Path.{_≡_};
+ghost use Prim.Native.Nat.{_≤_};
+ghost use lib.ListN.{length};
+ghost use Rattle.rules.specs.Bytes.{over};
+ghost use Rattle.rules.specs.Utf8.{validTo};
+ghost use Rattle.rules.specs.Operations.{readOf};
+ghost use Rattle.rules.specs.declared.Context.the-variants.{InHtml};
+ghost use Rattle.read_units.specs.Marks.{Rest, Reaches, Marked};
+use crate::units;
+use rules::Html;
+
+// A text that has a unit for this many bytes of the result or fewer is written step by step, since no branch could guess where the next unit is.
+const DENSE: usize = 4;
+
+// The bytes from an offset on within which a unit is looked at.
+const NEAR: usize = 6;
+
+// Returns a kept offset.
+fn offset(place: u16) -> usize
+    ensures { λ r. ⌜ r ≡ place ⌝ }
+{
+    place as usize
+}
+
+// Copies a run of bytes to the start of `output`, leaves the bytes after it as they were, and returns how many they are.
+fn put_run(run: &[u8], output: &mut [u8]) -> usize
+    requires { ⌜ length (now run) ≤ length (now output) ⌝ }
+    ensures { λ r. ⌜ (r ≡ length (now (run .entry))) × (now (output .exit) ≡ over (now (run .entry)) (now (output .entry))) ⌝ }
+{
+    if run.len() < 8 {
+        return base::put(run, output);
+    }
+    base::put_short(run, output)
+}
+
+// Writes what the text from an offset on reads back as to the start of `output`; what lies past it keeps its values. Each `&` is searched while the bytes
+// before it are copied.
+fn write_rest(h: Html, text: &[u8], from: usize, output: &mut [u8])
+    requires { ⌜ (from ≤ length (now text)) × Reaches h (now text) from × (length (Rest h (now text) from) ≤ length (now output)) ⌝ }
+    ensures { λ _. ⌜ now (output .exit) ≡ over (Rest h (now (text .entry)) from) (now (output .entry)) ⌝ }
+{
+    let mut mark = base::find::put_until(text, from, b'&', output);
+    let mut at = mark - from;
+    while mark < text.len() {
+        at += units::put_char(h, text, mark, &mut output[at..]);
+        let next = mark + units::length_of(text[mark + 1]);
+        mark = base::find::put_until(text, next, b'&', &mut output[at..]);
+        at += mark - next;
+    }
+}
+
+// Writes a text, given the offsets of its first `kept` units.
+fn write_kept(h: Html, text: &[u8], places: &[u16], kept: usize, output: &mut [u8])
+    requires { ⌜ Reaches h (now text) 0 × (kept ≤ length (now places)) × Marked (now text) (now places) kept × (length (Rest h (now text) 0) ≤ length (now output)) ⌝ }
+    ensures { λ _. ⌜ now (output .exit) ≡ over (Rest h (now (text .entry)) 0) (now (output .entry)) ⌝ }
+{
+    let mut at: usize = 0;
+    let mut i: usize = 0;
+    let mut k: usize = 0;
+    while k < kept {
+        let mark = offset(places[k]);
+        at += put_run(&text[i..mark], &mut output[at..]);
+        at += units::put_char(h, text, mark, &mut output[at..]);
+        i = mark + units::length_of(text[mark + 1]);
+        k += 1;
+    }
+    write_rest(h, text, i, &mut output[at..]);
+}
+
+// Writes a text step by step, a byte or a unit at a time.
+fn write_steps(h: Html, text: &[u8], output: &mut [u8])
+    requires { ⌜ Reaches h (now text) 0 × (length (Rest h (now text) 0) ≤ length (now output)) ⌝ }
+    ensures { λ _. ⌜ now (output .exit) ≡ over (Rest h (now (text .entry)) 0) (now (output .entry)) ⌝ }
+{
+    let mut at: usize = 0;
+    let mut i: usize = 0;
+    while NEAR <= text.len() - i {
+        at += units::put_step(text, i, &mut output[at..]);
+        i += units::step_of(text[i], text[i + 1]);
+    }
+    write_rest(h, text, i, &mut output[at..]);
+}
+
+// Writes the result, of `size` bytes and from `count` units, of a text that is read as a whole, given the offsets of its first units; what lies past it
+// keeps its values.
+pub fn write(h: Html, text: &[u8], places: &[u16], size: usize, count: usize, output: &mut [u8])
+    requires { ⌜ (validTo (now text) ≡ length (now text)) × Reaches h (now text) 0 × Marked (now text) (now places) count × (length (readOf (InHtml h) (now text)) ≤ length (now output)) ⌝ }
+    ensures { λ _. ⌜ now (output .exit) ≡ over (readOf (InHtml h) (now (text .entry))) (now (output .entry)) ⌝ }
+{
+    if size / DENSE < count {
+        write_steps(h, text, output);
+        return;
+    }
+    write_kept(h, text, places, base::min(count, places.len()), output);
+}
