@@ -22,19 +22,20 @@ module _ (size : ℕ → ℕ) (mark : ℕ) (t places : List ℕ) (n i : ℕ) whe
   start-same zero h = refl
   start-same (suc k) h = ap (endBy size t) (other k (λ e. omega (arith, e, h)))
 
-  pub marked-more : Marked size mark t places n → (n ≤ length places → Nearest t (startOf size t places n) mark i) → Marked size mark t (set places n i) (n + 1)
-  marked-more m next k l s = go (ltb k n) refl
+  pub marked-more : Marked size mark t places n → (n ≤ length places → Nearest t (startOf size t places n) mark i) → i < length t
+      → Marked size mark t (set places n i) (n + 1)
+  marked-more m next here k l s = go (ltb k n) refl
     where
       same : length (set places n i) ≡ length places
       same = length-set places n i
 
-      go : (x : Bool) → ltb k n ≡ x → Nearest t (startOf size t (set places n i) k) mark (getD (set places n i) k 0)
+      go : (x : Bool) → ltb k n ≡ x → Nearest t (startOf size t (set places n i) k) mark (getD (set places n i) k 0) × (getD (set places n i) k 0 < length t)
       go true q =
           let b = ltb-true k n q in
           rw (start-same k (omega arith), other k (λ e. omega (arith, e, b))) (m k b (omega (arith, s, same)))
       go false q =
           let e : k ≡ n = omega (arith, l, ltb-false k n q) in
-          rw (start-same k (omega (arith, e)), e, getD-set-same places n i 0 (omega (arith, s, same, e))) (next (omega (arith, s, same, e)))
+          rw (start-same k (omega (arith, e)), e, getD-set-same places n i 0 (omega (arith, s, same, e))) (next (omega (arith, s, same, e)), here)
 
   -- From the end of this one on the next is searched.
   pub start-next : n + 1 ≤ length (set places n i) → startOf size t (set places n i) (n + 1) ≡ endBy size t i

@@ -14,6 +14,6 @@ abbrev pub startOf : (ℕ → ℕ) → List ℕ → List ℕ → ℕ → ℕ
 startOf size t places zero = 0
 startOf size t places (suc k) = endBy size t (getD places k 0)
 
--- The first n places that are kept are those of the next mark each.
+-- The first n places that are kept are those of the next mark each, within the text.
 abbrev pub Marked : (ℕ → ℕ) → ℕ → List ℕ → List ℕ → ℕ → Type 0
-Marked size mark t places n = (k : ℕ) → k < n → k < length places → Nearest t (startOf size t places k) mark (getD places k 0)
+Marked size mark t places n = (k : ℕ) → k < n → k < length places → Nearest t (startOf size t places k) mark (getD places k 0) × (getD places k 0 < length t)

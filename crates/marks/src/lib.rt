@@ -1,8 +1,7 @@
 // What the quick readers share: a list of the offsets of a text's units, kept while the text is measured and used while the result is written.
 ghost use mathlib.Core.Path.{_≡_};
-ghost use Prim.Native.Nat.{_≤_, _<_};
-ghost use lib.ListN.{length, set};
-ghost use Rattle.rules.specs.Bytes.{over};
+ghost use Prim.Native.Nat.{_<_};
+ghost use lib.ListN.{set};
 
 // Keeps the offset of a unit, if the list has room for one more.
 pub fn keep(places: &mut [u16], k: usize, at: usize)
@@ -19,15 +18,4 @@ pub fn offset(place: u16) -> usize
     ensures { λ r. ⌜ r ≡ place ⌝ }
 {
     place as usize
-}
-
-// Copies what is between two units to the start of `output`, leaves the bytes after it as they were, and returns how many bytes they are.
-pub fn put_run(run: &[u8], output: &mut [u8]) -> usize
-    requires { ⌜ length (now run) ≤ length (now output) ⌝ }
-    ensures { λ r. ⌜ (r ≡ length (now (run .entry))) × (now (output .exit) ≡ over (now (run .entry)) (now (output .entry))) ⌝ }
-{
-    if run.len() < 8 {
-        return base::put(run, output);
-    }
-    base::put_short(run, output)
 }

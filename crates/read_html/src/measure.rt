@@ -24,7 +24,7 @@ pub fn measure(h: Html, text: &[u8], places: &mut [u16]) -> Found
                 units: 0,
             };
         }
-        read_units::keep(places, units, i);
+        marks::keep(places, units, i);
         let n = units::length_of(text[i + 1]);
         gain += n - 1;
         units += 1;

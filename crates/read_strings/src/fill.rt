@@ -30,7 +30,7 @@ fn put_to_mark(
 {
     if k < kept {
         let mark = marks::offset(places[k]);
-        marks::put_run(&text[from..mark], output);
+        base::put_run(&text[from..mark], output);
         return mark;
     }
     base::find::put_until(text, from, b'\\', output)

@@ -1,5 +1,4 @@
 -- The laws that the proofs of the functions cite.
 pub mod Numbers
 pub mod Reading
-pub mod Kept
 pub mod Turns

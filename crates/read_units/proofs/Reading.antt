@@ -4,14 +4,14 @@
 use mathlib.Core.Bool.{Bool, true, false, not, _&&_, _||_}
 use mathlib.Core.Option.{Option, none, some}
 use mathlib.Core.Path.{_≡_, refl, sym, ap, _∙_, subst}
-use mathlib.Core.List.{List, [], _∷_, _++_}
+use mathlib.Core.List.{List, [], _∷_}
 use Prim.Native.Nat.{ℕ, zero, suc, _+_, _-_, _≤_, _<_}
 use native.Mathlib.Omega.{arith}
 use lib.Dec.{T, eqb, ltb, eqb→eq, ltb→lt}
 use lib.ListN.{length, take, drop, getD, length-drop, length-append, List·getD-append}
 use lib.Seq.{getD-drop, take-append-seam}
 use Rattle.rules.specs.Bytes.{In, all, stands, sameBytes}
-use Rattle.rules.specs.Moves.{swap, before, from}
+use Rattle.rules.specs.Moves.{from}
 use Rattle.rules.specs.Tables.{Row, key, value, rowAt, htmlRows, replacedChars}
 use Rattle.rules.specs.Reading.{undo, unless}
 use Rattle.rules.specs.Encoding.{keepByte}

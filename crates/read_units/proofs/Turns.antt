@@ -11,7 +11,7 @@ use lib.Dec.{T, ltb, eqb}
 use lib.ListN.{length, take, drop, getD, length-append, length-drop}
 use lib.Seq.{length-take-le, drop-at, drop-drop}
 use Rattle.rules.specs.Bytes.{all, over}
-use Rattle.rules.specs.Moves.{Move, keep, taken, result, place, before, through, from}
+use Rattle.rules.specs.Moves.{keep, taken, result, place, before, through, from}
 use Rattle.rules.specs.Tables.{htmlRows, replacedChars}
 use Rattle.rules.specs.declared.Html.{Html}
 use Rattle.rules.specs.declared.Context.the-variants.{InHtml}
@@ -27,7 +27,7 @@ use Rattle.reader.specs.Units.{byteStep}
 use Rattle.reader.proofs.Placed.{has, none-there, finds-none}
 use Rattle.reader.specs.Replaced.{begins, isWhole}
 use Rattle.reader.proofs.Characters.{keeps-plain, stops-there, replaced-here}
-use Rattle.read_units.specs.Units.{lengthOf, endOf, charAt, stepLength, stepAt, UnitAt}
+use Rattle.read_units.specs.Units.{lengthOf, charAt, stepLength, stepAt, UnitAt}
 use Rattle.read_units.specs.Marks.{Rest, Reaches}
 use Rattle.read_units.proofs.Reading.{unit-goes}
 

@@ -3,23 +3,18 @@
 use mathlib.Core.Bool.{true}
 use mathlib.Core.Path.{_≡_}
 use mathlib.Core.List.{List}
-use Prim.Native.Nat.{ℕ, zero, suc, _+_, _<_}
-use lib.ListN.{length as size, getD}
+use Prim.Native.Nat.{ℕ, _+_}
+use lib.ListN.{length as size}
 use Rattle.rules.specs.Moves.{result, through, from, place as placeOf}
 use Rattle.rules.specs.Utf8.{validTo}
 use Rattle.rules.specs.Answers.{Measures}
 use Rattle.rules.specs.Reading.{readStep}
 use Rattle.rules.specs.declared.Html.{Html}
 use Rattle.rules.specs.declared.Context.the-variants.{InHtml}
-use Rattle.base.specs.Places.{Nearest}
+use Rattle.marks.specs.Marks.{Marked as MarkedBy}
 use Rattle.reader.specs.Units.{byteStep}
-use Rattle.read_units.specs.Units.{endOf}
+use Rattle.read_units.specs.Units.{lengthOf}
 use Rattle.read_units.specs.declared.Found.{Found}
-
--- Where the search for the unit number k begins: at the start, or where the one before ends.
-abbrev pub startOf : List ℕ → List ℕ → ℕ → ℕ
-startOf t places zero = 0
-startOf t places (suc k) = endOf t (getD places k 0)
 
 -- What read gives of the text from place i on, byte by byte.
 abbrev pub Rest : Html → List ℕ → ℕ → List ℕ
@@ -31,7 +26,7 @@ Reaches h t i = i + placeOf (from (byteStep (InHtml h)) t i) ≡ size t
 
 -- The first n places that are kept are those of the next `&` each.
 abbrev pub Marked : List ℕ → List ℕ → ℕ → Type 0
-Marked t places n = (k : ℕ) → k < n → k < size places → Nearest t (startOf t places k) 38 (getD places k 0) × (getD places k 0 < size t)
+Marked = MarkedBy lengthOf 38
 
 -- Where the whole text can be read, it is valid, the numbers are those of the moves of read, byte by byte it is read to its end, and the units' places
 -- are kept.

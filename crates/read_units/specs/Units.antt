@@ -8,6 +8,7 @@ use lib.Dec.{eqb}
 use lib.ListN.{length, take, drop, getD}
 use Rattle.rules.specs.Moves.{swap, before}
 use Rattle.rules.specs.declared.Html.{Html}
+use Rattle.marks.specs.Marks.{endBy}
 use Rattle.rules.specs.declared.Html.the-variants.{TextMinimal, Text, DoubleQuoted, SingleQuoted, Quoted, Safe, Unquoted}
 use Rattle.rules.specs.declared.Context.the-variants.{InHtml}
 use Rattle.reader.specs.Units.{byteStep}
@@ -48,7 +49,7 @@ charOf b d e = cond (eqb b 35) (valueOf d e) (cond (eqb b 108) 60 0 + cond (eqb 
 
 -- Where the unit at place p of the text ends, and its character.
 abbrev pub endOf : List ℕ → ℕ → ℕ
-endOf t p = p + lengthOf (getD t (p + 1) 0)
+endOf = endBy lengthOf
 
 abbrev pub charAt : List ℕ → ℕ → ℕ
 charAt t p = charOf (getD t (p + 1) 0) (getD t (p + 3) 0) (getD t (p + 4) 0)

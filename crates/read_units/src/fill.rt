@@ -16,24 +16,6 @@ const DENSE: usize = 4;
 // The bytes from an offset on within which a unit is looked at.
 const NEAR: usize = 6;
 
-// Returns a kept offset.
-fn offset(place: u16) -> usize
-    ensures { λ r. ⌜ r ≡ place ⌝ }
-{
-    place as usize
-}
-
-// Copies a run of bytes to the start of `output`, leaves the bytes after it as they were, and returns how many they are.
-fn put_run(run: &[u8], output: &mut [u8]) -> usize
-    requires { ⌜ length (now run) ≤ length (now output) ⌝ }
-    ensures { λ r. ⌜ (r ≡ length (now (run .entry))) × (now (output .exit) ≡ over (now (run .entry)) (now (output .entry))) ⌝ }
-{
-    if run.len() < 8 {
-        return base::put(run, output);
-    }
-    base::put_short(run, output)
-}
-
 // Writes what the text from an offset on reads back as to the start of `output`; what lies past it keeps its values. Each `&` is searched while the bytes
 // before it are copied.
 fn write_rest(h: Html, text: &[u8], from: usize, output: &mut [u8])
@@ -59,8 +41,8 @@ fn write_kept(h: Html, text: &[u8], places: &[u16], kept: usize, output: &mut [u
     let mut i: usize = 0;
     let mut k: usize = 0;
     while k < kept {
-        let mark = offset(places[k]);
-        at += put_run(&text[i..mark], &mut output[at..]);
+        let mark = marks::offset(places[k]);
+        at += base::put_run(&text[i..mark], &mut output[at..]);
         at += units::put_char(h, text, mark, &mut output[at..]);
         i = mark + units::length_of(text[mark + 1]);
         k += 1;

@@ -1,12 +1,12 @@
 -- Six bytes with the number of `&#xHH;` are a row of the context.
 -- Assumes nothing.
 use mathlib.Core.Bool.{Bool, true, false, not, _&&_, _||_}
-use mathlib.Core.Path.{_≡_, refl, sym, ap, _∙_, subst}
+use mathlib.Core.Path.{_≡_, refl, sym, subst}
 use mathlib.Core.List.{List}
 use Prim.Native.Nat.{ℕ, _<_}
 use native.Mathlib.Omega.{arith}
 use lib.Dec.{T}
-use lib.ListN.{length, getD}
+use lib.ListN.{getD}
 use Rattle.rules.specs.Bytes.{all, any, stands, inside, sameBytes}
 use Rattle.rules.specs.Tables.{Row, value, reference, htmlRows}
 use Rattle.rules.specs.declared.Html.the-variants.{Unquoted}

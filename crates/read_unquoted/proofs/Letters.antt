@@ -6,8 +6,8 @@ use mathlib.Core.List.{List}
 use Prim.Native.Nat.{ℕ, _+_, _%_, _^_, _≤_, _<_}
 use native.Mathlib.Omega.{arith}
 use borrow.Author.Tests.{ltb-true, ltb-false, le-leb}
-use lib.Bits.{bitOr, bitAnd, or-add-and, and-le-l, and-le-r}
-use lib.Dec.{T, ltb, leb, eqb, T-not}
+use lib.Bits.{bitOr, or-add-and, and-le-l, and-le-r}
+use lib.Dec.{T, ltb, leb, T-not}
 use lib.ListN.{length, getD}
 use Rattle.rules.specs.Tables.{letterOrDigit}
 use Rattle.rules.specs.declared.Html.the-variants.{Unquoted}

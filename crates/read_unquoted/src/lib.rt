@@ -3,7 +3,6 @@
 mod units;
 mod walk;
 
-ghost use mathlib.Core.Path.{_≡_};
 ghost use Prim.Native.Nat.{_≤_};
 ghost use lib.ListN.{length};
 ghost use Rattle.rules.specs.declared.Html.the-variants.{Unquoted};
@@ -28,7 +27,7 @@ pub fn measure(text: &[u8], places: &mut [u16]) -> Found
                 units: 0,
             };
         }
-        read_units::keep(places, units, i);
+        marks::keep(places, units, i);
         let n = read_units::units::length_of(text[i + 1]);
         gain += n - 1;
         units += 1;

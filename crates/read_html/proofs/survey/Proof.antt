@@ -1,11 +1,8 @@
 -- `survey` meets its contract, by the context.
 -- Assumes nothing.
-use mathlib.Core.List.{List, [], _∷_}
-use mathlib.Core.Path.{sym, subst}
+use mathlib.Core.List.{[], _∷_}
 use types.Run.{miss}
 use borrow.Author.Needs.{needs}
-use Rattle.rules.specs.declared.Html.{Html}
-use Rattle.read_units.specs.Marks.{Told}
 use Rattle.read_html.proofs.survey.Statement.{statement}
 use Rattle.read_html.proofs.survey.Tie as tie
 

@@ -18,9 +18,10 @@ use Rattle.base.specs.Places.{Absent, Nearest}
 use Rattle.utf8.proofs.Texts.{ascii-valid}
 use Rattle.reader.proofs.Bytewise.{read-measures}
 use Rattle.reader.specs.Units.{byteStep}
-use Rattle.read_units.specs.Marks.{startOf, Marked}
-use Rattle.read_units.specs.Units.{endOf, UnitAt}
-use Rattle.read_units.proofs.Kept.{marked-more, start-next}
+use Rattle.marks.specs.Marks.{startOf}
+use Rattle.read_units.specs.Marks.{Marked}
+use Rattle.read_units.specs.Units.{lengthOf, endOf, UnitAt}
+use Rattle.marks.proofs.Kept.{marked-more, start-next}
 use Rattle.read_units.proofs.Turns.{affirmed, count-start, count-next}
 use Rattle.read_unquoted.proofs.Letters.{letters-low, letters-absent, letters-keep, low-more}
 use Rattle.read_unquoted.proofs.measure.Statement.{statement}
@@ -29,7 +30,7 @@ use Rattle.read_unquoted.proofs.measure.Tie as tie
 abbrev Inv-loop : tie.InvT-loop
 Inv-loop text places₀ words gain₀ units₀ i₀ places gain units i =
     Counted (byteStep (InHtml Unquoted)) text i (i - gain) units × (gain ≤ i) × Marked text places units
-    × (units ≤ length places → (startOf text places units ≤ i) × Absent text (startOf text places units) i 38) × (length places ≡ length places₀)
+    × (units ≤ length places → (startOf lengthOf text places units ≤ i) × Absent text (startOf lengthOf text places units) i 38) × (length places ≡ length places₀)
     × ((k : ℕ) → k < i → getD text k 0 < 128)
 
 abbrev μ-loop : tie.MeasureT-loop
@@ -104,12 +105,12 @@ loop-again c =
     let next = count-next Unquoted t (l .i) (l .gain) (l .units) m r (l .inv .0) (l .inv .1) u n (p .0) (p .1) (letters-keep t (l .i + m) r (p .2) (p .1)) in
     let kept = c .before .before .before .before .before .keep .ensures in
     let end : l .i + m ≡ endOf t (l .i) = ap (λ (m : ℕ). l .i + m) n in
-    let near : l .units ≤ length (l .places) → Nearest t (startOf t (l .places) (l .units)) 38 (l .i) = λ z. record { after = l .inv .3 z .0; within = omega (arith, c .before .before .before .before .before .before .before .before .before .before .loop-test .taken); none = l .inv .3 z .1; here = λ b. u .mark } in (
+    let near : l .units ≤ length (l .places) → Nearest t (startOf lengthOf t (l .places) (l .units)) 38 (l .i) = λ z. record { after = l .inv .3 z .0; within = omega (arith, c .before .before .before .before .before .before .before .before .before .before .loop-test .taken); none = l .inv .3 z .1; here = λ b. u .mark } in (
       next .0,
       next .1,
-      subst (λ (places : List ℕ). Marked t places (l .units + 1)) (sym kept) (marked-more t (l .places) (l .units) (l .i) (l .inv .2) near (c .before .before .before .before .before .before .before .before .before .before .loop-test .taken)),
-      subst (λ (places : List ℕ). l .units + 1 ≤ length places → (startOf t places (l .units + 1) ≤ r) × Absent t (startOf t places (l .units + 1)) r 38) (sym kept)
-          (λ z. subst (λ (s : ℕ). (s ≤ r) × Absent t s r 38) (end ∙ sym (start-next t (l .places) (l .units) (l .i) z)) (p .0, letters-absent t (l .i + m) r (p .2))),
+      subst (λ (places : List ℕ). Marked t places (l .units + 1)) (sym kept) (marked-more lengthOf 38 t (l .places) (l .units) (l .i) (l .inv .2) near (c .before .before .before .before .before .before .before .before .before .before .loop-test .taken)),
+      subst (λ (places : List ℕ). l .units + 1 ≤ length places → (startOf lengthOf t places (l .units + 1) ≤ r) × Absent t (startOf lengthOf t places (l .units + 1)) r 38) (sym kept)
+          (λ z. subst (λ (s : ℕ). (s ≤ r) × Absent t s r 38) (end ∙ sym (start-next lengthOf 38 t (l .places) (l .units) (l .i) z)) (p .0, letters-absent t (l .i + m) r (p .2))),
       ap length kept ∙ length-set (l .places) (l .units) (l .i) ∙ l .inv .4,
       low-more t (l .i) (l .i + m) r (l .inv .5) (λ k a b. u .low k a (omega (arith, b, n))) (letters-low t (l .i + m) r (p .2)),
     )

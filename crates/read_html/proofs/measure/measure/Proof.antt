@@ -16,9 +16,10 @@ use Rattle.base.proofs.Counted.{Counted, counted-end}
 use Rattle.base.specs.Places.{Nearest}
 use Rattle.reader.proofs.Bytewise.{read-measures}
 use Rattle.reader.specs.Units.{byteStep}
-use Rattle.read_units.specs.Marks.{startOf, Marked}
-use Rattle.read_units.specs.Units.{endOf, UnitAt}
-use Rattle.read_units.proofs.Kept.{marked-more, start-next}
+use Rattle.marks.specs.Marks.{startOf}
+use Rattle.read_units.specs.Marks.{Marked}
+use Rattle.read_units.specs.Units.{lengthOf, endOf, UnitAt}
+use Rattle.marks.proofs.Kept.{marked-more, start-next}
 use Rattle.read_units.proofs.Turns.{affirmed, count-start, count-next}
 use Rattle.read_html.proofs.Clearing.{clear-keeps, clear-valid}
 use Rattle.read_html.proofs.measure.measure.Statement.{statement}
@@ -27,7 +28,7 @@ use Rattle.read_html.proofs.measure.measure.Tie as tie
 abbrev Inv-loop : tie.InvT-loop
 Inv-loop h text places₀ words gain₀ units₀ i₀ places gain units i =
     Counted (byteStep (InHtml h)) text i (i - gain) units × (gain ≤ i) × (i < length text → getD text i 0 ≡ 38)
-    × Marked text places units × (units ≤ length places → Nearest text (startOf text places units) 38 i) × (length places ≡ length places₀)
+    × Marked text places units × (units ≤ length places → Nearest text (startOf lengthOf text places units) 38 i) × (length places ≡ length places₀)
 
 abbrev μ-loop : tie.MeasureT-loop
 μ-loop h text places₀ words gain₀ units₀ i₀ places gain units i = length text - i
@@ -106,9 +107,9 @@ loop-again c =
       next .0,
       next .1,
       p .here,
-      subst (λ (places : List ℕ). Marked t places (l .units + 1)) (sym kept) (marked-more t (l .places) (l .units) (l .i) (l .inv .3) (l .inv .4) (c .before .before .before .before .before .before .before .before .before .before .loop-test .taken)),
-      subst (λ (places : List ℕ). l .units + 1 ≤ length places → Nearest t (startOf t places (l .units + 1)) 38 r) (sym kept)
-          (λ z. subst (λ (s : ℕ). Nearest t s 38 r) (end ∙ sym (start-next t (l .places) (l .units) (l .i) z)) p),
+      subst (λ (places : List ℕ). Marked t places (l .units + 1)) (sym kept) (marked-more lengthOf 38 t (l .places) (l .units) (l .i) (l .inv .3) (l .inv .4) (c .before .before .before .before .before .before .before .before .before .before .loop-test .taken)),
+      subst (λ (places : List ℕ). l .units + 1 ≤ length places → Nearest t (startOf lengthOf t places (l .units + 1)) 38 r) (sym kept)
+          (λ z. subst (λ (s : ℕ). Nearest t s 38 r) (end ∙ sym (start-next lengthOf 38 t (l .places) (l .units) (l .i) z)) p),
       ap length kept ∙ length-set (l .places) (l .units) (l .i) ∙ l .inv .5,
     )
 

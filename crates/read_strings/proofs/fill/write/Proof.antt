@@ -56,7 +56,7 @@ put-to-mark-requires c κs =
     let clear = c .before .before .before .before .before .before .pre .0 .0 in
     let whole = c .before .before .before .before .before .before .pre .0 .1 in
     let fresh = whole-fresh (a .language) (a .quotes) t clear (l .i) (l .at) (l .k) (l .inv .0) whole in
-    (l .inv .0 .inside, c .before .before .before .before .before .before .pre .1 .0, λ z. subst (λ (s : ℕ). Nearest t s 92 (getD (a .places .now) (l .k) 0)) (sym (l .inv .2 (omega arith))) (c .before .before .before .before .before .before .pre .1 .1 (l .k) z (omega (arith, z, c .before .before .before .before .before .before .pre .1 .0))), mark-room (a .language) (a .quotes) t clear (l .i) (l .inv .1) fresh)
+    (l .inv .0 .inside, c .before .before .before .before .before .before .pre .1 .0, λ z. subst (λ (s : ℕ). Nearest t s 92 (getD (a .places .now) (l .k) 0)) (sym (l .inv .2 (omega arith))) (c .before .before .before .before .before .before .pre .1 .1 (l .k) z (omega (arith, z, c .before .before .before .before .before .before .pre .1 .0)) .0), mark-room (a .language) (a .quotes) t clear (l .i) (l .inv .1) fresh)
 
 sub-at : tie.Need-sub-at Inv-loop μ-loop
 sub-at c = c .before .before .put-to-mark .ensures .0 .after

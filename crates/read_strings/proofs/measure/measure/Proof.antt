@@ -105,7 +105,7 @@ loop-again c =
           let w = both (l .whole) (c .before .before .before .before .before .before .before .before .before .is-unit .result) z in
           let (counted, marked, near) = l .inv .0 (w .0) in (
             count-next (a .language) (a .quotes) t (c .before .before .before .before .before .before .before .before .before .before .before .before .before .before .before .before .before .pre .1) (l .i) (l .gain) (l .units) (c .before .before .before .length-of .result) (c .before .gain-of .result) (c .next-mark2 .result) counted (l .inv .1) (c .before .before .before .before .before .before .before .before .before .is-unit .ensures (w .1)) n g (omega (arith, less)) p,
-            subst (λ (places : List ℕ). Marked lengthOf 92 t places (l .units + 1)) (sym kept) (marked-more lengthOf 92 t (l .places) (l .units) (l .i) marked near),
+            subst (λ (places : List ℕ). Marked lengthOf 92 t places (l .units + 1)) (sym kept) (marked-more lengthOf 92 t (l .places) (l .units) (l .i) marked near (search needs)),
             subst (λ (places : List ℕ). l .units + 1 ≤ length places → Nearest t (startOf lengthOf t places (l .units + 1)) 92 (c .next-mark2 .result)) (sym kept)
                 (λ z. subst (λ (s : ℕ). Nearest t s 92 (c .next-mark2 .result)) (end ∙ sym (start-next lengthOf 92 t (l .places) (l .units) (l .i) z)) p),
           ),

@@ -10,16 +10,17 @@ use borrow.Author.Needs.{needs}
 use Rattle.base.specs.Places.{Nearest}
 use Rattle.base.proofs.Counted.{filled-all, filled-within}
 use Rattle.base.proofs.Filled.{Filled, Next, filled-start, filled-room, filled-next, filled-put}
-use Rattle.read_units.specs.Marks.{startOf, Rest, Reaches}
-use Rattle.read_units.specs.Units.{UnitAt}
-use Rattle.read_units.proofs.Kept.{start-after}
+use Rattle.read_units.specs.Marks.{Rest, Reaches}
+use Rattle.marks.specs.Marks.{startOf}
+use Rattle.read_units.specs.Units.{lengthOf, UnitAt}
+use Rattle.marks.proofs.Kept.{start-after}
 use Rattle.read_units.proofs.Turns.{reach-unit, reach-next, reach-near, next-mark, next-unit, all-next}
 use Rattle.read_units.proofs.fill.write_kept.Statement.{statement}
 use Rattle.read_units.proofs.fill.write_kept.Tie as tie
 
 abbrev Inv-loop : tie.InvT-loop
 Inv-loop h text places kept output₀ at₀ i₀ k₀ output at i k =
-    (i ≤ length text) × Reaches h text i × Filled (Rest h text 0) (Rest h text i) output₀ output at × (k ≤ kept) × (i ≡ startOf text places k)
+    (i ≤ length text) × Reaches h text i × Filled (Rest h text 0) (Rest h text i) output₀ output at × (k ≤ kept) × (i ≡ startOf lengthOf text places k)
 
 abbrev μ-loop : tie.MeasureT-loop
 μ-loop h text places kept output₀ at₀ i₀ k₀ output at i k = kept - k
@@ -143,7 +144,7 @@ loop-again c =
       reach-next h t mark (c .length-of .result) n u (reach-near h t (l .i) mark (l .inv .1) p),
       filled-put (copied (c .before .before .before .before .before .before .before .before)) (next-unit h t mark (c .length-of .result) n u) (c .before .before .before .before .put-char .last .1 .1 .1 .0) (c .before .before .before .before .put-char .result) (c .before .before .before .before .put-char .ensures .0) (c .before .before .before .before .put-char .ensures .1),
       omega (arith, c .before .before .before .before .before .before .before .before .before .before .before .before .before .loop-test .taken),
-      sym (start-after t (a .places .now) (l .k) mark (c .before .before .before .before .before .before .before .before .before .before .before .offset .ensures) ∙ ap (λ (m : ℕ). mark + m) (sym n)),
+      sym (start-after lengthOf t (a .places .now) (l .k) mark (c .before .before .before .before .before .before .before .before .before .before .before .offset .ensures) ∙ ap (λ (m : ℕ). mark + m) (sym n)),
     )
 
 sub-write-rest : tie.Need-sub-write-rest Inv-loop μ-loop

@@ -2,8 +2,8 @@
 -- The measure is what is left of the text.
 -- Assumes nothing.
 use mathlib.Core.Path.{_≡_, refl, sym, ap, subst}
-use mathlib.Core.List.{List, _++_}
-use Prim.Native.Nat.{ℕ, _+_, _-_, _≤_, _<_}
+use mathlib.Core.List.{_++_}
+use Prim.Native.Nat.{_+_, _-_, _≤_, _<_}
 use native.Mathlib.Omega.{arith}
 use lib.ListN.{length, take, drop, getD}
 use borrow.Author.Needs.{needs}
@@ -11,7 +11,7 @@ use Rattle.rules.proofs.Loops.{from-end}
 use Rattle.rules.specs.Moves.{result}
 use Rattle.rules.specs.declared.Context.the-variants.{InHtml}
 use Rattle.base.proofs.Counted.{filled-all, filled-within}
-use Rattle.base.proofs.Filled.{Filled, Next, filled-start, filled-more, filled-room, filled-next, filled-put}
+use Rattle.base.proofs.Filled.{Filled, filled-start, filled-more, filled-room, filled-next, filled-put}
 use Rattle.reader.specs.Units.{byteStep}
 use Rattle.read_units.specs.Marks.{Rest, Reaches}
 use Rattle.read_units.specs.Units.{UnitAt}

@@ -1,7 +1,7 @@
 -- `is_unit` meets its contract: six bytes with the number of a unit are a row (Digits), and a row that stands there is the unit.
 -- Assumes nothing.
 use mathlib.Core.List.{List}
-use mathlib.Core.Path.{_≡_, sym, ap, _∙_, subst}
+use mathlib.Core.Path.{sym, ap, _∙_, subst}
 use Prim.Native.Nat.{ℕ, _+_, _<_}
 use lib.Dec.{T}
 use lib.ListN.{drop, getD}
