@@ -16,7 +16,7 @@ use rules::Language;
 use rules::Quotes;
 
 // Copies the text from `from` on up to the next backslash, or the end, to the start of `output`, leaves the bytes after it as they were, and returns the
-// offset of that backslash: that which is kept, or it is searched.
+// offset of that backslash: that which is kept, or it is searched. In dense text it is often `from` itself, which is tested without a call.
 fn put_to_mark(
     text: &[u8],
     places: &[u16],
@@ -32,6 +32,9 @@ fn put_to_mark(
         let mark = marks::offset(places[k]);
         base::put_run(&text[from..mark], output);
         return mark;
+    }
+    if units::byte_at(text, from) == b'\\' {
+        return from;
     }
     base::find::put_until(text, from, b'\\', output)
 }

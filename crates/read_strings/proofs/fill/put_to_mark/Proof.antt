@@ -1,7 +1,10 @@
 -- `put_to_mark` meets its contract: the kept place is the next by what is required, and else it is searched.
 -- Assumes nothing.
-use mathlib.Core.Path.{sym, subst}
+use mathlib.Core.Path.{_≡_, sym, ap, _∙_, subst}
+use Prim.Native.Nat.{ℕ, _-_}
 use native.Mathlib.Omega.{arith}
+use lib.ListN.{take, drop}
+use Rattle.rules.specs.Bytes.{over}
 use Rattle.base.specs.Places.{Nearest}
 use Rattle.base.proofs.Part.{part-length}
 use borrow.Author.Needs.{needs}
@@ -35,14 +38,26 @@ same-length c = search needs
 returns : tie.Need-returns
 returns c = let p : Nearest (c .before .before .before .before .before .before .before .before .before .before .before .args .text .now) (c .before .before .before .before .before .before .before .before .before .before .before .args .from) 92 (c .before .before .before .before .before .offset .result) = subst (Nearest (c .before .before .before .before .before .before .before .before .before .before .before .args .text .now) (c .before .before .before .before .before .before .before .before .before .before .before .args .from) 92) (sym (c .before .before .before .before .before .offset .ensures)) (c .before .before .before .before .before .before .before .before .before .before .before .pre .2 (c .before .before .before .before .before .before .before .if1 .taken)) in (p, λ z. c .before .before .before .before .before .offset .ensures, c .before .before .put-run .ensures .1)
 
+byte-at-requires : tie.Need-byte-at-requires
+byte-at-requires c κs = search needs
+
+returns-2 : tie.Need-returns-2
+returns-2 c =
+    let a = c .before .before .before .before .before .before .args in
+    let none : a .from - a .from ≡ 0 = omega arith in (
+      record { after = omega arith; within = c .before .before .before .before .before .before .pre .0; none = λ k p q. absurd (omega arith); here = λ h. sym (c .before .byte-at .ensures) ∙ c .if2 .taken },
+      λ z. absurd (omega (arith, z, c .before .before .if1 .left)),
+      sym (ap (λ (n : ℕ). over (take n (drop (a .from) (a .text .now))) (a .output .now)) none),
+    )
+
 put-until-requires : tie.Need-put-until-requires
 put-until-requires c κs = search needs
 
 same-length-2 : tie.Need-same-length-2
 same-length-2 c = search needs
 
-returns-2 : tie.Need-returns-2
-returns-2 c = search needs
+returns-3 : tie.Need-returns-3
+returns-3 c = search needs
 
 pub put-to-mark-spec : {M : Type 1} → statement M
 put-to-mark-spec =
@@ -57,6 +72,8 @@ put-to-mark-spec =
     put-run-requires
     same-length
     returns
+    byte-at-requires
+    returns-2
     put-until-requires
     same-length-2
-    returns-2)
+    returns-3)
