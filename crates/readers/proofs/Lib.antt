@@ -1,2 +1,3 @@
 -- The laws of the short reader.
 pub mod Rooms
+pub mod Quoted

@@ -31,6 +31,15 @@ enum-known-c-3 c = search needs
 read-requires-4 : tie.Need-read-requires-4
 read-requires-4 c κs = search needs
 
+enum-told : tie.Need-enum-told
+enum-told c = search needs
+
+read-low-requires : tie.Need-read-low-requires
+read-low-requires c κs = search needs
+
+enum-told-2 : tie.Need-enum-told-2
+enum-told-2 c = search needs
+
 same-length-2 : tie.Need-same-length-2
 same-length-2 c = search needs
 
@@ -49,8 +58,14 @@ same-length-4 c = search needs
 returns-4 : tie.Need-returns-4
 returns-4 c = rw (c .before .before .before .before .before .c3 .given .1) (c .before .before .read4 .ensures)
 
+same-length-5 : tie.Need-same-length-5
+same-length-5 c = search needs
+
 returns-5 : tie.Need-returns-5
-returns-5 c = search needs
+returns-5 c = rw (c .before .before .before .before .enum-told .given .1) (c .before .before .read-low .ensures)
+
+returns-6 : tie.Need-returns-6
+returns-6 c = search needs
 
 pub read-spec : {M : Type 1} → statement M
 read-spec =
@@ -65,10 +80,15 @@ read-spec =
     read-requires-3
     enum-known-c-3
     read-requires-4
+    enum-told
+    read-low-requires
+    enum-told-2
     same-length-2
     returns-2
     same-length-3
     returns-3
     same-length-4
     returns-4
-    returns-5)
+    same-length-5
+    returns-5
+    returns-6)
