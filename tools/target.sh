@@ -29,6 +29,8 @@ else
     cc_package="gcc-$gnu-linux-gnu libc6-dev-$debian-cross"
     cxx_package=g++-$gnu-linux-gnu
     need "$RUN" qemu-user
+    # Where the cross compiler's C library is, which a C program needs when it runs.
+    export QEMU_LD_PREFIX="/usr/$target-linux-gnu"
     upper=$(echo "$target" | tr a-z A-Z)
     export RUSTC=/usr/bin/rustc RUSTDOC=/usr/bin/rustdoc CARGO_BUILD_TARGET="$target-unknown-linux-gnu"
     export "CARGO_TARGET_${upper}_UNKNOWN_LINUX_GNU_LINKER=$CC" "CARGO_TARGET_${upper}_UNKNOWN_LINUX_GNU_RUNNER=$RUN"
