@@ -14,14 +14,14 @@ use Rattle.rules.specs.declared.Language.{Language}
 use Rattle.rules.specs.declared.Language.the-variants.{Script, Style}
 use Rattle.rules.specs.declared.Quotes.{Quotes}
 use Rattle.rules.proofs.Quiet.{Keeps}
-use Rattle.rules.specs.Bytes.{over}
 use Rattle.base.specs.Places.{Nearest, Holds, part}
-use Rattle.base.proofs.Filled.{Filled, Next, filled-room, filled-put}
+use Rattle.base.proofs.Filled.{Filled, Next, filled-room}
 use Rattle.base.proofs.Part.{part-length}
 use Rattle.base.proofs.Counted.{Counted, counted-start, counted-quiet, counted-swap, next-quiet, next-swap}
 use Rattle.reader.specs.Units.{Ruleless, byteStep}
 use Rattle.read_strings.specs.Clear.{keysOf, isKey, Clear, Fresh}
 use Rattle.read_strings.specs.Units.{isForm, lengthOf, gainOf, charsAt, endOf, UnitAt}
+use Rattle.read_strings.proofs.Ahead.{with-last, ahead-size, filled-ahead}
 use Rattle.read_strings.proofs.Looks.{before-at}
 use Rattle.read_strings.proofs.Clearing.{clear-keeps}
 use Rattle.read_strings.proofs.Forms.{form-stands, form-alone, gain-less}
@@ -131,9 +131,13 @@ module _ (l : Language) (q : Quotes) (t : List ℕ) (clear : Clear l q t) where
   mark-room i full f r p = omega (arith, filled-room full (next-mark i r p f), part-length t i r (p .after) (p .within), p .after)
 
   pub mark-copied : {whole out₀ out : List ℕ} {at : ℕ} (i mark : ℕ) → Filled whole (Rest l q t i) out₀ out at → Nearest t i 0x5C mark → Fresh q t i
-      → (last : List ℕ) → last ≡ over (part t i mark) (take (length out - at) (drop at out))
-      → Filled whole (Rest l q t mark) out₀ (take at out ++ (last ++ drop (length out - at) (drop at out))) (at + (mark - i))
-  mark-copied i mark full p f last e = filled-put full (next-mark i mark p f) last (mark - i) (sym (part-length t i mark (p .after) (p .within))) e
+      → (last : List ℕ) (n : ℕ) → n ≡ mark - i → length last ≡ length (take (length out - at) (drop at out)) → take n last ≡ part t i mark
+      → Filled whole (Rest l q t mark) (with-last at out last) (with-last at out last) (at + n)
+  mark-copied i mark full p f last n h m e = filled-ahead full (next-mark i mark p f) last m n (h ∙ sym (part-length t i mark (p .after) (p .within))) e
+
+  pub mark-size : {whole out₀ out : List ℕ} {at : ℕ} (i mark : ℕ) → Filled whole (Rest l q t i) out₀ out at → Nearest t i 0x5C mark → Fresh q t i
+      → (last : List ℕ) → length last ≡ length (take (length out - at) (drop at out)) → length (with-last at out last) ≡ length out
+  mark-size i mark full p f last n = ahead-size full (next-mark i mark p f) last n
 
   -- At a place that is not the end the next backslash begins a unit.
   pub unit-after : (i n k mark : ℕ) → Counted (byteStep (stringOf l q)) t i n k → place (through (byteStep (stringOf l q)) t) ≡ length t → Nearest t i 0x5C mark → (mark ≡ length t → ⊥)

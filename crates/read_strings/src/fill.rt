@@ -1,12 +1,12 @@
 // Writes what a clear text reads back as: what stands between two units is copied at once, and a unit gives way to its character.
 ghost use mathlib.Core.Path.{_≡_};
-ghost use Prim.Native.Nat.{_≤_, _<_};
-ghost use lib.ListN.{length, getD};
-ghost use Rattle.rules.specs.Bytes.{over};
+ghost use Prim.Native.Nat.{_-_, _≤_, _<_};
+ghost use lib.ListN.{length, getD, take};
 ghost use Rattle.rules.specs.Contexts.{stringOf};
 ghost use Rattle.rules.specs.Moves.{through, place};
 ghost use Rattle.rules.specs.Operations.{readOf};
-ghost use Rattle.base.specs.Places.{Nearest, Holds, part};
+ghost use Rattle.base.specs.Places.{Nearest, part};
+ghost use Rattle.find_ascii.specs.Words.{Ascii};
 ghost use Rattle.marks.specs.Marks.{Marked};
 ghost use Rattle.reader.specs.Units.{byteStep};
 ghost use Rattle.read_strings.specs.Clear.{Clear};
@@ -15,31 +15,43 @@ use crate::units;
 use rules::Language;
 use rules::Quotes;
 
-// Copies the text from `from` on up to the next backslash, or the end, to the start of `output`, leaves the bytes after it as they were, and returns the
-// offset of that backslash: that which is kept, or it is searched. In dense text it is often `from` itself, which is tested without a call.
-fn put_to_mark(
-    text: &[u8],
-    places: &[u16],
-    kept: usize,
-    k: usize,
-    from: usize,
-    output: &mut [u8],
-) -> usize
-    requires { ⌜ (from ≤ length (now text)) × (kept ≤ length (now places)) × (k < kept → Nearest (now text) from 92 (getD (now places) k 0)) × Holds (now text) from 92 (length (now output)) ⌝ }
-    ensures { λ r. ⌜ Nearest (now (text .entry)) from 92 r × (k < kept → r ≡ getD (now (places .entry)) k 0) × (now (output .exit) ≡ over (part (now (text .entry)) from r) (now (output .entry))) ⌝ }
+// The bytes that are copied for a run of as many or fewer.
+const AHEAD: usize = 16;
+
+// Returns the offset of the next backslash from `from` on, or the text's length: that which is kept, or it is searched as in measuring. A search that both
+// call would not be compiled in line.
+fn next_kept(text: &[u8], places: &[u16], kept: usize, k: usize, from: usize) -> usize
+    requires { ⌜ (from ≤ length (now text)) × Ascii (now text) × (kept ≤ length (now places)) × (k < kept → Nearest (now text) from 92 (getD (now places) k 0)) ⌝ }
+    ensures { λ r. ⌜ Nearest (now (text .entry)) from 92 r × (k < kept → r ≡ getD (now (places .entry)) k 0) ⌝ }
 {
     if k < kept {
-        let mark = marks::offset(places[k]);
-        base::put_run(&text[from..mark], output);
-        return mark;
+        return marks::offset(places[k]);
     }
     if units::byte_at(text, from) == b'\\' {
         return from;
     }
-    base::find::put_until(text, from, b'\\', output)
+    find_ascii::find(text, from, b'\\')
 }
 
-// Writes the result of a text that is read as a whole, given the offsets of its first `kept` units; what lies past it keeps its values.
+// Copies the text from `from` up to `mark` to the start of `output`, and returns how many bytes these are. A short run is copied as sixteen bytes, where there
+// are as many, so that no branch has to guess its length; what is copied past it is overwritten by what follows.
+fn put_ahead(text: &[u8], from: usize, mark: usize, output: &mut [u8]) -> usize
+    requires { ⌜ (from ≤ mark) × (mark ≤ length (now text)) × (mark - from ≤ length (now output)) ⌝ }
+    ensures { λ r. ⌜ (r ≡ mark - from) × (length (now (output .exit)) ≡ length (now (output .entry))) × (take r (now (output .exit)) ≡ part (now (text .entry)) from mark) ⌝ }
+{
+    if mark == from {
+        return 0;
+    }
+    if mark - from <= AHEAD {
+        if AHEAD <= base::min(text.len() - from, output.len()) {
+            base::put_short(&text[from..from + AHEAD], output);
+            return mark - from;
+        }
+    }
+    base::put_run(&text[from..mark], output)
+}
+
+// Writes the result of a text that is read as a whole, given the offsets of its first `kept` units, to an output that is as long as the result.
 pub fn write(
     language: Language,
     quotes: Quotes,
@@ -49,15 +61,15 @@ pub fn write(
     output: &mut [u8],
 )
     requires { ⌜ Clear language quotes (now text) × (place (through (byteStep (stringOf language quotes)) (now text)) ≡ length (now text)) ⌝ }
-    requires { ⌜ (kept ≤ length (now places)) × Marked lengthOf 92 (now text) (now places) kept × (length (readOf (stringOf language quotes) (now text)) ≤ length (now output)) ⌝ }
-    ensures { λ _. ⌜ now (output .exit) ≡ over (readOf (stringOf language quotes) (now (text .entry))) (now (output .entry)) ⌝ }
+    requires { ⌜ (kept ≤ length (now places)) × Marked lengthOf 92 (now text) (now places) kept × (length (readOf (stringOf language quotes) (now text)) ≡ length (now output)) ⌝ }
+    ensures { λ _. ⌜ now (output .exit) ≡ readOf (stringOf language quotes) (now (text .entry)) ⌝ }
 {
     let mut at: usize = 0;
     let mut k: usize = 0;
     let mut i: usize = 0;
     while i < text.len() {
-        let mark = put_to_mark(text, places, kept, k, i, &mut output[at..]);
-        at += mark - i;
+        let mark = next_kept(text, places, kept, k, i);
+        at += put_ahead(text, i, mark, &mut output[at..]);
         if mark == text.len() {
             return;
         }

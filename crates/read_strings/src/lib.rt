@@ -44,8 +44,9 @@ fn read_with(
         return Outcome::NoRoom(found.length);
     }
     let kept = base::min(found.units, places.len());
-    fill::write(language, quotes, text, places, kept, output);
-    Outcome::Written(found.length, found.units)
+    let length = found.length;
+    fill::write(language, quotes, text, places, kept, &mut output[..length]);
+    Outcome::Written(length, found.units)
 }
 
 // Does so with the short list.

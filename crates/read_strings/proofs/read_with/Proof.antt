@@ -1,8 +1,11 @@
 -- `read_with` meets its contract: each outcome by what is measured.
 -- Assumes nothing.
 use mathlib.Core.Path.{refl, sym, _∙_}
+use mathlib.Core.List.{_++_}
 use Prim.Native.Nat.{_-_}
 use native.Mathlib.Omega.{arith}
+use lib.ListN.{drop}
+use lib.Seq.{length-take-le}
 use borrow.Author.Needs.{needs}
 use Rattle.rules.specs.Moves.{through}
 use Rattle.rules.specs.Reading.{readStep}
@@ -47,10 +50,16 @@ returns-3 c =
 min-requires : tie.Need-min-requires
 min-requires c κs = search needs
 
+slice-relend-prefix-write : tie.Need-slice-relend-prefix-write
+slice-relend-prefix-write c = search needs
+
+slice-aggregate-write : tie.Need-slice-aggregate-write
+slice-aggregate-write c = sym (length-take-le _ _ (omega (arith, c .before .before .before .if3 .left)))
+
 write-requires : tie.Need-write-requires
 write-requires c κs =
     let m = c .before .before .before .before .before .before .before .before .before .before .before .measure .ensures (affirmed _ (c .before .before .before .before .before .before .before .if1 .left)) in
-    ((c .before .before .before .before .before .before .before .before .before .before .before .before .before .before .before .before .pre .1, m .1), (c .before .before .min .ensures .1, λ k l s. m .2 k (omega (arith, l, c .before .before .min .ensures .0)) s, omega (arith, m .0 .long, c .before .before .before .if3 .left)))
+    ((c .before .before .before .before .before .before .before .before .before .before .before .before .before .before .before .before .pre .1, m .1), (c .before .before .min .ensures .1, λ k l s. m .2 k (omega (arith, l, c .before .before .min .ensures .0)) s, sym (m .0 .long) ∙ sym (length-take-le _ _ (omega (arith, c .before .before .before .if3 .left)))))
 
 same-length-4 : tie.Need-same-length-4
 same-length-4 c = search needs
@@ -64,7 +73,7 @@ returns-4 c =
     let t = a .text .now in
     let m = c .before .before .before .before .before .before .before .before .before .before .before .before .before .before .measure .ensures (affirmed _ (c .before .before .before .before .before .before .before .before .before .before .if1 .left)) in
     let whole : Whole (through (readStep (stringOf (a .language) (a .quotes))) t) t = (c .before .before .before .before .before .before .before .before .before .before .before .before .before .before .before .before .before .before .before .pre .0, clear-valid (a .language) (a .quotes) t (c .before .before .before .before .before .before .before .before .before .before .before .before .before .before .before .before .before .before .before .pre .1), sym (m .0 .reach)) in
-    (whole, λ z. c .before .before .before .before .before .before .before .before .if2 .left (m .0 .many ∙ z), m .0, omega (arith, m .0 .long, c .before .before .before .before .before .before .if3 .left), c .before .before .write .ensures)
+    (whole, λ z. c .before .before .before .before .before .before .before .before .if2 .left (m .0 .many ∙ z), m .0, omega (arith, m .0 .long, c .before .before .before .before .before .before .if3 .left), λ i. c .before .before .write .ensures i ++ drop (m .0 .long i) (a .output .now))
 
 pub read-with-spec : {M : Type 1} → statement M
 read-with-spec =
@@ -78,6 +87,8 @@ read-with-spec =
     same-length-3
     returns-3
     min-requires
+    slice-relend-prefix-write
+    slice-aggregate-write
     write-requires
     same-length-4
     same-length-5
