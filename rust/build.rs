@@ -48,7 +48,7 @@ fn folder(arch: &str) -> Result<(PathBuf, String), String> {
         return Err(format!("LINTELRYE_ARCHIVE_DIR is not set to the folder of {}, and {} is not there to make one", ARCHIVE, script.display()));
     }
     let folder = root.join("target").join("archive").join(arch);
-    let hint = format!("run {} --target {} (about ten minutes where nothing is proved yet), or set LINTELRYE_ARCHIVE_DIR", script.display(), arch);
+    let hint = format!("run {} --target {} (15 to 25 minutes where nothing is proved yet), or set LINTELRYE_ARCHIVE_DIR", script.display(), arch);
     let sources = ["crates", "crates.txt"].map(|name| root.join(name));
     for source in &sources {
         println!("cargo:rerun-if-changed={}", source.display());
