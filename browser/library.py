@@ -54,7 +54,8 @@ def linked(work):
     try:
         built = subprocess.run(['cc', '-O2', '-static', '-I', os.path.join(root, 'include'), '-o', program, os.path.join(root, 'browser', 'calls.c'), archive])
     except OSError as error:
-        sys.exit('browser/calls.c cannot be compiled: %s' % error)
+        print('browser/calls.c cannot be compiled: %s' % error, file=sys.stderr)
+        sys.exit(2)
     if built.returncode != 0:
         sys.exit(2)
     return Library([program])
