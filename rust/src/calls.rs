@@ -104,7 +104,7 @@ impl fmt::Display for Refusal {
             Refusal::TooLong => write!(f, "the text is longer than {} bytes, or the list than {} fields", TEXT_LIMIT, FIELD_LIMIT),
             Refusal::NotUtf8 { place } => write!(f, "the text is not valid UTF-8 from byte {} on", place),
             Refusal::CutShort { place } => write!(f, "the text ends within the character that begins at byte {}", place),
-            Refusal::NotAForm { place } => write!(f, "the text is not what encode writes from byte {} on", place),
+            Refusal::NotAForm { place } => write!(f, "the text is not what encode writes, or not a JSON string, from byte {} on", place),
             Refusal::LoneSurrogate { place } => write!(f, "half a surrogate pair stands alone at byte {}", place),
             Refusal::NoRoom { needed } => write!(f, "the result needs {} bytes of room", needed),
         }
@@ -161,18 +161,18 @@ pub(crate) fn impossible() -> ! {
     panic!("lintelrye: this is no answer of the archive that the crate was built with")
 }
 
-/// Returns the first reference that stayed, if one did.
-fn left(answer: Answer) -> Option<Left> {
+/// Returns the first reference that stayed, if one did; an error where the reason is none.
+fn left(answer: Answer) -> Result<Option<Left>, ()> {
     let reason = match answer.reason {
-        0 => return None,
+        0 => return Ok(None),
         1 => Reason::NoEnd,
         2 => Reason::Empty,
         3 => Reason::UnknownName,
         4 => Reason::NoDigit,
         5 => Reason::NotAllowed,
-        _ => impossible(),
+        _ => return Err(()),
     };
-    Some(Left { place: answer.left as usize, reason })
+    Ok(Some(Left { place: answer.left as usize, reason }))
 }
 
 impl<'a> Written<'a> {
@@ -267,8 +267,8 @@ fn written(result: Option<&[u8]>, answer: Answer) -> Option<Result<Written<'_>, 
         return known(answer.status, answer.length, answer.place).map(Err);
     }
     let replaced = answer.replaced as usize;
-    let result = str::from_utf8(result?).ok()?;
-    (answer.same == (replaced == 0) as u64).then(|| Ok(Written { result, replaced, left: left(answer) }))
+    let (result, left) = (str::from_utf8(result?).ok()?, left(answer).ok()?);
+    (answer.same == (replaced == 0) as u64).then(|| Ok(Written { result, replaced, left }))
 }
 
 macro_rules! operation {

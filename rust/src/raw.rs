@@ -13,7 +13,7 @@ pub struct Answer {
     pub same: u64,
     /// How many places were replaced: characters by encode and take, references or escapes by decode and browse; after a refusal 0.
     pub replaced: u64,
-    /// After [`NOT_UTF8`], [`CUT_SHORT`] and [`NOT_A_FORM`] the length of the longest correct prefix; otherwise 0.
+    /// After [`NOT_UTF8`], [`CUT_SHORT`], [`NOT_A_FORM`] and [`LONE_SURROGATE`] the length of the longest correct prefix; otherwise 0.
     pub place: u64,
     /// decode in the HTML contexts: the place of the `&` of the first reference that stayed; 0 if none did, and after a refusal.
     pub left: u64,

@@ -338,6 +338,27 @@ fn a_refusal_stops_a_page() {
 }
 
 #[test]
+fn a_field_that_no_page_filled_has_no_result() {
+    let mut fields = [Field::new(Context::Text, 0, 1)];
+    let mut page = [0xEE; 16];
+    assert_eq!(fields[0].result(&page), None);
+    assert_eq!(lintelrye::fill_page(&mut fields, "a", &mut page), Ok(()));
+    let changes: [fn(&mut Field); 6] = [
+        |field| field.begins = u64::MAX,
+        |field| field.answer.status = 6,
+        |field| field.answer.length = u64::MAX,
+        |field| field.answer.length = 2,
+        |field| field.answer.same = 0,
+        |field| field.answer.reason = 9,
+    ];
+    for change in changes {
+        let mut field = fields[0];
+        change(&mut field);
+        assert_eq!(field.result(&page), None);
+    }
+}
+
+#[test]
 fn a_list_too_long_touches_nothing() {
     let mut fields = [Field::new(Context::Text, 0, 1); lintelrye::FIELD_LIMIT + 1];
     let before = fields;
