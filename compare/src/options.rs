@@ -17,7 +17,7 @@ impl Options {
             let value = match (flags.contains(&word.as_str()), valued.contains(&word.as_str())) {
                 (true, _) => String::new(),
                 (_, true) => words.next().unwrap_or_else(|| options.stop(&format!("{} needs a value", word))),
-                _ => options.stop(&format!("unknown word {}; known are {}", word, [flags, valued].concat().join(" "))),
+                _ => options.stop(&format!("unknown option or word {}; compare/run --help says what there is", word)),
             };
             options.given.push((word, value));
         }

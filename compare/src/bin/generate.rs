@@ -430,5 +430,5 @@ fn main() {
     for (name, bytes) in [("stdin", &list.lines), ("stdout", &list.report())] {
         std::fs::write(folder.join(name), bytes).unwrap_or_else(|error| panic!("{} was not written: {}", folder.join(name).display(), error));
     }
-    println!("{} cases in {} bytes, written to crates/replay/stdin", list.total(), list.lines.len());
+    println!("{} cases in {} bytes, written to {}", list.total(), list.lines.len(), folder.join("stdin").display());
 }
