@@ -138,7 +138,7 @@ enum lintelrye_context {
  *   LONE_SURROGATE  the JSON was cut or damaged at `place`: refuse it
  *   BAD_CONTEXT, BAD_RANGE, FINISHED: an error of the program that calls
  * Where several refusals apply, the first of this order is given: BAD_CONTEXT, BAD_RANGE, TOO_LONG, NOT_UTF8 or CUT_SHORT (never both),
- * NOT_A_FORM or LONE_SURROGATE (never both), NO_ROOM. */
+ * NOT_A_FORM or LONE_SURROGATE (never both), NO_ROOM; in the calls for parts FINISHED goes before all others. */
 enum lintelrye_status {
     LINTELRYE_PASSED = 0,
     LINTELRYE_TOO_LONG = 1,    /* the text is longer than LINTELRYE_TEXT_LIMIT bytes */
