@@ -11,6 +11,17 @@ aarch64) debian=arm64 ;;
 *) stop "there is no archive for $target: --target is x86_64 or aarch64" ;;
 esac
 export LINTELRYE_TARGET="$target"
+
+# Says where the emulator finds the target's C and C++ libraries: those of Debian's packages for the target where they are installed, as they are with Rust's
+# library, otherwise the cross compiler's. With the latter a program that starts a thread does not end (qemu 7.2, libc6-arm64-cross 2.36 on x86-64).
+emulated_libraries() {
+    if [ -e "/lib/$target-linux-gnu/libc.so.6" ] && [ -e "/usr/lib/$target-linux-gnu/libstdc++.so.6" ]; then
+        unset QEMU_LD_PREFIX
+    else
+        export QEMU_LD_PREFIX="/usr/$target-linux-gnu"
+    fi
+}
+
 if [ "$target" = "$(uname -m)" ]; then
     CC=${CC:-cc}
     CXX=${CXX:-c++}
@@ -29,8 +40,7 @@ else
     cc_package="gcc-$gnu-linux-gnu libc6-dev-$debian-cross"
     cxx_package=g++-$gnu-linux-gnu
     need "$RUN" qemu-user
-    # Where the cross compiler's C library is, which a C program needs when it runs.
-    export QEMU_LD_PREFIX="/usr/$target-linux-gnu"
+    emulated_libraries
     upper=$(echo "$target" | tr a-z A-Z)
     export RUSTC=/usr/bin/rustc RUSTDOC=/usr/bin/rustdoc CARGO_BUILD_TARGET="$target-unknown-linux-gnu"
     export "CARGO_TARGET_${upper}_UNKNOWN_LINUX_GNU_LINKER=$CC" "CARGO_TARGET_${upper}_UNKNOWN_LINUX_GNU_RUNNER=$RUN"
@@ -43,5 +53,6 @@ cargo_ready() {
         command -v "$CARGO" >/dev/null || install "cargo" cargo rustc
     elif [ ! -x "$CARGO" ] || [ ! -d "/usr/lib/rustlib/$target-unknown-linux-gnu" ]; then
         install "cargo, and Rust's library for $target" rustc cargo "libstd-rust-dev:$debian"
+        emulated_libraries
     fi
 }
