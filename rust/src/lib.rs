@@ -1,8 +1,9 @@
 //! HTML escaping with proofs: the calls of Lintelrye for Rust.
 //!
 //! A result is written into a buffer that the caller lends. Nothing is allocated, nothing panics, and a text that does not fit is refused with the buffer
-//! as it was. The code behind these calls is proved: what [`encode`] writes, [`take`] gives back. The functions are named as in html-escape 0.3.0 where they
-//! do the same, so a caller changes little: a buffer goes in, a `Result` comes out.
+//! as it was. The code behind these calls is proved: what [`encode`] writes, [`take`] gives back, for every text whose encoding has at most [`TEXT_LIMIT`]
+//! bytes. Two exceptions: in style strings a NUL becomes U+FFFD, and raw script has no reader. The functions are named as in html-escape 0.3.0 where they do
+//! the same, so a caller changes little: a buffer goes in, a `Result` comes out.
 //!
 //! ```
 //! let mut line = [0; lintelrye::encoded_at_most(40)];
