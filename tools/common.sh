@@ -20,6 +20,8 @@ stop() {
     exit "${2:-2}"
 }
 
+case $root in *[[:space:]]*) stop "the name of this repository's folder, $root, has a blank, which compilers' options made of it cannot hold: move it" ;; esac
+
 unknown() {
     stop "unknown option or word $1; $me --help says what there is"
 }
