@@ -39,7 +39,11 @@ fn folder(arch: &str) -> Result<(PathBuf, String), String> {
     if !given.is_empty() {
         let folder = PathBuf::from(&given);
         let hint = format!("LINTELRYE_ARCHIVE_DIR must name the folder of {}", ARCHIVE);
-        return if folder.is_absolute() { Ok((folder, hint)) } else { Err(format!("LINTELRYE_ARCHIVE_DIR is {}: give it as an absolute path", given)) };
+        return if folder.is_absolute() {
+            Ok((folder, hint))
+        } else {
+            Err(format!("LINTELRYE_ARCHIVE_DIR is {}: give it as an absolute path", given))
+        };
     }
     let root = PathBuf::from(said("CARGO_MANIFEST_DIR")).join("..");
     let root = root.canonicalize().unwrap_or(root);

@@ -169,7 +169,14 @@ pub struct ScriptRaw {
 // The state goes as two arrays: the eight bytes of the first number, and the other three.
 #[link(name = "lintelrye_c", kind = "static")]
 extern "C" {
-    fn lintelrye_script_raw_part_7(held: *mut u8, numbers: *mut u64, text: *const u8, text_length: usize, output: *mut u8, output_length: usize) -> Answer;
+    fn lintelrye_script_raw_part_7(
+        held: *mut u8,
+        numbers: *mut u64,
+        text: *const u8,
+        text_length: usize,
+        output: *mut u8,
+        output_length: usize,
+    ) -> Answer;
     fn lintelrye_script_raw_finish_7(held: *mut u8, numbers: *mut u64, output: *mut u8, output_length: usize) -> Answer;
 }
 

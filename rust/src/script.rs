@@ -44,9 +44,7 @@ fn released(output: &[u8], answer: Answer) -> Result<&str, Refusal> {
 impl ScriptEncoder {
     /// Starts a script.
     pub const fn new() -> ScriptEncoder {
-        ScriptEncoder {
-            state: ScriptRaw { opaque: [0; 4] },
-        }
+        ScriptEncoder { state: ScriptRaw { opaque: [0; 4] } }
     }
 
     /// Encodes the next part of the text, and returns what is written of it and of what was held.

@@ -5,8 +5,10 @@ use lintelrye::{Context, Field, Left, Reason, Refusal, Stopped, Written};
 
 type Operation = for<'a> fn(Context, &'a [u8], &'a mut [u8]) -> Result<Written<'a>, Refusal>;
 
+type HasContext = fn(usize) -> bool;
+
 /// The calls, each copying and borrowing, and whether they have the context of a number.
-const OPERATIONS: [(Operation, Operation, fn(usize) -> bool); 4] = [
+const OPERATIONS: [(Operation, Operation, HasContext); 4] = [
     (|c, t, o| lintelrye::encode(c, t, o), |c, t, o| lintelrye::encode_borrowing(c, t, o), |number| number < 16),
     (|c, t, o| lintelrye::decode(c, t, o), |c, t, o| lintelrye::decode_borrowing(c, t, o), |number| number < 16 && number != 13),
     (|c, t, o| lintelrye::take(c, t, o), |c, t, o| lintelrye::take_borrowing(c, t, o), |number| number < 16 && number != 13),

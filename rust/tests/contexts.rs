@@ -1,4 +1,6 @@
 //! Contexts by number and name, results given to the next call, and buffers that are always long enough.
+// What is compared with what, and which of them comes first, is what these tests are about.
+#![allow(clippy::nonminimal_bool, clippy::cmp_owned)]
 use lintelrye::{ascii_encoded_at_most, decoded_at_most, encoded_at_most, Context, Refusal, UnknownContext};
 
 #[test]
