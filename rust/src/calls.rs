@@ -268,7 +268,7 @@ fn written(result: Option<&[u8]>, answer: Answer) -> Option<Result<Written<'_>, 
     }
     let replaced = answer.replaced as usize;
     let (result, left) = (str::from_utf8(result?).ok()?, left(answer).ok()?);
-    (answer.same == (replaced == 0) as u64).then(|| Ok(Written { result, replaced, left }))
+    (answer.same == (replaced == 0) as u64).then_some(Ok(Written { result, replaced, left }))
 }
 
 macro_rules! operation {
