@@ -21,8 +21,8 @@ fn among(text: &[u8], at: usize, byte: u8) -> bool
     hit
 }
 
-// Skips sixteen bytes at a time, up to the sixteen that have the byte, or until fewer are left.
-fn pass(text: &[u8], from: usize, byte: u8) -> usize
+// Returns an offset up to which there is no such byte: sixteen at a time are skipped, up to the sixteen that have it, or until fewer are left.
+pub fn pass(text: &[u8], from: usize, byte: u8) -> usize
     requires { ⌜ from ≤ length (now text) ⌝ }
     ensures { λ r. ⌜ (from ≤ r) × (r ≤ length (now (text .entry))) × Absent (now (text .entry)) from r byte ⌝ }
 {

@@ -12,7 +12,7 @@ use lib.Dec.{T, eqb, ltb, eqb→eq}
 use lib.ListN.{length, getD, List·getD-eq-default}
 use Rattle.rules.proofs.EveryByte.{every-byte}
 use Rattle.base.specs.Places.{Absent, Nearest}
-use Rattle.find_ascii.specs.Words.{wordOf, wordAt, repeat, hitsOf, Ascii}
+use Rattle.find_ascii.specs.Words.{wordOf, wordAt, repeat, hitsOf, Ascii, Tells}
 
 -- ---- zeros below the lowest bit
 
@@ -168,10 +168,10 @@ module _ (t : List ℕ) (ascii : Ascii t) (byte i : ℕ) (small : byte < 128) wh
   at-place : (k : ℕ) → i ≤ k → f (k - i) ≡ getD t k 0
   at-place k h = let e : i + (k - i) ≡ k = omega arith in ap (λ (k : ℕ). getD t k 0) e
 
-  pub hits-none : hitsOf (127 - byte) 8 (wordAt t i 8) ≡ 0 → Absent t i (i + 8) byte
+  hits-none : hitsOf (127 - byte) 8 (wordAt t i 8) ≡ 0 → Absent t i (i + 8) byte
   hits-none e k a b z = none-hit byte (127 - byte) (omega arith) 8 f low e (k - i) (omega arith) (at-place k a ∙ z)
 
-  pub hits-some : i + 8 ≤ length t → (hitsOf (127 - byte) 8 (wordAt t i 8) ≡ 0 → ⊥) → (r : ℕ) → r ≡ trailingZeros 64 (hitsOf (127 - byte) 8 (wordAt t i 8)) / 8 → Nearest t i byte (i + r) × (r < 8)
+  hits-some : i + 8 ≤ length t → (hitsOf (127 - byte) 8 (wordAt t i 8) ≡ 0 → ⊥) → (r : ℕ) → r ≡ trailingZeros 64 (hitsOf (127 - byte) 8 (wordAt t i 8)) / 8 → Nearest t i byte (i + r) × (r < 8)
   hits-some l e r q =
       let d : digits 8 ≡ 64 = refl in
       let m = hitsOf (127 - byte) 8 (wordAt t i 8) in
@@ -186,3 +186,13 @@ module _ (t : List ℕ) (ascii : Ascii t) (byte i : ℕ) (small : byte < 128) wh
         },
         less,
       )
+
+  -- So the hits of the eight bytes tell where the byte is.
+  pub hits-tell : i + 8 ≤ length t → (w h : ℕ) → w ≡ wordAt t i 8 → h ≡ hitsOf (127 - byte) 8 w → Tells t i byte h
+  hits-tell l w h e q =
+      let same : h ≡ hitsOf (127 - byte) 8 (wordAt t i 8) = q ∙ ap (hitsOf (127 - byte) 8) e in
+      (λ z. hits-none (sym same ∙ z), λ n. hits-some l (λ z. n (same ∙ z)) (trailingZeros 64 h / 8) (ap (λ (m : ℕ). trailingZeros 64 m / 8) same))
+
+-- Where such a number is not 0, its lowest bit gives the first place.
+pub index-near : (t : List ℕ) (i byte h r : ℕ) → Tells t i byte h → (h ≡ 0 → ⊥) → r ≡ trailingZeros 64 h / 8 → Nearest t i byte (i + r) × (r < 8)
+index-near t i byte h r told some e = subst (λ (r : ℕ). Nearest t i byte (i + r) × (r < 8)) (sym e) (told .1 some)

@@ -1,9 +1,12 @@
 -- Some bytes of a text as one number, and where a byte is among them.
 -- Assumes nothing.
 use mathlib.Core.List.{List}
-use Prim.Native.Nat.{ℕ, zero, suc, _+_, _*_, _<_}
+use mathlib.Core.Path.{_≡_}
+use Prim.Native.Nat.{ℕ, zero, suc, _+_, _*_, _/_, _<_}
 use lib.Bits.{bitAnd, bitXor}
+use lib.Count.{trailingZeros}
 use lib.ListN.{length, getD}
+use Rattle.base.specs.Places.{Absent, Nearest}
 
 -- The first n of some bytes as a number, the first lowest.
 abbrev pub wordOf : (ℕ → ℕ) → ℕ → ℕ
@@ -25,3 +28,7 @@ hitsOf k n w = bitAnd (bitXor (w + repeat (suc k) n) (w + repeat k n)) (repeat 1
 -- Every byte is ASCII.
 abbrev pub Ascii : List ℕ → Type 0
 Ascii t = (k : ℕ) → k < length t → getD t k 0 < 128
+
+-- A number that tells of the eight bytes from place i on: it is 0 if none of them is the byte, and else its lowest bit is in the first that is.
+abbrev pub Tells : List ℕ → ℕ → ℕ → ℕ → Type 0
+Tells t i byte h = (h ≡ 0 → Absent t i (i + 8) byte) × ((h ≡ 0 → ⊥) → Nearest t i byte (i + trailingZeros 64 h / 8) × (trailingZeros 64 h / 8 < 8))

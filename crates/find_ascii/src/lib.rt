@@ -4,7 +4,7 @@ ghost use Prim.Native.Nat.{_+_, _-_, _*_, _/_, _≤_, _<_};
 ghost use lib.Count.{trailingZeros};
 ghost use lib.ListN.{length, getD};
 ghost use Rattle.base.specs.Places.{Nearest};
-ghost use Rattle.find_ascii.specs.Words.{wordAt, hitsOf, Ascii};
+ghost use Rattle.find_ascii.specs.Words.{wordAt, hitsOf, Ascii, Tells};
 
 // The number whose eight bytes are 1.
 const ONES: u64 = 0x0101_0101_0101_0101;
@@ -63,6 +63,14 @@ fn index(hits: u64) -> usize
     (u64::trailing_zeros(hits) / 8) as usize
 }
 
+// Returns a number that tells where a byte is among the eight at an offset: 0 if it is none of them.
+fn hits_at(text: &[u8], at: usize, byte: u8) -> u64
+    requires { ⌜ (byte < 128) × (at + 8 ≤ length (now text)) × Ascii (now text) ⌝ }
+    ensures { λ r. ⌜ Tells (now (text .entry)) at byte r ⌝ }
+{
+    hits(word(text, at), byte)
+}
+
 // Returns the first offset of an ASCII byte from `from` on, or the text's length.
 pub fn find(text: &[u8], from: usize, byte: u8) -> usize
     requires { ⌜ (byte < 128) × (from ≤ length (now text)) × Ascii (now text) ⌝ }
@@ -70,11 +78,40 @@ pub fn find(text: &[u8], from: usize, byte: u8) -> usize
 {
     let mut i = from;
     while 8 <= text.len() - i {
-        let found = hits(word(text, i), byte);
+        let found = hits_at(text, i, byte);
         if found != 0 {
             return i + index(found);
         }
         i += 8;
     }
     base::find::find_byte(text, i, byte)
+}
+
+// Does the same where the byte is far: sixteen bytes at a time are skipped, and the sixteen that have it are searched by eights.
+fn find_far(text: &[u8], from: usize, byte: u8) -> usize
+    requires { ⌜ (byte < 128) × (from ≤ length (now text)) × Ascii (now text) ⌝ }
+    ensures { λ r. ⌜ Nearest (now (text .entry)) from byte r ⌝ }
+{
+    find(text, base::find::pass(text, from, byte), byte)
+}
+
+// Does the same, quickest where the byte is at `from` or within sixteen bytes, which are searched by eights.
+pub fn find_near(text: &[u8], from: usize, byte: u8) -> usize
+    requires { ⌜ (byte < 128) × (from ≤ length (now text)) × Ascii (now text) ⌝ }
+    ensures { λ r. ⌜ Nearest (now (text .entry)) from byte r ⌝ }
+{
+    if 16 <= text.len() - from {
+        if text[from] == byte {
+            return from;
+        }
+        let first = hits_at(text, from, byte);
+        if first != 0 {
+            return from + index(first);
+        }
+        let second = hits_at(text, from + 8, byte);
+        if second != 0 {
+            return from + 8 + index(second);
+        }
+    }
+    find_far(text, from, byte)
 }

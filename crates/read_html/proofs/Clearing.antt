@@ -5,18 +5,18 @@
 use mathlib.Core.Bool.{Bool, false, not, _&&_, _||_}
 use mathlib.Core.Path.{_≡_, subst}
 use mathlib.Core.List.{List}
-use Prim.Native.Nat.{ℕ, _<_}
+use Prim.Native.Nat.{ℕ, _+_, _-_, _≤_, _<_}
 use native.Mathlib.Omega.{arith}
 use borrow.Author.Tests.{lt-ltb, ne-eqb}
 use lib.Dec.{T, ltb, eqb, ltb→lt, T-not}
 use lib.ListN.{length, getD}
-use Rattle.rules.specs.Utf8.{validTo}
 use Rattle.rules.specs.declared.Html.{Html}
 use Rattle.rules.specs.declared.Context.the-variants.{InHtml}
 use Rattle.rules.proofs.Tests.{and-left, and-right, is-false}
 use Rattle.rules.proofs.Quiet.{Keeps}
 use Rattle.base.specs.Places.{Nearest}
-use Rattle.utf8.proofs.Texts.{ascii-valid}
+use Rattle.base.proofs.Counted.{Counted, counted-quiet}
+use Rattle.find_ascii.specs.Words.{Ascii}
 use Rattle.encode_html.proofs.Seven.{seven-bytes}
 use Rattle.reader.specs.Replaced.{begins}
 use Rattle.reader.specs.Units.{byteStep}
@@ -48,5 +48,12 @@ module _ (h : Html) (t : List ℕ) (clear : Clear h t) where
       let (low, free) = clear k b in
       byte-kept h t k b (omega (arith, low)) (free (near .none k p q))
 
-  pub clear-valid : validTo t ≡ length t
-  clear-valid = ascii-valid t (λ k b. clear k b .0)
+  pub clear-ascii : Ascii t
+  clear-ascii k b = clear k b .0
+
+  -- Up to the next `&` all is counted, where the result is `gain` bytes shorter than the text so far.
+  pub clear-counts : (i gain k r : ℕ) → Counted (byteStep (InHtml h)) t i (i - gain) k → gain ≤ i → Nearest t i 38 r → Counted (byteStep (InHtml h)) t r (r - gain) k
+  clear-counts i gain k r c g near =
+      let after = near .after in
+      let n : i - gain + (r - i) ≡ r - gain = omega arith in
+      subst (λ (n : ℕ). Counted (byteStep (InHtml h)) t r n k) n (counted-quiet c r after (near .within) (clear-keeps i r near))

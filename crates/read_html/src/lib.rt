@@ -50,8 +50,9 @@ fn read_with(h: Html, places: &mut [u16], text: &[u8], output: &mut [u8]) -> Out
     if output.len() < found.length {
         return Outcome::NoRoom(found.length);
     }
-    read_units::fill::write(h, text, places, found.length, found.units, output);
-    Outcome::Written(found.length, found.units)
+    let length = found.length;
+    read_units::fill::write(h, text, places, found.units, &mut output[..length]);
+    Outcome::Written(length, found.units)
 }
 
 // Does so with the short list.

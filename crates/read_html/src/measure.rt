@@ -15,20 +15,28 @@ pub fn measure(h: Html, text: &[u8], places: &mut [u16]) -> Found
     let words = units::words_of(h);
     let mut gain: usize = 0;
     let mut units: usize = 0;
-    let mut i = base::find::find_byte(text, 0, b'&');
+    let mut i: usize = 0;
     while i < text.len() {
-        if !units::is_unit(h, &words, text, i) {
+        let mark = find_ascii::find_near(text, i, b'&');
+        if mark == text.len() {
+            return Found {
+                whole: true,
+                length: text.len() - gain,
+                units,
+            };
+        }
+        if !units::is_unit(h, &words, text, mark) {
             return Found {
                 whole: false,
                 length: 0,
                 units: 0,
             };
         }
-        marks::keep(places, units, i);
-        let n = units::length_of(text[i + 1]);
+        marks::keep(places, units, mark);
+        let n = units::length_of(text[mark + 1]);
         gain += n - 1;
         units += 1;
-        i = base::find::find_byte(text, i + n, b'&');
+        i = mark + n;
     }
     Found {
         whole: true,

@@ -4,5 +4,4 @@ pub mod Looks
 pub mod Clearing
 pub mod Forms
 pub mod Reading
-pub mod Ahead
 pub mod Turns

@@ -21,7 +21,7 @@ use Rattle.base.proofs.Counted.{Counted, counted-start, counted-quiet, counted-
 use Rattle.reader.specs.Units.{Ruleless, byteStep}
 use Rattle.read_strings.specs.Clear.{keysOf, isKey, Clear, Fresh}
 use Rattle.read_strings.specs.Units.{isForm, lengthOf, gainOf, charsAt, endOf, UnitAt}
-use Rattle.read_strings.proofs.Ahead.{with-last, ahead-size, filled-ahead}
+use Rattle.marks.proofs.Ahead.{with-last, ahead-size, filled-ahead}
 use Rattle.read_strings.proofs.Looks.{before-at}
 use Rattle.read_strings.proofs.Clearing.{clear-keeps}
 use Rattle.read_strings.proofs.Forms.{form-stands, form-alone, gain-less}

@@ -1,11 +1,11 @@
 // Writes what a clear text reads back as: what stands between two units is copied at once, and a unit gives way to its character.
 ghost use mathlib.Core.Path.{_≡_};
-ghost use Prim.Native.Nat.{_-_, _≤_, _<_};
-ghost use lib.ListN.{length, getD, take};
+ghost use Prim.Native.Nat.{_≤_, _<_};
+ghost use lib.ListN.{length, getD};
 ghost use Rattle.rules.specs.Contexts.{stringOf};
 ghost use Rattle.rules.specs.Moves.{through, place};
 ghost use Rattle.rules.specs.Operations.{readOf};
-ghost use Rattle.base.specs.Places.{Nearest, part};
+ghost use Rattle.base.specs.Places.{Nearest};
 ghost use Rattle.find_ascii.specs.Words.{Ascii};
 ghost use Rattle.marks.specs.Marks.{Marked};
 ghost use Rattle.reader.specs.Units.{byteStep};
@@ -14,9 +14,6 @@ ghost use Rattle.read_strings.specs.Units.{lengthOf};
 use crate::units;
 use rules::Language;
 use rules::Quotes;
-
-// The bytes that are copied for a run of as many or fewer.
-const AHEAD: usize = 16;
 
 // Returns the offset of the next backslash from `from` on, or the text's length: that which is kept, or it is searched as in measuring. A search that both
 // call would not be compiled in line.
@@ -31,24 +28,6 @@ fn next_kept(text: &[u8], places: &[u16], kept: usize, k: usize, from: usize) ->
         return from;
     }
     find_ascii::find(text, from, b'\\')
-}
-
-// Copies the text from `from` up to `mark` to the start of `output`, and returns how many bytes these are. A short run is copied as sixteen bytes, where there
-// are as many, so that no branch has to guess its length; what is copied past it is overwritten by what follows.
-fn put_ahead(text: &[u8], from: usize, mark: usize, output: &mut [u8]) -> usize
-    requires { ⌜ (from ≤ mark) × (mark ≤ length (now text)) × (mark - from ≤ length (now output)) ⌝ }
-    ensures { λ r. ⌜ (r ≡ mark - from) × (length (now (output .exit)) ≡ length (now (output .entry))) × (take r (now (output .exit)) ≡ part (now (text .entry)) from mark) ⌝ }
-{
-    if mark == from {
-        return 0;
-    }
-    if mark - from <= AHEAD {
-        if AHEAD <= base::min(text.len() - from, output.len()) {
-            base::put_short(&text[from..from + AHEAD], output);
-            return mark - from;
-        }
-    }
-    base::put_run(&text[from..mark], output)
 }
 
 // Writes the result of a text that is read as a whole, given the offsets of its first `kept` units, to an output that is as long as the result.
@@ -69,7 +48,7 @@ pub fn write(
     let mut i: usize = 0;
     while i < text.len() {
         let mark = next_kept(text, places, kept, k, i);
-        at += put_ahead(text, i, mark, &mut output[at..]);
+        at += marks::put_ahead(text, i, mark, &mut output[at..]);
         if mark == text.len() {
             return;
         }

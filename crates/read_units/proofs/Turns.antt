@@ -3,32 +3,37 @@
 -- Assumes nothing.
 use mathlib.Core.Bool.{Bool, true, false, not, _&&_}
 use mathlib.Core.Path.{_≡_, refl, sym, ap, _∙_, subst}
-use mathlib.Core.List.{List, [], _∷_, _++_, append-nil}
+use mathlib.Core.List.{List, [], _∷_}
 use Prim.Native.Nat.{ℕ, zero, suc, _+_, _-_, _≤_, _<_}
 use native.Mathlib.Omega.{arith}
 use borrow.Author.Tests.{ltb-true, ltb-false, eqb-true, eqb-false, ne-eqb}
 use lib.Dec.{T, ltb, eqb}
 use lib.ListN.{length, take, drop, getD, length-append, length-drop}
-use lib.Seq.{length-take-le, drop-at, drop-drop}
-use Rattle.rules.specs.Bytes.{all, over}
+use lib.Seq.{length-take-le}
+use Rattle.rules.specs.Bytes.{all}
+use Rattle.rules.specs.Answers.{Measures}
+use Rattle.rules.specs.Reading.{readStep}
 use Rattle.rules.specs.Moves.{keep, taken, result, place, before, through, from}
 use Rattle.rules.specs.Tables.{htmlRows, replacedChars}
 use Rattle.rules.specs.declared.Html.{Html}
 use Rattle.rules.specs.declared.Context.the-variants.{InHtml}
 use Rattle.rules.proofs.Tables.{barred}
-use Rattle.rules.proofs.Loops.{from-stop, drop-next}
+use Rattle.rules.proofs.Loops.{from-stop, from-end, drop-next}
 use Rattle.rules.proofs.Quiet.{Keeps, quiet-place}
 use Rattle.base.specs.Places.{Nearest, Holds}
 use Rattle.base.proofs.Filled.{Filled, Next, filled-room}
 use Rattle.base.proofs.Part.{part-length}
-use Rattle.base.proofs.Counted.{Counted, counted-start, counted-quiet, counted-swap, step-swap, next-quiet, next-swap}
+use Rattle.base.proofs.Counted.{Counted, counted-start, counted-quiet, counted-swap, counted-end, step-swap, next-quiet, next-swap}
+use Rattle.utf8.proofs.Texts.{ascii-valid}
 use Rattle.encode_html.proofs.Seven.{seven}
+use Rattle.find_ascii.specs.Words.{Ascii}
 use Rattle.reader.specs.Units.{byteStep}
 use Rattle.reader.proofs.Placed.{has, none-there, finds-none}
 use Rattle.reader.specs.Replaced.{begins, isWhole}
+use Rattle.reader.proofs.Bytewise.{read-measures}
 use Rattle.reader.proofs.Characters.{keeps-plain, stops-there, replaced-here}
 use Rattle.read_units.specs.Units.{lengthOf, charAt, stepLength, stepAt, UnitAt}
-use Rattle.read_units.specs.Marks.{Rest, Reaches}
+use Rattle.read_units.specs.Marks.{Rest, Reaches, Marked}
 use Rattle.read_units.proofs.Reading.{unit-goes}
 
 -- A test that is denied falsely holds.
@@ -36,35 +41,9 @@ pub affirmed : (x : Bool) → not x ≡ false → x ≡ true
 affirmed true e = refl
 affirmed false e = let never : _≡_ {A = ℕ} 0 1 = cc in absurd (omega arith)
 
--- ---- an output that is partly filled
-
-module _ {whole rest out₀ out : List ℕ} {at : ℕ} (f : Filled whole rest out₀ out at) where
-  unfilled : drop at out ≡ drop at out₀
-  unfilled = rw (f .holds) (drop-at (f .done) (drop at out₀) at (f .size))
-
-  -- A loop may go on with it as with the output at its start,
-  pub filled-again : Filled whole rest out out at
-  filled-again = record {
-    done = f .done;
-    size = f .size;
-    sum = f .sum;
-    kept = refl;
-    room = omega (arith, f .kept, f .room);
-    holds = f .holds ∙ ap (λ (d : List ℕ). f .done ++ d) (sym unfilled);
-    goes = f .goes;
-  }
-
-  -- since what it had past the result is the same.
-  pub filled-once : {o : List ℕ} → o ≡ over whole out → o ≡ over whole out₀
-  filled-once e =
-      let n : at + (length whole - at) ≡ length whole = omega (arith, f .sum) in
-      let same : drop (length whole) out ≡ drop (length whole) out₀ =
-      ap (λ (k : ℕ). drop k out) (sym n) ∙ sym (drop-drop (length whole - at) at out) ∙ ap (drop (length whole - at)) unfilled ∙ drop-drop (length whole - at) at out₀ ∙ ap (λ (k : ℕ). drop k out₀) n in
-      e ∙ ap (λ (d : List ℕ). whole ++ d) same
-
--- All that is left stands next.
-pub all-next : (w : List ℕ) → Next w w []
-all-next w = record { next = sym (append-nil w) }
+-- A place that is within a text and not its end is before it.
+pub before-end : (p len : ℕ) → p ≤ len → (p ≡ len → ⊥) → p < len
+before-end p len h n = omega (arith, n)
 
 -- ---- a text that can be read to its end
 
@@ -193,3 +172,16 @@ module _ (h : Html) (t : List ℕ) where
       let one = subst (λ (m : ℕ). Counted (byteStep (InHtml h)) t (i + m) (i - gain + 1) (k + 1)) (sym e)
       (counted-swap c (lengthOf (getD t (i + 1) 0)) (charAt t i ∷ []) (omega arith) (u .ends) (omega arith) (u .moves)) in
       (subst (λ (n : ℕ). Counted (byteStep (InHtml h)) t r n (k + 1)) n (counted-quiet one r after within q), omega (arith, some, after, g))
+
+  -- At the end of the text all is told.
+  pub told-end : (places : List ℕ) (i gain k : ℕ) → Ascii t → Counted (byteStep (InHtml h)) t i (i - gain) k → i ≡ length t → Marked t places k
+      → Ascii t × Measures (record { length = length t - gain; place = length t; replaced = k; left = 0; reason = 0 }) (through (readStep (InHtml h)) t)
+      × (place (through (byteStep (InHtml h)) t) ≡ length t) × Marked t places k
+  told-end places i gain k ascii c end marked =
+      let none = from-end (byteStep (InHtml h)) t i (omega (arith, end)) in (
+        ascii,
+        subst (λ (i : ℕ). Measures (record { length = i - gain; place = i; replaced = k; left = 0; reason = 0 }) (through (readStep (InHtml h)) t)) end
+            (read-measures (InHtml h) (λ k. refl) t i (i - gain) k (ascii-valid t ascii) c none),
+        sym (counted-end c none .2) ∙ end,
+        marked,
+      )

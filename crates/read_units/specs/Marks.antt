@@ -6,11 +6,11 @@ use mathlib.Core.List.{List}
 use Prim.Native.Nat.{ℕ, _+_}
 use lib.ListN.{length as size}
 use Rattle.rules.specs.Moves.{result, through, from, place as placeOf}
-use Rattle.rules.specs.Utf8.{validTo}
 use Rattle.rules.specs.Answers.{Measures}
 use Rattle.rules.specs.Reading.{readStep}
 use Rattle.rules.specs.declared.Html.{Html}
 use Rattle.rules.specs.declared.Context.the-variants.{InHtml}
+use Rattle.find_ascii.specs.Words.{Ascii}
 use Rattle.marks.specs.Marks.{Marked as MarkedBy}
 use Rattle.reader.specs.Units.{byteStep}
 use Rattle.read_units.specs.Units.{lengthOf}
@@ -28,11 +28,11 @@ Reaches h t i = i + placeOf (from (byteStep (InHtml h)) t i) ≡ size t
 abbrev pub Marked : List ℕ → List ℕ → ℕ → Type 0
 Marked = MarkedBy lengthOf 38
 
--- Where the whole text can be read, it is valid, the numbers are those of the moves of read, byte by byte it is read to its end, and the units' places
+-- Where the whole text can be read, it is ASCII, the numbers are those of the moves of read, byte by byte it is read to its end, and the units' places
 -- are kept.
 abbrev pub Told : Html → List ℕ → List ℕ → Found → Type 0
 Told h t places r =
     r .whole ≡ true
-    → (validTo t ≡ size t)
+    → Ascii t
     × Measures (record { length = r .length; place = size t; replaced = r .units; left = 0; reason = 0 }) (through (readStep (InHtml h)) t)
     × (placeOf (through (byteStep (InHtml h)) t) ≡ size t) × Marked t places (r .units)

@@ -2,10 +2,9 @@
 ghost use mathlib.Core.Path.{_≡_};
 ghost use Prim.Native.Nat.{_≤_};
 ghost use lib.ListN.{length};
-ghost use Rattle.rules.specs.Bytes.{over};
-ghost use Rattle.rules.specs.Utf8.{validTo};
 ghost use Rattle.rules.specs.Operations.{readOf};
 ghost use Rattle.rules.specs.declared.Context.the-variants.{InHtml};
+ghost use Rattle.find_ascii.specs.Words.{Ascii};
 ghost use Rattle.read_units.specs.Marks.{Rest, Reaches, Marked};
 use crate::units;
 use rules::Html;
@@ -16,26 +15,29 @@ const DENSE: usize = 4;
 // The bytes from an offset on within which a unit is looked at.
 const NEAR: usize = 6;
 
-// Writes what the text from an offset on reads back as to the start of `output`; what lies past it keeps its values. Each `&` is searched while the bytes
-// before it are copied.
+// Writes what the text from an offset on reads back as to an output that is as long as that. A unit gives way to its character, and what stands between two
+// units is copied ahead.
 fn write_rest(h: Html, text: &[u8], from: usize, output: &mut [u8])
-    requires { ⌜ (from ≤ length (now text)) × Reaches h (now text) from × (length (Rest h (now text) from) ≤ length (now output)) ⌝ }
-    ensures { λ _. ⌜ now (output .exit) ≡ over (Rest h (now (text .entry)) from) (now (output .entry)) ⌝ }
+    requires { ⌜ (from ≤ length (now text)) × Ascii (now text) × Reaches h (now text) from × (length (Rest h (now text) from) ≡ length (now output)) ⌝ }
+    ensures { λ _. ⌜ now (output .exit) ≡ Rest h (now (text .entry)) from ⌝ }
 {
-    let mut mark = base::find::put_until(text, from, b'&', output);
-    let mut at = mark - from;
-    while mark < text.len() {
+    let mut at: usize = 0;
+    let mut i = from;
+    while i < text.len() {
+        let mark = find_ascii::find_near(text, i, b'&');
+        at += marks::put_ahead(text, i, mark, &mut output[at..]);
+        if mark == text.len() {
+            return;
+        }
         at += units::put_char(h, text, mark, &mut output[at..]);
-        let next = mark + units::length_of(text[mark + 1]);
-        mark = base::find::put_until(text, next, b'&', &mut output[at..]);
-        at += mark - next;
+        i = mark + units::length_of(text[mark + 1]);
     }
 }
 
 // Writes a text, given the offsets of its first `kept` units.
 fn write_kept(h: Html, text: &[u8], places: &[u16], kept: usize, output: &mut [u8])
-    requires { ⌜ Reaches h (now text) 0 × (kept ≤ length (now places)) × Marked (now text) (now places) kept × (length (Rest h (now text) 0) ≤ length (now output)) ⌝ }
-    ensures { λ _. ⌜ now (output .exit) ≡ over (Rest h (now (text .entry)) 0) (now (output .entry)) ⌝ }
+    requires { ⌜ Ascii (now text) × Reaches h (now text) 0 × (kept ≤ length (now places)) × Marked (now text) (now places) kept × (length (Rest h (now text) 0) ≡ length (now output)) ⌝ }
+    ensures { λ _. ⌜ now (output .exit) ≡ Rest h (now (text .entry)) 0 ⌝ }
 {
     let mut at: usize = 0;
     let mut i: usize = 0;
@@ -52,8 +54,8 @@ fn write_kept(h: Html, text: &[u8], places: &[u16], kept: usize, output: &mut [u
 
 // Writes a text step by step, a byte or a unit at a time.
 fn write_steps(h: Html, text: &[u8], output: &mut [u8])
-    requires { ⌜ Reaches h (now text) 0 × (length (Rest h (now text) 0) ≤ length (now output)) ⌝ }
-    ensures { λ _. ⌜ now (output .exit) ≡ over (Rest h (now (text .entry)) 0) (now (output .entry)) ⌝ }
+    requires { ⌜ Ascii (now text) × Reaches h (now text) 0 × (length (Rest h (now text) 0) ≡ length (now output)) ⌝ }
+    ensures { λ _. ⌜ now (output .exit) ≡ Rest h (now (text .entry)) 0 ⌝ }
 {
     let mut at: usize = 0;
     let mut i: usize = 0;
@@ -64,13 +66,13 @@ fn write_steps(h: Html, text: &[u8], output: &mut [u8])
     write_rest(h, text, i, &mut output[at..]);
 }
 
-// Writes the result, of `size` bytes and from `count` units, of a text that is read as a whole, given the offsets of its first units; what lies past it
-// keeps its values.
-pub fn write(h: Html, text: &[u8], places: &[u16], size: usize, count: usize, output: &mut [u8])
-    requires { ⌜ (validTo (now text) ≡ length (now text)) × Reaches h (now text) 0 × Marked (now text) (now places) count × (length (readOf (InHtml h) (now text)) ≤ length (now output)) ⌝ }
-    ensures { λ _. ⌜ now (output .exit) ≡ over (readOf (InHtml h) (now (text .entry))) (now (output .entry)) ⌝ }
+// Writes the result, from `count` units, of an ASCII text that is read as a whole, given the offsets of its first units, to an output that is as long as the
+// result.
+pub fn write(h: Html, text: &[u8], places: &[u16], count: usize, output: &mut [u8])
+    requires { ⌜ Ascii (now text) × Reaches h (now text) 0 × Marked (now text) (now places) count × (length (readOf (InHtml h) (now text)) ≡ length (now output)) ⌝ }
+    ensures { λ _. ⌜ now (output .exit) ≡ readOf (InHtml h) (now (text .entry)) ⌝ }
 {
-    if size / DENSE < count {
+    if output.len() / DENSE < count {
         write_steps(h, text, output);
         return;
     }

@@ -7,22 +7,16 @@ use Prim.Native.Nat.{ℕ, _+_, _-_, _≤_, _<_}
 use native.Mathlib.Omega.{arith}
 use lib.ListN.{length-set, length, getD}
 use borrow.Author.Needs.{needs}
-use Rattle.rules.proofs.Loops.{from-end}
-use Rattle.rules.specs.Answers.{Measures}
-use Rattle.rules.specs.Moves.{through}
-use Rattle.rules.specs.Reading.{readStep}
 use Rattle.rules.specs.declared.Html.the-variants.{Unquoted}
 use Rattle.rules.specs.declared.Context.the-variants.{InHtml}
-use Rattle.base.proofs.Counted.{Counted, counted-end}
+use Rattle.base.proofs.Counted.{Counted}
 use Rattle.base.specs.Places.{Absent, Nearest}
-use Rattle.utf8.proofs.Texts.{ascii-valid}
-use Rattle.reader.proofs.Bytewise.{read-measures}
 use Rattle.reader.specs.Units.{byteStep}
 use Rattle.marks.specs.Marks.{startOf}
 use Rattle.read_units.specs.Marks.{Marked}
 use Rattle.read_units.specs.Units.{lengthOf, endOf, UnitAt}
 use Rattle.marks.proofs.Kept.{marked-more, start-next}
-use Rattle.read_units.proofs.Turns.{affirmed, count-start, count-next}
+use Rattle.read_units.proofs.Turns.{affirmed, count-start, count-next, told-end}
 use Rattle.read_unquoted.proofs.Letters.{letters-low, letters-absent, letters-keep, low-more}
 use Rattle.read_unquoted.proofs.measure.Statement.{statement}
 use Rattle.read_unquoted.proofs.measure.Tie as tie
@@ -123,19 +117,10 @@ same-length-2 c = search needs
 
 returns-2 : tie.Need-returns-2 Inv-loop μ-loop
 returns-2 c =
-    let a = c .before .before .before .before .before .before .args in
     let l = c .before .loop in
-    let t = a .text .now in
+    let t = c .before .before .before .before .before .before .args .text .now in
     let end : l .i ≡ length t = omega (arith, l .inv .0 .inside, c .loop-test .left) in
-    let none = from-end (byteStep (InHtml Unquoted)) t (l .i) (omega arith) in
-    let valid = ascii-valid t (λ k b. l .inv .5 k (omega (arith, b, end))) in
-    λ z. (
-      valid,
-      subst (λ (i : ℕ). Measures (record { length = i - l .gain; place = i; replaced = l .units; left = 0; reason = 0 }) (through (readStep (InHtml Unquoted)) t)) end
-          (read-measures (InHtml Unquoted) (λ k. refl) t (l .i) (l .i - l .gain) (l .units) valid (l .inv .0) none),
-      sym (counted-end (l .inv .0) none .2) ∙ end,
-      l .inv .2,
-    )
+    λ z. told-end Unquoted t (l .places) (l .i) (l .gain) (l .units) (λ k b. l .inv .5 k (omega (arith, b, end))) (l .inv .0) end (l .inv .2)
 
 pub measure-spec : {M : Type 1} → statement M
 measure-spec =

@@ -19,7 +19,7 @@ use Rattle.marks.proofs.Kept.{start-after}
 use Rattle.reader.proofs.Bytewise.{byte-result}
 use Rattle.reader.specs.Units.{byteStep}
 use Rattle.read_strings.specs.Units.{lengthOf, endOf}
-use Rattle.read_strings.proofs.Ahead.{as-long, filled-self, filled-exact}
+use Rattle.marks.proofs.Ahead.{as-long, filled-self, filled-exact}
 use Rattle.read_strings.proofs.Clearing.{clear-valid}
 use Rattle.read_strings.proofs.Forms.{length-two}
 use Rattle.read_strings.proofs.Turns.{Rest, ruleless, at-least, second-within, whole-fresh, mark-room, mark-copied, mark-size, unit-after, count-mark, count-unit, next-unit}

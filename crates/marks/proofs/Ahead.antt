@@ -8,7 +8,7 @@ use native.Mathlib.Omega.{arith}
 use lib.ListN.{length, take, drop, length-append, length-drop, drop-of-length-le, take-append-drop}
 use lib.Seq.{drop-at, drop-drop, take-append-seam}
 use Rattle.rules.specs.Bytes.{over}
-use Rattle.base.proofs.Filled.{Filled, Next, lent-rest, filled-end}
+use Rattle.base.proofs.Filled.{Filled, Next, lent-rest, filled-start, filled-put, filled-end}
 use Rattle.base.proofs.Counted.{filled-within}
 
 take-left : (n : ℕ) (w r : List ℕ) → n ≤ length w → take n (w ++ r) ≡ take n w
@@ -88,3 +88,35 @@ as-long e = omega arith
 pub filled-exact : {whole rest out₀ out : List ℕ} {at : ℕ} → Filled whole rest out₀ out at → rest ≡ [] → length whole ≡ length out → out ≡ whole
 filled-exact {whole} {rest} {out₀} {out} {at} f e l =
     filled-end (subst (λ (r : List ℕ). Filled whole r out₀ out at) e f) ∙ ap (λ (r : List ℕ). whole ++ r) (drop-of-length-le out₀ {i = length whole} (omega (arith, l, f .kept))) ∙ append-nil whole
+
+-- ---- an output that is as long as the result
+
+-- So much of the result is written, and whatever lies behind it.
+pub record Exact (whole rest out : List ℕ) (at : ℕ) : Type 0 where
+  pub filled : Filled whole rest out out at
+  pub long : length whole ≡ length out
+
+pub exact-start : (whole out : List ℕ) → length whole ≡ length out → Exact whole whole out 0
+exact-start whole out e = record { filled = filled-start whole out (as-long e); long = e }
+
+-- What stands next is put, with whatever lies behind it, or alone.
+module _ {whole rest out : List ℕ} {at : ℕ} {w rest′ : List ℕ} (f : Exact whole rest out at) (e : Next rest w rest′) (last : List ℕ) (n : ℕ) (h : n ≡ length w) where
+  pub exact-ahead : length last ≡ length (take (length out - at) (drop at out)) → take n last ≡ w → Exact whole rest′ (with-last at out last) (at + n)
+  exact-ahead l t = record { filled = filled-ahead (f .filled) e last l n h t; long = f .long ∙ sym (ahead-size (f .filled) e last l) }
+
+  pub exact-put : last ≡ w ++ drop (length w) (take (length out - at) (drop at out)) → Exact whole rest′ (with-last at out last) (at + n)
+  exact-put p = let g = filled-put (f .filled) e last n h p in record { filled = filled-self g; long = f .long ∙ sym (g .kept) }
+
+-- In the end it is the result.
+pub exact-end : {whole rest out : List ℕ} {at : ℕ} → Exact whole rest out at → rest ≡ [] → out ≡ whole
+exact-end f e = filled-exact (f .filled) e (f .long)
+
+-- What is left has the length of the part that is lent, and may be put there at once.
+module _ {whole rest out : List ℕ} {at : ℕ} (f : Exact whole rest out at) where
+  pub exact-rest : length rest ≡ length (take (length out - at) (drop at out))
+  exact-rest = omega (arith, f .filled .sum, f .long, ap length (lent-rest at out), length-drop at out)
+
+  pub exact-last : (last : List ℕ) → last ≡ rest → with-last at out last ≡ whole
+  exact-last last e =
+      let none : drop (length rest) (take (length out - at) (drop at out)) ≡ [] = drop-of-length-le (take (length out - at) (drop at out)) {i = length rest} (omega (arith, exact-rest)) in
+      exact-end (exact-put {w = rest} {rest′ = []} f (record { next = sym (append-nil rest) }) last (length rest) refl (e ∙ sym (append-nil rest) ∙ ap (λ (r : List ℕ). rest ++ r) (sym none))) refl

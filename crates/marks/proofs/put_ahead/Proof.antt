@@ -7,10 +7,10 @@ use lib.ListN.{length, take, drop, length-drop}
 use lib.Seq.{length-take-le}
 use Rattle.base.specs.Places.{part}
 use Rattle.base.proofs.Part.{part-length}
-use Rattle.read_strings.proofs.Ahead.{head-put, size-put}
+use Rattle.marks.proofs.Ahead.{head-put, size-put}
 use borrow.Author.Needs.{needs}
-use Rattle.read_strings.proofs.fill.put_ahead.Statement.{statement}
-use Rattle.read_strings.proofs.fill.put_ahead.Tie as tie
+use Rattle.marks.proofs.put_ahead.Statement.{statement}
+use Rattle.marks.proofs.put_ahead.Tie as tie
 
 returns : tie.Need-returns
 returns c =
