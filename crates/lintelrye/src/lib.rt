@@ -164,7 +164,8 @@ pub fn check(context: u32, text: &[u8]) -> Checked
     ensures { λ r. ⌜ r ≡ checkOf (contextOf context) (now (text .entry)) ⌝ }
 {
     let mut none: [u8; 0] = [0; 0];
-    without_output(call(Operation::Read, context, false, text, &mut none))
+    let reply = frame::replied(Operation::Read, context, false, text, &mut none);
+    without_output(frame::answer_of(reply))
 }
 
 // Undoes exactly what encode writes and refuses everything else: of what encode wrote it returns the text that was typed. One exception: encode writes
