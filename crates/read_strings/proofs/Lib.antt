@@ -5,3 +5,4 @@ pub mod Clearing
 pub mod Forms
 pub mod Reading
 pub mod Turns
+pub mod Starts

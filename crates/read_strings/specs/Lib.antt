@@ -2,3 +2,4 @@
 pub mod Clear
 pub mod Units
 pub mod Marks
+pub mod Dense

@@ -1,5 +1,6 @@
 // The strict reader of script and style strings, for long ASCII texts. What encode writes has none of the bytes that it replaces but backslashes and the
 // quotes after them: one look tells that the others are absent, and then only the backslash is searched.
+mod dense;
 mod fill;
 mod look;
 mod measure;
@@ -58,13 +59,24 @@ fn read_medium(language: Language, quotes: Quotes, text: &[u8], output: &mut [u8
     read_with(language, quotes, &mut places, text, output)
 }
 
+// Returns how many offsets are kept of a long text: none if it is full of units, as then it is measured without them.
+fn list_of(text: &[u8]) -> usize
+    ensures { λ r. ⌜ r ≤ 640 ⌝ }
+{
+    if dense::is_dense(text) {
+        return 0;
+    }
+    MANY
+}
+
 // Does so with the long list.
 fn read_long(language: Language, quotes: Quotes, text: &[u8], output: &mut [u8]) -> Outcome
     requires { ⌜ (length (now text) ≤ 65536) × Clear language quotes (now text) ⌝ }
     ensures { λ r. ⌜ Reads (stringOf language quotes) (now (text .entry)) (now (output .entry)) (now (output .exit)) r ⌝ }
 {
     let mut places = [0x100u16; MANY];
-    read_with(language, quotes, &mut places, text, output)
+    let many = list_of(text);
+    read_with(language, quotes, &mut places[..many], text, output)
 }
 
 // Reads a text of a string, if it is ASCII and has none of the bytes that the string replaces but in its units.

@@ -6,6 +6,7 @@ ghost use Rattle.base.specs.Places.{Nearest};
 ghost use Rattle.find_ascii.specs.Words.{Ascii};
 ghost use Rattle.read_strings.specs.Clear.{Clear};
 ghost use Rattle.read_strings.specs.Marks.{Told};
+use crate::dense;
 use crate::look;
 use crate::units;
 use rules::Language;
@@ -37,10 +38,11 @@ pub fn measure(language: Language, quotes: Quotes, text: &[u8], places: &mut [u1
     ensures { λ r. ⌜ Told language quotes (now (text .entry)) (now (places .exit)) r ⌝ }
 {
     let keys = look::keys_of(quotes);
-    let mut whole = true;
-    let mut gain: usize = 0;
-    let mut units: usize = 0;
-    let mut i = next_mark(text, 0);
+    let begun = dense::begin(language, quotes, &keys, text, places.len());
+    let mut whole = begun.whole;
+    let mut gain = begun.gain;
+    let mut units = begun.units;
+    let mut i = next_mark(text, begun.from);
     while i < text.len() {
         whole = whole & units::is_unit(language, quotes, &keys, text, i);
         marks::keep(places, units, i);

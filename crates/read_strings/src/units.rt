@@ -64,7 +64,7 @@ fn is_slashed(keys: &[u8; 2], b: u8, c: u8) -> bool
 }
 
 // Reports whether they are the rest of a unit.
-fn is_form(language: Language, keys: &[u8; 2], b: u8, c: u8, d: u8, e: u8, f: u8) -> bool
+pub fn is_form(language: Language, keys: &[u8; 2], b: u8, c: u8, d: u8, e: u8, f: u8) -> bool
     ensures { λ r. ⌜ r ≡ isForm language (now (keys .entry)) b c d e f ⌝ }
 {
     is_slashed(keys, b, c) | is_hex(language, b, c, d) | is_separator(language, b, c, d, e, f)

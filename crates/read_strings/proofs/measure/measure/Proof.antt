@@ -22,7 +22,8 @@ use Rattle.reader.specs.Units.{byteStep}
 use Rattle.read_strings.specs.Units.{lengthOf, gainOf, endOf}
 use Rattle.read_strings.proofs.Looks.{both}
 use Rattle.read_strings.proofs.Clearing.{clear-valid}
-use Rattle.read_strings.proofs.Turns.{ruleless, count-start, count-next}
+use Rattle.read_strings.proofs.Starts.{none-kept}
+use Rattle.read_strings.proofs.Turns.{ruleless, count-next}
 use Rattle.read_strings.proofs.measure.measure.Statement.{statement}
 use Rattle.read_strings.proofs.measure.measure.Tie as tie
 
@@ -39,17 +40,35 @@ abbrev μ-loop : tie.MeasureT-loop
 keys-of-requires : tie.Need-keys-of-requires Inv-loop μ-loop
 keys-of-requires c κs = search needs
 
+begin-requires : tie.Need-begin-requires Inv-loop μ-loop
+begin-requires c κs = (c .before .keys-of .ensures, c .before .before .before .before .pre .0, c .before .before .before .before .pre .1)
+
 next-mark-requires : tie.Need-next-mark-requires Inv-loop μ-loop
-next-mark-requires c κs = (omega arith, λ k b. c .before .before .before .pre .1 k b .0)
+next-mark-requires c κs = (c .begin .ensures .0, λ k b. c .before .before .before .before .before .pre .1 k b .0)
 
 loop-holds : tie.Need-loop-holds Inv-loop μ-loop
 loop-holds c =
-    let a = c .before .before .before .before .args in
+    let a = c .before .before .before .before .before .before .args in
+    let t = a .text .now in
+    let b = c .before .begin .result in
+    let e = c .before .begin .ensures in
     let p = c .next-mark .ensures in
-    (λ z. (count-start (a .language) (a .quotes) (a .text .now) (c .before .before .before .before .pre .1) (c .next-mark .result) p, λ k l. absurd (omega arith), λ z. p), omega arith, omega arith, p .within, p .here, refl)
+    let r = c .next-mark .result in
+    let f = e .3 r p in (
+      λ z. (
+        f .2 z,
+        λ k h s. absurd (omega (arith, h, e .1 (omega arith))),
+        λ y. let u = none-kept (b .units) (length (a .places .now)) (e .1) y in subst (λ (u : ℕ). Nearest t (startOf lengthOf t (a .places .now) u) 92 r) (sym u) (subst (λ (s : ℕ). Nearest t s 92 r) (e .2 z u) p),
+      ),
+      f .0,
+      f .1,
+      p .within,
+      p .here,
+      refl,
+    )
 
 is-unit-requires : tie.Need-is-unit-requires Inv-loop μ-loop
-is-unit-requires c κs = (c .before .before .before .before .keys-of .ensures, c .before .loop-test .taken, c .before .before .loop .inv .4 (c .before .loop-test .taken))
+is-unit-requires c κs = (c .before .before .before .before .before .before .keys-of .ensures, c .before .loop-test .taken, c .before .before .loop .inv .4 (c .before .loop-test .taken))
 
 keep-requires : tie.Need-keep-requires Inv-loop μ-loop
 keep-requires c κs = search needs
@@ -85,14 +104,14 @@ add-next-mark : tie.Need-add-next-mark Inv-loop μ-loop
 add-next-mark c = search needs
 
 next-mark-requires-2 : tie.Need-next-mark-requires-2 Inv-loop μ-loop
-next-mark-requires-2 c κs = (omega arith, λ k b. c .before .before .before .before .before .before .before .before .before .before .before .before .before .before .before .before .pre .1 k b .0)
+next-mark-requires-2 c κs = (omega arith, λ k b. c .before .before .before .before .before .before .before .before .before .before .before .before .before .before .before .before .before .before .pre .1 k b .0)
 
 loop-less : tie.Need-loop-less Inv-loop μ-loop
 loop-less c = omega (arith, c .next-mark2 .ensures .after, c .next-mark2 .ensures .within, c .before .before .before .length-of .ensures .1)
 
 loop-again : tie.Need-loop-again Inv-loop μ-loop
 loop-again c =
-    let a = c .before .before .before .before .before .before .before .before .before .before .before .before .before .before .before .before .before .args in
+    let a = c .before .before .before .before .before .before .before .before .before .before .before .before .before .before .before .before .before .before .before .args in
     let l = c .before .before .before .before .before .before .before .before .before .before .before .before .loop in
     let t = a .text .now in
     let n = c .before .before .before .length-of .ensures .0 ∙ ap lengthOf (c .before .before .before .before .byte-at .ensures) in
@@ -104,7 +123,7 @@ loop-again c =
       λ z.
           let w = both (l .whole) (c .before .before .before .before .before .before .before .before .before .is-unit .result) z in
           let (counted, marked, near) = l .inv .0 (w .0) in (
-            count-next (a .language) (a .quotes) t (c .before .before .before .before .before .before .before .before .before .before .before .before .before .before .before .before .before .pre .1) (l .i) (l .gain) (l .units) (c .before .before .before .length-of .result) (c .before .gain-of .result) (c .next-mark2 .result) counted (l .inv .1) (c .before .before .before .before .before .before .before .before .before .is-unit .ensures (w .1)) n g (omega (arith, less)) p,
+            count-next (a .language) (a .quotes) t (c .before .before .before .before .before .before .before .before .before .before .before .before .before .before .before .before .before .before .before .pre .1) (l .i) (l .gain) (l .units) (c .before .before .before .length-of .result) (c .before .gain-of .result) (c .next-mark2 .result) counted (l .inv .1) (c .before .before .before .before .before .before .before .before .before .is-unit .ensures (w .1)) n g (omega (arith, less)) p,
             subst (λ (places : List ℕ). Marked lengthOf 92 t places (l .units + 1)) (sym kept) (marked-more lengthOf 92 t (l .places) (l .units) (l .i) marked near (search needs)),
             subst (λ (places : List ℕ). l .units + 1 ≤ length places → Nearest t (startOf lengthOf t places (l .units + 1)) 92 (c .next-mark2 .result)) (sym kept)
                 (λ z. subst (λ (s : ℕ). Nearest t s 92 (c .next-mark2 .result)) (end ∙ sym (start-next lengthOf 92 t (l .places) (l .units) (l .i) z)) p),
@@ -116,15 +135,15 @@ loop-again c =
       ap length kept ∙ length-set (l .places) (l .units) (l .i) ∙ l .inv .5,
     )
 
-sub-t21 : tie.Need-sub-t21 Inv-loop μ-loop
-sub-t21 c = search needs
+sub-t23 : tie.Need-sub-t23 Inv-loop μ-loop
+sub-t23 c = search needs
 
 same-length-2 : tie.Need-same-length-2 Inv-loop μ-loop
 same-length-2 c = search needs
 
 returns-2 : tie.Need-returns-2 Inv-loop μ-loop
 returns-2 c =
-    let a = c .before .before .before .before .before .before .args in
+    let a = c .before .before .before .before .before .before .before .before .args in
     let l = c .before .loop in
     let t = a .text .now in
     let end : l .i ≡ length t = omega (arith, l .inv .3, c .loop-test .left) in
@@ -132,7 +151,7 @@ returns-2 c =
     λ z.
     let (counted, marked, near) = l .inv .0 z in (
       subst (λ (i : ℕ). Measures (record { length = i - l .gain; place = i; replaced = l .units; left = 0; reason = 0 }) (through (readStep (stringOf (a .language) (a .quotes))) t)) end
-          (read-measures (stringOf (a .language) (a .quotes)) (ruleless (a .language) (a .quotes)) t (l .i) (l .i - l .gain) (l .units) (clear-valid (a .language) (a .quotes) t (c .before .before .before .before .before .before .pre .1)) counted none),
+          (read-measures (stringOf (a .language) (a .quotes)) (ruleless (a .language) (a .quotes)) t (l .i) (l .i - l .gain) (l .units) (clear-valid (a .language) (a .quotes) t (c .before .before .before .before .before .before .before .before .pre .1)) counted none),
       sym (counted-end counted none .2) ∙ end,
       marked,
     )
@@ -144,6 +163,7 @@ measure-spec =
     Inv-loop
     μ-loop
     keys-of-requires
+    begin-requires
     next-mark-requires
     loop-holds
     is-unit-requires
@@ -161,6 +181,6 @@ measure-spec =
     next-mark-requires-2
     loop-less
     loop-again
-    sub-t21
+    sub-t23
     same-length-2
     returns-2)
