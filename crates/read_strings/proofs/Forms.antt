@@ -30,6 +30,14 @@ gain-less b h = ltb→lt (gainOf b) (lengthOf b) (every-byte (λ (b : ℕ). ltb 
 pub length-two : (b : ℕ) → b < 256 → 2 ≤ lengthOf b
 length-two b h = leb→le 2 (lengthOf b) (every-byte (λ (b : ℕ). leb 2 (lengthOf b)) tt b h)
 
+-- Two, if it has fewer than four.
+pub length-short : (b : ℕ) → b < 256 → lengthOf b < 4 → lengthOf b ≡ 2
+length-short b h l = go (or-cases (leb 4 (lengthOf b)) (eqb (lengthOf b) 2) (every-byte (λ (b : ℕ). leb 4 (lengthOf b) || eqb (lengthOf b) 2) tt b h))
+  where
+    go : T (leb 4 (lengthOf b)) ⊎ T (eqb (lengthOf b) 2) → lengthOf b ≡ 2
+    go (inl w) = absurd (omega (arith, leb→le 4 (lengthOf b) w, l))
+    go (inr w) = eqb→eq (lengthOf b) 2 w
+
 -- A row of the string stands at the head of s.
 abbrev pub Stands : Language → Quotes → List ℕ → Type 0
 Stands l q s = (e : Row) × In e (rows (stringOf l q)) × T (stands (value e) s)

@@ -84,6 +84,10 @@ chars-three l b c d f e = rw (eq-eqb b 0x75 e)
 pub chars-one : (l : Language) (b c d f : ℕ) → (b ≡ 0x75 → ⊥) → charsOf l b c d f ≡ byteOf l b c d ∷ []
 chars-one l b c d f e = rw (ne-eqb b 0x75 e)
 
+-- A unit of two bytes stands for the second.
+pub byte-short : (l : Language) (b c d : ℕ) → lengthOf b ≡ 2 → byteOf l b c d ≡ b
+byte-short l b c d e = rw (eq-eqb (lengthOf b) 2 e)
+
 -- A quote that is replaced is a replaced character, and no backslash.
 key-first : (l : Language) (q : Quotes) (s : List ℕ) → barred (replacedChars (stringOf l q)) (getD (keysOf q) 0 0 ∷ s) ≡ true
 key-first Script Single s = refl

@@ -103,14 +103,14 @@ fn count(language: Language, keys: &[u8; 2], flags: &[u8; PART], text: &[u8], fr
 
 // Reports whether of the bytes of a long text about one in seven is a backslash, by 64 of them.
 pub fn is_dense(text: &[u8]) -> bool {
-    let step = text.len() / 64 + 1;
+    let step = text.len() / 128 + 1;
     let mut n: usize = 0;
     let mut i: usize = 0;
     while i < text.len() {
         n += base::when(text[i], b'\\', 1) as usize;
         i += step;
     }
-    8 < n
+    20 < n
 }
 
 // Returns that nothing is measured yet.

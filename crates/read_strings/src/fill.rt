@@ -52,8 +52,9 @@ pub fn write(
         if mark == text.len() {
             return;
         }
+        let n = units::length_of(text[mark + 1]);
         at += units::put_char(language, quotes, text, mark, &mut output[at..]);
-        i = mark + units::length_of(text[mark + 1]);
+        i = mark + n;
         k += 1;
     }
 }

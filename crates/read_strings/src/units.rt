@@ -148,12 +148,12 @@ pub fn put_char(
     requires { ⌜ UnitAt language quotes (now text) at × (length (charsAt language (now text) at) ≤ length (now output)) ⌝ }
     ensures { λ r. ⌜ (r ≡ length (charsAt language (now (text .entry)) at)) × (now (output .exit) ≡ over (charsAt language (now (text .entry)) at) (now (output .entry))) ⌝ }
 {
-    let b = byte_at(text, at + 1);
+    let b = text[at + 1];
     if b == b'u' {
-        return base::put(&[0xE2, 0x80, 0xA8 + byte_at(text, at + 5) % 2], output);
+        return base::put(&[0xE2, 0x80, 0xA8 + text[at + 5] % 2], output);
     }
-    base::put(
-        &[byte_of(language, b, byte_at(text, at + 2), byte_at(text, at + 3))],
-        output,
-    )
+    if text.len() - at < 4 {
+        return base::put(&[b], output);
+    }
+    base::put(&[byte_of(language, b, text[at + 2], text[at + 3])], output)
 }

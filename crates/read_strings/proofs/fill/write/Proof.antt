@@ -100,28 +100,28 @@ returns c =
 
 sub-put-char : tie.Need-sub-put-char Inv-loop μ-loop
 sub-put-char c =
-    let a = c .before .before .before .before .before .before .before .before .before .before .before .args in
+    let a = c .before .before .before .before .before .before .before .before .before .before .before .before .before .args in
     let t = a .text .now in
-    let l = c .before .before .before .before .before .before .before .loop in
-    let clear = c .before .before .before .before .before .before .before .before .before .before .before .pre .0 .0 in
-    let whole = c .before .before .before .before .before .before .before .before .before .before .before .pre .0 .1 in
+    let l = c .before .before .before .before .before .before .before .before .before .loop in
+    let clear = c .before .before .before .before .before .before .before .before .before .before .before .before .before .pre .0 .0 in
+    let whole = c .before .before .before .before .before .before .before .before .before .before .before .before .before .pre .0 .1 in
     let fresh = whole-fresh (a .language) (a .quotes) t clear (l .i) (l .at) (l .k) (l .inv .0) whole in
-    let p = c .before .before .before .before .before .next-kept .ensures .0 in
-    let mark = c .before .before .before .before .before .next-kept .result in
-    let copied = mark-copied (a .language) (a .quotes) t clear (l .i) mark (l .inv .1) p fresh (c .before .before .before .put-ahead .last .1 .1 .1 .0) (c .before .before .before .put-ahead .result) (c .before .before .before .put-ahead .ensures .0) (c .before .before .before .put-ahead .ensures .1) (c .before .before .before .put-ahead .ensures .2) in
+    let p = c .before .before .before .before .before .before .before .next-kept .ensures .0 in
+    let mark = c .before .before .before .before .before .before .before .next-kept .result in
+    let copied = mark-copied (a .language) (a .quotes) t clear (l .i) mark (l .inv .1) p fresh (c .before .before .before .before .before .put-ahead .last .1 .1 .1 .0) (c .before .before .before .before .before .put-ahead .result) (c .before .before .before .before .before .put-ahead .ensures .0) (c .before .before .before .before .before .put-ahead .ensures .1) (c .before .before .before .before .before .put-ahead .ensures .2) in
     filled-within copied
 
 part-put-char-start : tie.Need-part-put-char-start Inv-loop μ-loop
 part-put-char-start c =
-    let a = c .before .before .before .before .before .before .before .before .before .before .before .args in
+    let a = c .before .before .before .before .before .before .before .before .before .before .before .before .before .args in
     let t = a .text .now in
-    let l = c .before .before .before .before .before .before .before .loop in
-    let clear = c .before .before .before .before .before .before .before .before .before .before .before .pre .0 .0 in
-    let whole = c .before .before .before .before .before .before .before .before .before .before .before .pre .0 .1 in
+    let l = c .before .before .before .before .before .before .before .before .before .loop in
+    let clear = c .before .before .before .before .before .before .before .before .before .before .before .before .before .pre .0 .0 in
+    let whole = c .before .before .before .before .before .before .before .before .before .before .before .before .before .pre .0 .1 in
     let fresh = whole-fresh (a .language) (a .quotes) t clear (l .i) (l .at) (l .k) (l .inv .0) whole in
-    let p = c .before .before .before .before .before .next-kept .ensures .0 in
-    let mark = c .before .before .before .before .before .next-kept .result in
-    let copied = mark-copied (a .language) (a .quotes) t clear (l .i) mark (l .inv .1) p fresh (c .before .before .before .put-ahead .last .1 .1 .1 .0) (c .before .before .before .put-ahead .result) (c .before .before .before .put-ahead .ensures .0) (c .before .before .before .put-ahead .ensures .1) (c .before .before .before .put-ahead .ensures .2) in
+    let p = c .before .before .before .before .before .before .before .next-kept .ensures .0 in
+    let mark = c .before .before .before .before .before .before .before .next-kept .result in
+    let copied = mark-copied (a .language) (a .quotes) t clear (l .i) mark (l .inv .1) p fresh (c .before .before .before .before .before .put-ahead .last .1 .1 .1 .0) (c .before .before .before .before .before .put-ahead .result) (c .before .before .before .before .before .put-ahead .ensures .0) (c .before .before .before .before .before .put-ahead .ensures .1) (c .before .before .before .before .before .put-ahead .ensures .2) in
     filled-within copied
 
 part-put-char-end : tie.Need-part-put-char-end Inv-loop μ-loop
@@ -129,6 +129,43 @@ part-put-char-end c = search needs
 
 put-char-requires : tie.Need-put-char-requires Inv-loop μ-loop
 put-char-requires c κs =
+    let a = c .before .before .before .before .before .before .before .before .before .before .before .before .before .before .args in
+    let t = a .text .now in
+    let l = c .before .before .before .before .before .before .before .before .before .before .loop in
+    let clear = c .before .before .before .before .before .before .before .before .before .before .before .before .before .before .pre .0 .0 in
+    let whole = c .before .before .before .before .before .before .before .before .before .before .before .before .before .before .pre .0 .1 in
+    let fresh = whole-fresh (a .language) (a .quotes) t clear (l .i) (l .at) (l .k) (l .inv .0) whole in
+    let p = c .before .before .before .before .before .before .before .before .next-kept .ensures .0 in
+    let mark = c .before .before .before .before .before .before .before .before .next-kept .result in
+    let copied = mark-copied (a .language) (a .quotes) t clear (l .i) mark (l .inv .1) p fresh (c .before .before .before .before .before .before .put-ahead .last .1 .1 .1 .0) (c .before .before .before .before .before .before .put-ahead .result) (c .before .before .before .before .before .before .put-ahead .ensures .0) (c .before .before .before .before .before .before .put-ahead .ensures .1) (c .before .before .before .before .before .before .put-ahead .ensures .2) in
+    let u = unit-after (a .language) (a .quotes) t clear (l .i) (l .at) (l .k) mark (l .inv .0) whole p (c .before .before .before .if1 .left) in
+    let byte = c .before .before .before .before .before .before .before .before .before .before .before .before .before .shared-slice-known .given (mark + 1) .fits in
+    let two = length-two (getD t (mark + 1) 0) byte in
+    let next = next-unit (a .language) (a .quotes) t clear mark (lengthOf (getD t (mark + 1) 0)) refl (at-least two) u in
+    (u, filled-room copied next)
+
+add-at-2 : tie.Need-add-at-2 Inv-loop μ-loop
+add-at-2 c =
+    let a = c .before .before .before .before .before .before .before .before .before .before .before .before .before .before .before .before .before .args in
+    let t = a .text .now in
+    let l = c .before .before .before .before .before .before .before .before .before .before .before .before .before .loop in
+    let clear = c .before .before .before .before .before .before .before .before .before .before .before .before .before .before .before .before .before .pre .0 .0 in
+    let whole = c .before .before .before .before .before .before .before .before .before .before .before .before .before .before .before .before .before .pre .0 .1 in
+    let fresh = whole-fresh (a .language) (a .quotes) t clear (l .i) (l .at) (l .k) (l .inv .0) whole in
+    let p = c .before .before .before .before .before .before .before .before .before .before .before .next-kept .ensures .0 in
+    let mark = c .before .before .before .before .before .before .before .before .before .before .before .next-kept .result in
+    let copied = mark-copied (a .language) (a .quotes) t clear (l .i) mark (l .inv .1) p fresh (c .before .before .before .before .before .before .before .before .before .put-ahead .last .1 .1 .1 .0) (c .before .before .before .before .before .before .before .before .before .put-ahead .result) (c .before .before .before .before .before .before .before .before .before .put-ahead .ensures .0) (c .before .before .before .before .before .before .before .before .before .put-ahead .ensures .1) (c .before .before .before .before .before .before .before .before .before .put-ahead .ensures .2) in
+    let u = unit-after (a .language) (a .quotes) t clear (l .i) (l .at) (l .k) mark (l .inv .0) whole p (c .before .before .before .before .before .before .if1 .left) in
+    let byte = c .before .before .before .before .before .before .before .before .before .before .before .before .before .before .before .before .shared-slice-known .given (mark + 1) .fits in
+    let two = length-two (getD t (mark + 1) 0) byte in
+    let next = next-unit (a .language) (a .quotes) t clear mark (lengthOf (getD t (mark + 1) 0)) refl (at-least two) u in
+    omega (arith, c .before .before .put-char .ensures .0, filled-next copied next)
+
+add-length-of : tie.Need-add-length-of Inv-loop μ-loop
+add-length-of c = search needs
+
+shared-slice-read-length-of : tie.Need-shared-slice-read-length-of Inv-loop μ-loop
+shared-slice-read-length-of c =
     let a = c .before .before .before .before .before .before .before .before .before .before .before .before .args in
     let t = a .text .now in
     let l = c .before .before .before .before .before .before .before .before .loop in
@@ -140,43 +177,6 @@ put-char-requires c κs =
     let copied = mark-copied (a .language) (a .quotes) t clear (l .i) mark (l .inv .1) p fresh (c .before .before .before .before .put-ahead .last .1 .1 .1 .0) (c .before .before .before .before .put-ahead .result) (c .before .before .before .before .put-ahead .ensures .0) (c .before .before .before .before .put-ahead .ensures .1) (c .before .before .before .before .put-ahead .ensures .2) in
     let u = unit-after (a .language) (a .quotes) t clear (l .i) (l .at) (l .k) mark (l .inv .0) whole p (c .before .if1 .left) in
     let byte = c .before .before .before .before .before .before .before .before .before .before .before .shared-slice-known .given (mark + 1) .fits in
-    let two = length-two (getD t (mark + 1) 0) byte in
-    let next = next-unit (a .language) (a .quotes) t clear mark (lengthOf (getD t (mark + 1) 0)) refl (at-least two) u in
-    (u, filled-room copied next)
-
-add-at-2 : tie.Need-add-at-2 Inv-loop μ-loop
-add-at-2 c =
-    let a = c .before .before .before .before .before .before .before .before .before .before .before .before .before .before .before .args in
-    let t = a .text .now in
-    let l = c .before .before .before .before .before .before .before .before .before .before .before .loop in
-    let clear = c .before .before .before .before .before .before .before .before .before .before .before .before .before .before .before .pre .0 .0 in
-    let whole = c .before .before .before .before .before .before .before .before .before .before .before .before .before .before .before .pre .0 .1 in
-    let fresh = whole-fresh (a .language) (a .quotes) t clear (l .i) (l .at) (l .k) (l .inv .0) whole in
-    let p = c .before .before .before .before .before .before .before .before .before .next-kept .ensures .0 in
-    let mark = c .before .before .before .before .before .before .before .before .before .next-kept .result in
-    let copied = mark-copied (a .language) (a .quotes) t clear (l .i) mark (l .inv .1) p fresh (c .before .before .before .before .before .before .before .put-ahead .last .1 .1 .1 .0) (c .before .before .before .before .before .before .before .put-ahead .result) (c .before .before .before .before .before .before .before .put-ahead .ensures .0) (c .before .before .before .before .before .before .before .put-ahead .ensures .1) (c .before .before .before .before .before .before .before .put-ahead .ensures .2) in
-    let u = unit-after (a .language) (a .quotes) t clear (l .i) (l .at) (l .k) mark (l .inv .0) whole p (c .before .before .before .before .if1 .left) in
-    let byte = c .before .before .before .before .before .before .before .before .before .before .before .before .before .before .shared-slice-known .given (mark + 1) .fits in
-    let two = length-two (getD t (mark + 1) 0) byte in
-    let next = next-unit (a .language) (a .quotes) t clear mark (lengthOf (getD t (mark + 1) 0)) refl (at-least two) u in
-    omega (arith, c .before .before .put-char .ensures .0, filled-next copied next)
-
-add-length-of : tie.Need-add-length-of Inv-loop μ-loop
-add-length-of c = search needs
-
-shared-slice-read-length-of : tie.Need-shared-slice-read-length-of Inv-loop μ-loop
-shared-slice-read-length-of c =
-    let a = c .before .before .before .before .before .before .before .before .before .before .before .before .before .before .before .before .args in
-    let t = a .text .now in
-    let l = c .before .before .before .before .before .before .before .before .before .before .before .before .loop in
-    let clear = c .before .before .before .before .before .before .before .before .before .before .before .before .before .before .before .before .pre .0 .0 in
-    let whole = c .before .before .before .before .before .before .before .before .before .before .before .before .before .before .before .before .pre .0 .1 in
-    let fresh = whole-fresh (a .language) (a .quotes) t clear (l .i) (l .at) (l .k) (l .inv .0) whole in
-    let p = c .before .before .before .before .before .before .before .before .before .before .next-kept .ensures .0 in
-    let mark = c .before .before .before .before .before .before .before .before .before .before .next-kept .result in
-    let copied = mark-copied (a .language) (a .quotes) t clear (l .i) mark (l .inv .1) p fresh (c .before .before .before .before .before .before .before .before .put-ahead .last .1 .1 .1 .0) (c .before .before .before .before .before .before .before .before .put-ahead .result) (c .before .before .before .before .before .before .before .before .put-ahead .ensures .0) (c .before .before .before .before .before .before .before .before .put-ahead .ensures .1) (c .before .before .before .before .before .before .before .before .put-ahead .ensures .2) in
-    let u = unit-after (a .language) (a .quotes) t clear (l .i) (l .at) (l .k) mark (l .inv .0) whole p (c .before .before .before .before .before .if1 .left) in
-    let byte = c .before .before .before .before .before .before .before .before .before .before .before .before .before .before .before .shared-slice-known .given (mark + 1) .fits in
     let two = length-two (getD t (mark + 1) 0) byte in
     second-within mark (lengthOf (getD t (mark + 1) 0)) (length t) two (u .ends)
 
@@ -197,14 +197,14 @@ add-i c =
     let u = unit-after (a .language) (a .quotes) t clear (l .i) (l .at) (l .k) mark (l .inv .0) whole p (c .before .before .before .before .before .before .if1 .left) in
     let byte = c .before .before .before .before .before .before .before .before .before .before .before .before .before .before .before .before .shared-slice-known .given (mark + 1) .fits in
     let two = length-two (getD t (mark + 1) 0) byte in
-    let fits : mark + c .length-of .result ≤ length t = subst (λ (m : ℕ). mark + m ≤ length t) (sym (c .length-of .ensures .0)) (u .ends) in
+    let fits : mark + c .before .before .before .before .length-of .result ≤ length t = subst (λ (m : ℕ). mark + m ≤ length t) (sym (c .before .before .before .before .length-of .ensures .0)) (u .ends) in
     omega (arith, fits)
 
 add-k : tie.Need-add-k Inv-loop μ-loop
 add-k c = omega (arith, c .before .before .before .before .before .before .before .before .before .before .before .before .before .loop .inv .0 .few, c .before .before .before .before .before .before .before .before .before .before .before .before .before .loop .inv .0 .inside)
 
 loop-less : tie.Need-loop-less Inv-loop μ-loop
-loop-less c = omega (arith, c .before .before .before .before .before .before .before .before .before .before .before .next-kept .ensures .0 .after, c .before .before .before .before .before .before .before .before .before .before .before .next-kept .ensures .0 .within, c .length-of .ensures .1)
+loop-less c = omega (arith, c .before .before .before .before .before .before .before .before .before .before .before .next-kept .ensures .0 .after, c .before .before .before .before .before .before .before .before .before .before .before .next-kept .ensures .0 .within, c .before .before .before .before .length-of .ensures .1)
 
 loop-again : tie.Need-loop-again Inv-loop μ-loop
 loop-again c =
@@ -220,13 +220,13 @@ loop-again c =
     let u = unit-after (a .language) (a .quotes) t clear (l .i) (l .at) (l .k) mark (l .inv .0) whole p (c .before .before .before .before .before .before .if1 .left) in
     let byte = c .before .before .before .before .before .before .before .before .before .before .before .before .before .before .before .before .shared-slice-known .given (mark + 1) .fits in
     let two = length-two (getD t (mark + 1) 0) byte in
-    let n = c .length-of .ensures .0 in
-    let some : 1 ≤ c .length-of .result = omega (arith, c .length-of .ensures .1) in
-    let end : endOf t mark ≡ mark + c .length-of .result = ap (λ (m : ℕ). mark + m) (sym n) in
-    let put = filled-put copied (next-unit (a .language) (a .quotes) t clear mark (c .length-of .result) n some u) (c .before .before .before .before .put-char .last .1 .1 .1 .1 .0) (c .before .before .before .before .put-char .result) (c .before .before .before .before .put-char .ensures .0) (c .before .before .before .before .put-char .ensures .1) in
+    let n = c .before .before .before .before .length-of .ensures .0 in
+    let some : 1 ≤ c .before .before .before .before .length-of .result = omega (arith, c .before .before .before .before .length-of .ensures .1) in
+    let end : endOf t mark ≡ mark + c .before .before .before .before .length-of .result = ap (λ (m : ℕ). mark + m) (sym n) in
+    let put = filled-put copied (next-unit (a .language) (a .quotes) t clear mark (c .before .before .before .before .length-of .result) n some u) (c .before .before .put-char .last .1 .1 .1 .1 .0) (c .before .before .put-char .result) (c .before .before .put-char .ensures .0) (c .before .before .put-char .ensures .1) in
     let size = mark-size (a .language) (a .quotes) t clear (l .i) mark (l .inv .1) p fresh (c .before .before .before .before .before .before .before .before .before .put-ahead .last .1 .1 .1 .0) (c .before .before .before .before .before .before .before .before .before .put-ahead .ensures .1) in
-    let counted = count-unit (a .language) (a .quotes) t clear mark (l .at + c .before .before .before .before .before .before .before .before .before .put-ahead .result) (l .k) (subst (λ (m : ℕ). Counted (byteStep (stringOf (a .language) (a .quotes))) t mark (l .at + m) (l .k)) (sym (c .before .before .before .before .before .before .before .before .before .put-ahead .ensures .0)) (count-mark (a .language) (a .quotes) t clear (l .i) (l .at) (l .k) (l .inv .0) fresh mark p)) (c .length-of .result) n some u in (
-      subst (λ (w : ℕ). Counted (byteStep (stringOf (a .language) (a .quotes))) t (mark + c .length-of .result) (l .at + c .before .before .before .before .before .before .before .before .before .put-ahead .result + w) (l .k + 1)) (sym (c .before .before .before .before .put-char .ensures .0)) counted,
+    let counted = count-unit (a .language) (a .quotes) t clear mark (l .at + c .before .before .before .before .before .before .before .before .before .put-ahead .result) (l .k) (subst (λ (m : ℕ). Counted (byteStep (stringOf (a .language) (a .quotes))) t mark (l .at + m) (l .k)) (sym (c .before .before .before .before .before .before .before .before .before .put-ahead .ensures .0)) (count-mark (a .language) (a .quotes) t clear (l .i) (l .at) (l .k) (l .inv .0) fresh mark p)) (c .before .before .before .before .length-of .result) n some u in (
+      subst (λ (w : ℕ). Counted (byteStep (stringOf (a .language) (a .quotes))) t (mark + c .before .before .before .before .length-of .result) (l .at + c .before .before .before .before .before .before .before .before .before .put-ahead .result + w) (l .k + 1)) (sym (c .before .before .put-char .ensures .0)) counted,
       filled-self put,
       λ z. sym (start-after lengthOf t (a .places .now) (l .k) mark (c .before .before .before .before .before .before .before .before .before .before .before .next-kept .ensures .1 (omega arith)) ∙ end),
       l .inv .3 ∙ sym size ∙ sym (put .kept),
@@ -256,14 +256,14 @@ write-spec =
     add-at
     same-length
     returns
+    add-length-of
+    shared-slice-read-length-of
+    length-of-requires
     sub-put-char
     part-put-char-start
     part-put-char-end
     put-char-requires
     add-at-2
-    add-length-of
-    shared-slice-read-length-of
-    length-of-requires
     add-i
     add-k
     loop-less
