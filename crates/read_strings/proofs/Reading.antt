@@ -5,14 +5,14 @@ use mathlib.Core.Bool.{Bool, true, false, not, _&&_, _||_}
 use mathlib.Core.Logic.{_⊎_, inl, inr}
 use mathlib.Core.Option.{Option, none, some}
 use mathlib.Core.Path.{_≡_, refl, sym, ap, _∙_, subst}
-use mathlib.Core.List.{List, [], _∷_, _++_}
+use mathlib.Core.List.{List, [], _∷_}
 use Prim.Native.Nat.{ℕ, _+_, _-_, _%_, _≤_, _<_}
 use native.Mathlib.Omega.{arith}
 use borrow.Author.Tests.{eq-eqb, ne-eqb}
-use lib.Dec.{T, eqb, leb, eqb→eq, leb→le, eqb-refl, T-not}
+use lib.Dec.{T, eqb, leb, eqb→eq, leb→le}
 use lib.ListN.{length, take, drop, getD, length-drop, length-append, List·getD-append}
 use lib.Seq.{getD-drop, take-append-seam}
-use Rattle.rules.specs.Bytes.{In, all, stands, sameBytes}
+use Rattle.rules.specs.Bytes.{all, stands, sameBytes}
 use Rattle.rules.specs.Contexts.{stringOf}
 use Rattle.rules.specs.Moves.{swap, before, from}
 use Rattle.rules.specs.Tables.{Row, key, value, rowAt, rows, replacedChars}

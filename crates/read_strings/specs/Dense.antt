@@ -12,7 +12,6 @@ use Rattle.rules.specs.declared.Quotes.{Quotes}
 use Rattle.base.specs.Places.{Nearest}
 use Rattle.base.proofs.Counted.{Counted}
 use Rattle.reader.specs.Units.{byteStep}
-use Rattle.read_strings.specs.Clear.{keysOf}
 use Rattle.read_strings.specs.Units.{isForm}
 use Rattle.read_strings.specs.declared.dense.Begun.{Begun}
 

@@ -1,6 +1,7 @@
 // The units of a string. What is read off a unit has no branch, as no branch could guess which unit comes next.
 ghost use mathlib.Core.Bool.{true};
 ghost use mathlib.Core.Path.{_≡_};
+ghost use mathlib.Core.List.{[], _∷_};
 ghost use Prim.Native.Nat.{_+_, _≤_, _<_};
 ghost use lib.ListN.{length, getD};
 ghost use Rattle.rules.specs.Bytes.{over};
@@ -70,30 +71,43 @@ pub fn is_form(language: Language, keys: &[u8; 2], b: u8, c: u8, d: u8, e: u8, f
     is_slashed(keys, b, c) | is_hex(language, b, c, d) | is_separator(language, b, c, d, e, f)
 }
 
-// Reports whether a unit is at the offset of a backslash, and after it no quote that is replaced.
-pub fn is_unit(language: Language, quotes: Quotes, keys: &[u8; 2], text: &[u8], at: usize) -> bool
-    requires { ⌜ (now keys ≡ keysOf quotes) × (at < length (now text)) × (getD (now text) at 0 ≡ 92) ⌝ }
-    ensures { λ r. ⌜ (r ≡ true → UnitAt language quotes (now (text .entry)) at × Fresh quotes (now (text .entry)) (endOf (now (text .entry)) at)) ⌝ }
+// Returns the five bytes after an offset, 0 for those past the end.
+fn bytes_after(text: &[u8], at: usize) -> [u8; 5]
+    requires { ⌜ at < length (now text) ⌝ }
+    ensures { λ r. ⌜ r ≡ getD (now (text .entry)) (at + 1) 0 ∷ getD (now (text .entry)) (at + 2) 0 ∷ getD (now (text .entry)) (at + 3) 0 ∷ getD (now (text .entry)) (at + 4) 0 ∷ getD (now (text .entry)) (at + 5) 0 ∷ [] ⌝ }
 {
     if text.len() - at < 6 {
-        return is_form(
-            language,
-            keys,
+        return [
             byte_at(text, at + 1),
             byte_at(text, at + 2),
             byte_at(text, at + 3),
             byte_at(text, at + 4),
             byte_at(text, at + 5),
-        );
+        ];
     }
-    is_form(
-        language,
-        keys,
+    [
         text[at + 1],
         text[at + 2],
         text[at + 3],
         text[at + 4],
         text[at + 5],
+    ]
+}
+
+// Reports whether a unit is at the offset of a backslash, and after it no quote that is replaced.
+pub fn is_unit(language: Language, quotes: Quotes, keys: &[u8; 2], text: &[u8], at: usize) -> bool
+    requires { ⌜ (now keys ≡ keysOf quotes) × (at < length (now text)) × (getD (now text) at 0 ≡ 92) ⌝ }
+    ensures { λ r. ⌜ (r ≡ true → UnitAt language quotes (now (text .entry)) at × Fresh quotes (now (text .entry)) (endOf (now (text .entry)) at)) ⌝ }
+{
+    let bytes = bytes_after(text, at);
+    is_form(
+        language,
+        keys,
+        bytes[0],
+        bytes[1],
+        bytes[2],
+        bytes[3],
+        bytes[4],
     )
 }
 

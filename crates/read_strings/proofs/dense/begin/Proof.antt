@@ -2,14 +2,13 @@
 -- backslash counts (Starts). The measure is what is left of the text.
 -- Assumes nothing.
 use mathlib.Core.Bool.{true, false}
-use mathlib.Core.Path.{_≡_, refl, sym, ap, _∙_, subst}
+use mathlib.Core.Path.{_≡_, refl, sym, subst}
 use mathlib.Core.List.{List}
-use Prim.Native.Nat.{ℕ, _+_, _-_, _*_, _≤_, _<_}
+use Prim.Native.Nat.{ℕ, _+_, _-_, _*_, _≤_}
 use native.Mathlib.Omega.{arith}
-use lib.ListN.{length, getD}
+use lib.ListN.{length}
 use borrow.Author.Needs.{needs}
 use Rattle.base.specs.Places.{Nearest}
-use Rattle.read_strings.specs.Clear.{keysOf}
 use Rattle.read_strings.specs.Dense.{lastOf, startAt, longerAt, wrongAt, sumTo}
 use Rattle.read_strings.proofs.Starts.{last-most, recount, ready-none, counted-near}
 use Rattle.read_strings.proofs.dense.begin.Statement.{statement}

@@ -1,12 +1,11 @@
 -- `count` meets its contract: the sums so far are those of the places that are passed.
 -- Assumes nothing.
-use mathlib.Core.Path.{_≡_, refl, sym, ap, _∙_}
-use Prim.Native.Nat.{ℕ, _+_, _-_, _≤_, _<_}
+use mathlib.Core.Path.{_≡_, sym, ap, _∙_}
+use Prim.Native.Nat.{ℕ, _+_, _-_, _≤_}
 use native.Mathlib.Omega.{arith}
-use lib.ListN.{length, getD}
+use lib.ListN.{getD}
 use borrow.Author.Needs.{needs}
-use Rattle.read_strings.specs.Units.{isForm}
-use Rattle.read_strings.specs.Dense.{lastOf, startAt, isShort, unlessIt, longerAt, wrongAt, sumTo}
+use Rattle.read_strings.specs.Dense.{lastOf, startAt, unlessIt, longerAt, wrongAt, sumTo}
 use Rattle.read_strings.proofs.Starts.{sum-zero, sum-next, start-most}
 use Rattle.read_strings.proofs.dense.count.Statement.{statement}
 use Rattle.read_strings.proofs.dense.count.Tie as tie

@@ -1,7 +1,6 @@
 -- `is_dense` is safe and ends. The measure is what is left of the text.
 -- Assumes nothing.
-use Prim.Native.Nat.{ℕ, _+_, _-_, _*_, _≤_, _<_}
-use native.Mathlib.Omega.{arith}
+use Prim.Native.Nat.{_+_, _-_, _≤_}
 use lib.ListN.{length}
 use borrow.Author.Needs.{needs}
 use Rattle.read_strings.proofs.dense.is_dense.Statement.{statement}

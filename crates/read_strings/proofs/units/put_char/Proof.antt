@@ -1,12 +1,12 @@
 -- `put_char` meets its contract: the bytes that are written are those of the definition, with `u` and without; where fewer than four are left, the unit has two.
 -- Assumes nothing.
 use mathlib.Core.List.{List, [], _∷_}
-use mathlib.Core.Path.{_≡_, refl, sym, ap, _∙_, subst}
-use Prim.Native.Nat.{ℕ, _+_, _%_, _≤_, _<_}
+use mathlib.Core.Path.{_≡_, sym, ap, _∙_, subst}
+use Prim.Native.Nat.{ℕ, _+_, _≤_}
 use native.Mathlib.Omega.{arith}
 use lib.ListN.{length, getD}
 use Rattle.rules.specs.Bytes.{over}
-use Rattle.read_strings.specs.Units.{lengthOf, byteOf, charsAt}
+use Rattle.read_strings.specs.Units.{lengthOf, charsAt}
 use Rattle.read_strings.proofs.Forms.{length-two, length-short}
 use Rattle.read_strings.proofs.Reading.{chars-three, chars-one, byte-short}
 use Rattle.read_strings.proofs.Turns.{second-within}
