@@ -101,16 +101,25 @@ fn count(language: Language, keys: &[u8; 2], flags: &[u8; PART], text: &[u8], fr
     }
 }
 
-// Reports whether of the bytes of a long text about one in seven is a backslash, by 64 of them.
-pub fn is_dense(text: &[u8]) -> bool {
-    let step = text.len() / 128 + 1;
+// Counts the backslashes among the bytes of a text that are `step` apart.
+fn sample(text: &[u8], step: usize) -> usize
+    requires { ⌜ (1 ≤ step) × (step ≤ length (now text) + 1) ⌝ }
+{
     let mut n: usize = 0;
     let mut i: usize = 0;
     while i < text.len() {
         n += base::when(text[i], b'\\', 1) as usize;
         i += step;
     }
-    20 < n
+    n
+}
+
+// Reports whether about one in six bytes of a long text is a backslash, by 128 of them; where 32 of them have hardly one, that is enough.
+pub fn is_dense(text: &[u8]) -> bool {
+    if sample(text, text.len() / 32 + 1) < 2 {
+        return false;
+    }
+    20 < sample(text, text.len() / 128 + 1)
 }
 
 // Returns that nothing is measured yet.

@@ -1,19 +1,16 @@
--- `is_dense` is safe and ends. The measure is what is left of the text.
+-- `sample` is safe and ends. The measure is what is left of the text.
 -- Assumes nothing.
 use Prim.Native.Nat.{_+_, _-_, _≤_}
 use lib.ListN.{length}
 use borrow.Author.Needs.{needs}
-use Rattle.read_strings.proofs.dense.is_dense.Statement.{statement}
-use Rattle.read_strings.proofs.dense.is_dense.Tie as tie
+use Rattle.read_strings.proofs.dense.sample.Statement.{statement}
+use Rattle.read_strings.proofs.dense.sample.Tie as tie
 
 abbrev Inv-loop : tie.InvT-loop
 Inv-loop text step n₀ i₀ n i = (1 ≤ step) × (step ≤ length text + 1) × (n ≤ i)
 
 abbrev μ-loop : tie.MeasureT-loop
 μ-loop text step n₀ i₀ n i = length text - i
-
-add-step : tie.Need-add-step Inv-loop μ-loop
-add-step c = search needs
 
 loop-holds : tie.Need-loop-holds Inv-loop μ-loop
 loop-holds c = search needs
@@ -42,13 +39,12 @@ loop-again c = search needs
 returns : tie.Need-returns Inv-loop μ-loop
 returns c = search needs
 
-pub is-dense-spec : {M : Type 1} → statement M
-is-dense-spec =
+pub sample-spec : {M : Type 1} → statement M
+sample-spec =
     tie.close
     (tie.spec
     Inv-loop
     μ-loop
-    add-step
     loop-holds
     shared-slice-read-when
     when-requires
