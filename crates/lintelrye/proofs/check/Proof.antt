@@ -6,17 +6,20 @@ use Rattle.rules.specs.Refusals.{checked}
 use Rattle.lintelrye.proofs.check.Statement.{statement}
 use Rattle.lintelrye.proofs.check.Tie as tie
 
-slice-aggregate-call : tie.Need-slice-aggregate-call
-slice-aggregate-call c = search needs
+slice-aggregate-replied : tie.Need-slice-aggregate-replied
+slice-aggregate-replied c = search needs
 
-call-requires : tie.Need-call-requires
-call-requires c κs = search needs
+replied-requires : tie.Need-replied-requires
+replied-requires c κs = search needs
+
+answer-of-requires : tie.Need-answer-of-requires
+answer-of-requires c κs = search needs
 
 without-output-requires : tie.Need-without-output-requires
 without-output-requires c κs = search needs
 
 returns : tie.Need-returns
-returns c = c .without-output .ensures ∙ ap checked (c .before .before .call .ensures .0)
+returns c = c .without-output .ensures ∙ ap checked (c .before .answer-of .ensures ∙ c .before .before .before .replied .ensures .0)
 
 pub check-spec : {M : Type 1} → statement M
-check-spec = tie.close (tie.spec slice-aggregate-call call-requires without-output-requires returns)
+check-spec = tie.close (tie.spec slice-aggregate-replied replied-requires answer-of-requires without-output-requires returns)
