@@ -1,4 +1,4 @@
-// browse in the HTML seven: references by the HTML Standard's character reference states, in text and in the value of an attribute.
+// browse in the HTML contexts: references by the HTML Standard's character reference states, in text and in the value of an attribute.
 ghost use mathlib.Core.Bool.{true, false};
 ghost use mathlib.Core.Path.{_≡_};
 ghost use Prim.Native.Nat.{_+_, _≤_, _<_};

@@ -1,4 +1,4 @@
-// The decoder of character references, html-escape's decode/html_entity: decode in the HTML seven; and the first reference that it leaves.
+// The decoder of character references, html-escape's decode/html_entity: decode in the HTML contexts; and the first reference that it leaves.
 ghost use mathlib.Core.Bool.{cond};
 ghost use mathlib.Core.Path.{_≡_};
 ghost use Prim.Native.Nat.{_≤_};

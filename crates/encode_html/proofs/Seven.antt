@@ -1,4 +1,4 @@
--- A test of every byte in each of the HTML seven, computed once.
+-- A test of every byte in each of the seven HTML contexts, computed once.
 -- Assumes nothing.
 use mathlib.Core.Bool.{Bool, true, false, not, _||_, cond}
 use mathlib.Core.Path.{_≡_, ap, subst}

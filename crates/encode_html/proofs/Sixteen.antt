@@ -1,5 +1,5 @@
 -- Sixteen bytes of which none is a key are their own encoding: a byte that is no key is written as itself, which is computed for every byte in
--- each of the HTML seven but the unquoted attribute.
+-- each of the seven HTML contexts but the unquoted attribute.
 -- Assumes nothing.
 use mathlib.Core.Bool.{Bool, false, not, cond}
 use mathlib.Core.Path.{_≡_, sym, ap, _∙_, subst}

@@ -1,4 +1,4 @@
--- A byte that is not special is ASCII and unchanged, in each of the HTML seven but the unquoted attribute: computed for every ASCII byte.
+-- A byte that is not special is ASCII and unchanged, in each of the seven HTML contexts but the unquoted attribute: computed for every ASCII byte.
 -- Assumes nothing.
 use mathlib.Core.Bool.{Bool, true, false, _||_, cond}
 use mathlib.Core.Path.{_≡_, refl, sym, subst}

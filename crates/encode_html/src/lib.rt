@@ -1,4 +1,4 @@
-// The encoder of the HTML seven: by how many bytes a text grows, and its encoding, written into a lent output. html-escape's encode/html_entity.
+// The encoder of the seven HTML contexts: by how many bytes a text grows, and its encoding, written into a lent output. html-escape's encode/html_entity.
 //
 // Plain text is quick since what is counted of a byte is a sum of comparisons, so that the loops over it become vector code. Text that is full of `<` is
 // quick since the encoding of a byte is one word of eight bytes, of which the highest says how many count; for a long text these words are a table.

@@ -49,7 +49,7 @@ fn kind_of(h: Html) -> Kind
     }
 }
 
-// Returns the job of an operation in one of the HTML seven: they have all four.
+// Returns the job of an operation in one of the seven HTML contexts: they have all four.
 fn html_job(operation: Operation, h: Html) -> Wanted
     ensures { λ r. ⌜ ruleAt r ≡ ruleIn operation (InHtml h) ⌝ }
 {

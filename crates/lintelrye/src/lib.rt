@@ -14,8 +14,8 @@
 // The operation read, which undoes what encode writes, has two calls beside each other: `check` takes no output and returns status, length and place;
 // `take` writes.
 //
-// The refusals, in the order in which they are checked; at most one of NOT_UTF8 and CUT_SHORT applies, and at most one of NOT_A_FORM
-// and LONE_SURROGATE:
+// The refusals, in the order in which they are checked, but for FINISHED, which comes first in the calls for parts; at most one of NOT_UTF8 and CUT_SHORT
+// applies, and at most one of NOT_A_FORM and LONE_SURROGATE:
 //   BAD_CONTEXT  the operation has no such context: encode has all sixteen, decode and read have 0 to 12, 14 and 15, browse has 0 to 6 and 15;
 //   BAD_RANGE    a record of a page only: the part that it names leaves the text;
 //   TOO_LONG     the text is longer than 65,536 bytes;

@@ -23,9 +23,14 @@ fn print_plate(name: &[u8]) {
     let mut text: [u8; 240] = [0; 240];
     let first = escape_title(name, &mut title);
     let second = lintelrye::encode(lintelrye::TEXT, name, &mut text);
-    if first.status != lintelrye::PASSED || second.status != lintelrye::PASSED {
+    let status = if first.status == lintelrye::PASSED {
+        second.status
+    } else {
+        first.status
+    };
+    if status != lintelrye::PASSED {
         io::write_all(STDOUT_FILENO, b"refused with status ");
-        io::print_decimal(STDOUT_FILENO, first.status as u64);
+        io::print_decimal(STDOUT_FILENO, status as u64);
         io::write_all(STDOUT_FILENO, b"\n");
         return;
     }

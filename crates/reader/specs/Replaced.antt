@@ -57,7 +57,7 @@ abbrev pub separatorWord : Language → ℕ
 separatorWord Script = bitOf 0xE2
 separatorWord Style = 0
 
--- What stands at the head of s is not another character that begins as U+2028 does.
+-- False only if s begins with E2 and with neither U+2028 nor U+2029.
 abbrev pub isWhole : List ℕ → Bool
 isWhole s = not (eqb (getD s 0 0) 0xE2) || (stands (0xE2 ∷ 0x80 ∷ 0xA8 ∷ []) s || stands (0xE2 ∷ 0x80 ∷ 0xA9 ∷ []) s)
 

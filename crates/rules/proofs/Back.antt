@@ -79,11 +79,11 @@ module _ (c : Context) (borrows : Bool) (t out : List ℕ) where
       let st = passes o (Units c) borrows (encodeOf c t) out known short text form lone (subst (λ (l : List ℕ). size l ≤ size out) (sym back) room) in
       record { status = st; view = passed o (Units c) borrows (encodeOf c t) out st .view ∙ back }
 
-  -- What encode wrote is what read takes back, where it is within the limit of a text and the output has room.
+  -- read undoes what encode wrote, where it is within the limit of a text and the output has room.
   pub read-back : IsFree (unread c) t → size (encodeOf c t) ≤ textLimit → size t ≤ size out → TakesBack Read c borrows (encodeOf c t) t out
   read-back f = takes-back Read some-rule (form-text c (encodeOf c t) (encode-form c t f)) (λ no. no (encode-form c t f)) (λ no. no) (read-encode c t f)
 
-  -- And it is what decode takes back, but for the stated exceptions.
+  -- And so does decode, but for the stated exceptions.
   pub decode-back : IsFree (undecoded c) t → size (encodeOf c t) ≤ textLimit → size t ≤ size out → TakesBack Decode c borrows (encodeOf c t) t out
   decode-back f = let (cs, h, b, e) = f in
       takes-back Decode some-rule (form-text c (encodeOf c t) (encode-any c t (cs, h, e))) (fine c t f .0) (fine c t f .1) (decode-encode c t f)

@@ -1,5 +1,5 @@
 -- Where every key of a context is one byte the encoder goes byte by byte: what it writes for a text is what it writes for each byte alone, one
--- after the other. The HTML seven and the style strings are such; a script string is not.
+-- after the other. The seven HTML contexts and the style strings are such; a script string is not.
 -- Assumes nothing.
 use mathlib.Core.Bool.{Bool, true, false, _&&_}
 use mathlib.Core.Option.{Option, none, some}

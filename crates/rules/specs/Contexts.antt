@@ -28,7 +28,7 @@ pub record Label (A : Type 0) : Type 0 where
 abbrev pub label : {A : Type 0} → List ℕ → A → Label A
 label n a = record { name = n; names = a }
 
--- The sixteen contexts in the order of their numbers: the HTML seven, the script strings, the style strings, script_raw, json, ascii_quoted.
+-- The sixteen contexts in the order of their numbers: the seven HTML contexts, the script strings, the style strings, script_raw, json, ascii_quoted.
 abbrev pub contextNames : List (Label AnyContext)
 contextNames =
     label (ascii "text_minimal") (Units (InHtml TextMinimal))

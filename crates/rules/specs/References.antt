@@ -151,6 +151,6 @@ abbrev pub referenceBy : (ℕ → Option (List ℕ)) → Rule
 referenceBy char prev [] = stop 4
 referenceBy char prev (b ∷ s) = cond (is "&" b) (atAmp char (bodyOf s)) (keep (b ∷ []))
 
--- decode in the HTML seven.
+-- decode in the HTML contexts.
 unfoldable pub referenceStep : Rule
 referenceStep = referenceBy decodeChar

@@ -46,7 +46,7 @@ numeral digit base (suc k) n = cond (ltb n base) (digit n ∷ []) (numeral digit
 abbrev pub hexPair : ℕ → List ℕ
 hexPair b = hexDigit (b / 16) ∷ hexDigit (b % 16) ∷ []
 
--- ---- the HTML seven
+-- ---- the seven HTML contexts
 
 -- `&`→`&amp;`
 abbrev pub amp : Row
@@ -84,7 +84,7 @@ letterOrDigit b = between "0" "9" b || between "A" "Z" b || between "a" "z" b
 abbrev pub others : List ℕ
 others = only (λ (b : ℕ). not (letterOrDigit b || oneOf (ascii "&<>\"") b)) (bytes 0 127)
 
--- What each of the HTML seven replaces.
+-- What each of the seven HTML contexts replaces.
 abbrev pub htmlRows : Html → List Row
 htmlRows TextMinimal = amp ∷ lt ∷ []
 htmlRows Text = amp ∷ lt ∷ gt ∷ []

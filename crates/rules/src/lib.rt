@@ -5,7 +5,7 @@ ghost use Rattle.rules.specs.Contexts.{contextOf};
 // The longest text that a call takes, in bytes.
 pub const TEXT_LIMIT: usize = 65536;
 
-// The contexts: the HTML seven, the script strings, the style strings, text inside a script element, JSON strings, and quoted attributes in ASCII.
+// The contexts: the seven HTML contexts, the script strings, the style strings, text inside a script element, JSON strings, and quoted attributes in ASCII.
 pub const TEXT_MINIMAL: u32 = 0;
 
 pub const TEXT: u32 = 1;
@@ -64,7 +64,7 @@ pub const LONE_SURROGATE: usize = 10;
 // The most records that a page takes.
 pub const FIELD_LIMIT: usize = 256;
 
-// The HTML seven.
+// The seven HTML contexts.
 pub enum Html {
     TextMinimal,
     Text,
