@@ -213,12 +213,12 @@ fn alike(context: usize) -> usize {
     }
 }
 
-/// Every case. The HTML seven share one decoder, so decode and browse are measured in one of them.
-pub fn cases() -> Vec<Case> {
+/// Every case. The HTML seven share one decoder, so decode and browse are measured in one of them. Where pieces are at random places there are `many` texts.
+pub fn cases(many: usize) -> Vec<Case> {
     let mut all = Vec::new();
     let mut add = |operation, kind, contexts: &[usize]| {
         for &context in contexts {
-            all.extend(cases_of(operation, kind, context));
+            all.extend(cases_of(operation, kind, context, many));
         }
     };
     add(Operation::Encode, Kind::Copying, &[0, 1, 2, 3, 4, 5, 6]);
@@ -273,7 +273,7 @@ fn closing_cases() -> Vec<Case> {
 
 /// The classes of one operation in one context. In `unquoted`, where a space is special, plain words have no spaces between them; json is written for the
 /// texts of script_double, ascii_quoted for those of quoted, and what is read in ascii_quoted is its own form of a shorter text.
-fn cases_of(operation: Operation, kind: Kind, context: usize) -> Vec<Case> {
+fn cases_of(operation: Operation, kind: Kind, context: usize, many: usize) -> Vec<Case> {
     let numbers = &mut Numbers(alike(context) as u64);
     let gaps = if context == 6 { [""; 6] } else { [" ", " ", " ", " ", ", ", ". "] };
     let english = words(numbers, ENGLISH, &gaps);
@@ -281,7 +281,8 @@ fn cases_of(operation: Operation, kind: Kind, context: usize) -> Vec<Case> {
     let mut all = Vec::new();
     let mut add = |class, texts| all.push(Case { operation, kind, context, class, texts });
     for (class, percent) in [("plain", 0), ("1 %", 1), ("10 %", 10), ("50 %", 50), ("all", 100)] {
-        add(class, vec![fill(numbers, &english, &pieces, percent, LONGEST)]);
+        let count = if percent == 0 { 1 } else { many };
+        add(class, (0..count).map(|_| fill(numbers, &english, &pieces, percent, LONGEST)).collect());
     }
     add("short names", names(numbers, &english, &pieces));
     for (class, list, gap) in [("Cyrillic", CYRILLIC, gaps[0]), ("CJK", CJK, ""), ("emoji", EMOJI, "")] {

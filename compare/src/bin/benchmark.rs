@@ -1,5 +1,5 @@
 //! Compares the library's speed with the crate's, both sides in one process.
-//!   compare/run benchmark [--crate PATH] [--quick] [--only WORD] [--others] [--instructions] [--texts PATH] [--write]
+//!   compare/run benchmark [--crate PATH] [--quick] [--only WORD] [--fresh] [--others] [--instructions] [--texts PATH] [--write]
 //! --quick takes fewer rounds; --only takes the lines whose operation, context or class holds WORD; --others also times Go's html and Node's entities where
 //! they do the same job, each in a process of its own; --texts writes the texts of the lines to a file and measures nothing; --write writes
 //! docs/BENCHMARKS.md with the others and its picture. --instructions counts the instructions of the x86-64 code under an emulator and times nothing; with --write it writes
@@ -38,7 +38,12 @@ struct Options {
     counter: Option<Counter>,
     /// The repository, where other libraries are timed too.
     others: Option<String>,
+    /// How many texts a class with pieces at random places has.
+    many: usize,
 }
+
+/// With --fresh: so many texts that a processor does not remember from one pass to the next where their branches go.
+const MANY: usize = 64;
 
 fn main() {
     let options = options();
@@ -52,7 +57,7 @@ fn main() {
 
 /// The words on the command line.
 fn options() -> Options {
-    let words = Words::read("benchmark", &["--quick", "--others", "--instructions", "--write"], &["--only", "--texts"]);
+    let words = Words::read("benchmark", &["--quick", "--others", "--instructions", "--fresh", "--write"], &["--only", "--texts"]);
     let quick = words.value("--quick").is_some();
     let effort = if quick { Effort { rounds: 7, round: Duration::from_millis(1) } } else { Effort { rounds: 21, round: Duration::from_millis(2) } };
     let root = || std::env::var("LINTELRYE_ROOT").unwrap_or_else(|_| stop("--write and --others work only through compare/run"));
@@ -63,15 +68,19 @@ fn options() -> Options {
         write: words.value("--write").map(|_| root()),
         counter: words.value("--instructions").map(|_| Counter::open().unwrap_or_else(|why| stop(&why))),
         others: words.value("--others").or(words.value("--write").filter(|_| timed)).map(|_| root()),
+        many: if words.value("--fresh").is_some() { MANY } else { 1 },
     };
     if options.others.is_some() && !timed {
         stop("--others are timed, so it cannot be combined with --instructions");
     }
     if let Some(path) = words.value("--texts") {
-        let cases = texts::cases().into_iter().filter(|case| case.name().contains(&options.only));
+        let cases = texts::cases(options.many).into_iter().filter(|case| case.name().contains(&options.only));
         let text: String = cases.flat_map(|case| case.texts).collect();
         std::fs::write(path, text).unwrap_or_else(|error| stop(&format!("{} cannot be written: {}", path, error)));
         exit(0)
+    }
+    if options.write.is_some() && options.many > 1 {
+        stop("--write is of one text for each class, so it cannot be combined with --fresh");
     }
     if options.write.is_some() && !options.only.is_empty() {
         stop("--write needs every line, so it cannot be combined with --only");
@@ -88,7 +97,7 @@ fn stop(words: &str) -> ! {
 fn rows(options: &Options) -> Vec<Row> {
     let mut rooms = Rooms::new();
     let mut rows = Vec::new();
-    let cases: Vec<_> = texts::cases().into_iter().filter(|case| case.name().contains(&options.only)).collect();
+    let cases: Vec<_> = texts::cases(options.many).into_iter().filter(|case| case.name().contains(&options.only)).collect();
     let others = match &options.others {
         Some(root) => others::measure(&cases, &options.effort, root).unwrap_or_else(|why| stop(&why)),
         None => vec![[None; 2]; cases.len()],
