@@ -1,6 +1,7 @@
 //! Compares the library's speed with the crate's, both sides in one process.
 //!   compare/run benchmark [--crate PATH] [--quick] [--only WORD] [--fresh] [--others] [--instructions] [--texts PATH] [--write]
-//! --quick takes fewer rounds; --only takes the lines whose operation, context or class holds WORD; --others also times Go's html and Node's entities where
+//! --quick takes fewer rounds; --only takes the lines whose operation, context or class holds WORD; --fresh takes 64 texts in turn where a class has one with
+//! pieces at random places, so that no processor learns where their branches go; --others also times Go's html and Node's entities where
 //! they do the same job, each in a process of its own; --texts writes the texts of the lines to a file and measures nothing; --write writes
 //! docs/BENCHMARKS.md with the others and its picture. --instructions counts the instructions of the x86-64 code under an emulator and times nothing; with --write it writes
 //! docs/INSTRUCTIONS.md. Each line of the table is an operation in a context on texts of a class. Both sides must give the same bytes there; where
