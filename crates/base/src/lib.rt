@@ -1,4 +1,6 @@
 // What many crates share: copying into an output, splitting a text into parts, and tests of a byte or a number.
+#![tactic(auto)]
+
 pub mod chars;
 pub mod find;
 pub mod prefix;
@@ -15,7 +17,9 @@ pub fn put(bytes: &[u8], output: &mut [u8]) -> usize
     requires { length bytes.now ≤ length output.old }
     ensures { (result ≡ length bytes.now) × (output.new ≡ over bytes.now output.old) }
 {
-    bytes::copy(bytes, output)
+    let n = bytes.len();
+    output[..n].copy_from_slice(bytes);
+    n
 }
 
 // Returns the smaller of two offsets.

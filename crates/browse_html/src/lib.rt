@@ -1,4 +1,6 @@
 // browse in the HTML contexts: references by the HTML Standard's character reference states, in text and in the value of an attribute.
+#![tactic(auto)]
+
 ghost use Rattle.std.specs.Prelude.{true, false, ◌≡◌, ◌+◌, ◌≤◌, ◌<◌, length, drop, get_or};
 ghost use Rattle.rules.specs.Bytes.{over};
 ghost use Rattle.rules.specs.Moves.{through, result};

@@ -1,6 +1,8 @@
 // Gives each of some sixty texts to the calls for parts of a raw script, in two and in three parts, cut at every place, and byte by byte, and compares
 // what comes out with one encode of the whole: the bytes, the backslashes, and the status and place of a refusal. Prints for each text in how many ways
 // it was given, and in how many of them something differed.
+#![tactic(auto)]
+
 use libc::STDOUT_FILENO;
 use lintelrye::{Answer, RawPart, RawState};
 

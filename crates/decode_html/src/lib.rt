@@ -1,4 +1,6 @@
 // The decoder of character references, html-escape's decode/html_entity: decode in the HTML contexts; and the first reference that it leaves.
+#![tactic(auto)]
+
 ghost use Rattle.std.specs.Prelude.{cond, ◌≡◌, ◌≤◌, eqb, length};
 ghost use Rattle.rules.specs.Bytes.{over};
 ghost use Rattle.rules.specs.Moves.{through, result};

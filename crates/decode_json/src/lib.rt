@@ -1,4 +1,6 @@
 // decode of JSON strings: what RFC 8259, section 7, allows between the quotation marks of a string.
+#![tactic(auto)]
+
 mod escapes;
 mod halts;
 

@@ -1,4 +1,6 @@
 // decode of script and style strings: the escapes of html-escape's decode/element/quoted.rs.
+#![tactic(auto)]
+
 ghost use Rattle.std.specs.Prelude.{◌++◌, ◌≡◌, ◌≤◌, ◌<◌, length, drop, get_or};
 ghost use Rattle.rules.specs.Bytes.{ascii, over};
 ghost use Rattle.rules.specs.Contexts.{string_of};

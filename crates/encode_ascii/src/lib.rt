@@ -1,4 +1,6 @@
 // The encoder of ascii_quoted, for texts that are not ASCII: a reference for every character above 7F, and ASCII as `quoted` writes it.
+#![tactic(auto)]
+
 pub mod characters;
 
 ghost use Rattle.std.specs.Prelude.{◌≡◌, ◌≤◌, length};

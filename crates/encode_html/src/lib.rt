@@ -2,6 +2,8 @@
 //
 // Plain text is quick since what is counted of a byte is a sum of comparisons, so that the loops over it become vector code. Text that is full of `<` is
 // quick since the encoding of a byte is one word of eight bytes, of which the highest says how many count; for a long text these words are a table.
+#![tactic(auto)]
+
 mod cold;
 mod fill;
 mod gains;

@@ -1,5 +1,7 @@
 // The encoder of raw script text, html-escape's script.rs and encode_impl.rs: a backslash goes in after each `<` that could open a comment or close
 // the element. Only a `<` before `!` or `/` can: blocks without one are skipped by one test, and everything between is copied.
+#![tactic(auto)]
+
 ghost use Rattle.std.specs.Prelude.{true, false, ◌≡◌, ◌+◌, ◌≤◌, length, take};
 ghost use Rattle.rules.specs.Bytes.{over};
 ghost use Rattle.rules.specs.Encoding.{parted, raw_step};

@@ -1,4 +1,6 @@
 // Escapes a text for a string of a script, a style sheet or JSON.
+#![tactic(auto)]
+
 pub mod escapes;
 mod growth;
 pub mod rule;

@@ -1,5 +1,7 @@
 // Runs the examples of RULES 16 through the public calls, copying and borrowing, and prints what each answers: the number of the example,
 // status, length, same, replaced, place, left and reason of the two calls, and what view gives of each, in hex.
+#![tactic(auto)]
+
 use libc::STDOUT_FILENO;
 use lintelrye::{Answer, Operation};
 

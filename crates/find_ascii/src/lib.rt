@@ -1,4 +1,6 @@
 // The search for a byte in ASCII text, eight bytes at a time as one number. Where the byte is near it needs no branch for each byte before it.
+#![tactic(auto)]
+
 ghost use Rattle.std.specs.Prelude.{◌≡◌, ◌+◌, ◌-◌, ◌*◌, ◌/◌, ◌≤◌, ◌<◌, length, get_or};
 ghost use Rattle.std.specs.Int.Count.{count_trailing_zeros};
 ghost use Rattle.base.specs.Places.{Nearest};

@@ -1,5 +1,7 @@
 // Raw script by parts for a caller in C: the state is lent as two arrays, the held bytes and three numbers. A call takes the state out of them, makes the
 // call of crate stream, and puts the state after it back where the call passed.
+#![tactic(auto)]
+
 ghost use Rattle.std.specs.Prelude.{true, false, cond, [], ◌≡◌};
 ghost use Rattle.lent.specs.Lent.{state_of, PartLent, Kept};
 

@@ -40,6 +40,8 @@
 //
 // The contracts cite the definitions of crates/rules/specs: `Allowed` (Refusals.antt) fixes the seven numbers and every byte of the output,
 // by the rule of the operation in the context (Operations.antt); `check_of` (Refusals.antt) fixes what `check` answers.
+#![tactic(auto)]
+
 pub mod labels;
 
 ghost use Rattle.std.specs.Prelude.{true, false, ◌≡◌};

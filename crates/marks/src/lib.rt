@@ -1,5 +1,7 @@
 // What the quick readers share: a list of the offsets of a text's units, kept while the text is measured and used while the result is written; and the copying
 // of what stands between two units.
+#![tactic(auto)]
+
 ghost use Rattle.std.specs.Prelude.{◌≡◌, ◌-◌, ◌≤◌, ◌<◌, length, set, take};
 ghost use Rattle.base.specs.Places.{part};
 

@@ -1,6 +1,8 @@
 // A small program as another repository would write it over the library: prints a plate with a name that somebody typed, once in an attribute and once as
 // text. The contract of `escape_title` says by the library's own definitions what goes into the attribute: a call in the context of another place is not
 // proved (must-fail), and proofs/Kept.antt concludes from it that the name can be had back.
+#![tactic(auto)]
+
 ghost use Rattle.std.specs.Prelude.{false};
 ghost use Rattle.rules.specs.Refusals.{Allowed};
 ghost use Rattle.rules.specs.declared.AnyContext.TheVariants.{Units};

@@ -1,4 +1,6 @@
 // The table of names: the value of a name, and the bytes of a value that is packed into one number.
+#![tactic(auto)]
+
 ghost use Rattle.std.proofs.Math.Option.{some};
 ghost use Rattle.std.specs.Prelude.{◌≡◌, ◌≤◌, ◌<◌, length, get_or};
 ghost use Rattle.rules.specs.Bytes.{over};

@@ -2,6 +2,8 @@
 // The names that begin with a to l, a function for each letter, and in it groups by the second byte, or by the second and the fourth. Each group
 // is three tables: the names one after the other without their first letter, the length of each, and the numbers of their values (`code_bytes` in
 // crates/names_search/specs/Lent.antt).
+#![tactic(auto)]
+
 ghost use Rattle.std.specs.Prelude.{◌≡◌, ◌∷◌, ◌≤◌, get_or};
 ghost use Rattle.rules.specs.Names.{lower-a, lower-b, lower-c, lower-d, lower-e, lower-f, lower-g, lower-h, lower-i, lower-j, lower-k, lower-l};
 ghost use Rattle.rules.specs.References.{lookup};

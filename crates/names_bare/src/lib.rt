@@ -1,4 +1,6 @@
 // The names without `;`: the one that stands at the head of a text. None begins another, so there is one at most.
+#![tactic(auto)]
+
 ghost use Rattle.std.specs.Prelude.{◌≡◌, ◌<◌};
 ghost use Rattle.names_bare.specs.Heads.{Heads, Spelled};
 

@@ -1,5 +1,7 @@
 // Search for a name in a lent table. The table is three slices of numbers: the bytes of the names one after the other, the length of each, and the
 // number of the value of each. The names of one table begin with the same byte, which it does not have.
+#![tactic(auto)]
+
 ghost use Rattle.std.specs.Prelude.{◌≡◌, ◌∷◌, ℕ, ◌≤◌, get_or, T};
 ghost use Rattle.rules.specs.Bytes.{same_bytes};
 ghost use Rattle.rules.specs.References.{lookup};

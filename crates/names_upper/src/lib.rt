@@ -2,6 +2,8 @@
 // The names that begin with A to Z, a function for each letter, and in it groups by the second byte, or by the second and the fourth. Each group
 // is three tables: the names one after the other without their first letter, the length of each, and the numbers of their values (`code_bytes` in
 // crates/names_search/specs/Lent.antt).
+#![tactic(auto)]
+
 ghost use Rattle.std.specs.Prelude.{◌≡◌, ◌∷◌, ◌≤◌, get_or};
 ghost use Rattle.rules.specs.Names.{upper-A, upper-B, upper-C, upper-D, upper-E, upper-F, upper-G, upper-H, upper-I, upper-J, upper-K, upper-L, upper-M, upper-N, upper-O, upper-P, upper-Q, upper-R, upper-S, upper-T, upper-U, upper-V, upper-W, upper-X, upper-Y, upper-Z};
 ghost use Rattle.rules.specs.References.{lookup};

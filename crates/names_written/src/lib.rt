@@ -1,4 +1,6 @@
 // The name of a character above 7F, as it is written: the shortest of the table, and of several as short the first by bytes.
+#![tactic(auto)]
+
 ghost use Rattle.std.specs.Prelude.{◌≤◌, length};
 ghost use Rattle.rules.specs.Utf8.{utf8};
 ghost use Rattle.rules.specs.Ascii.{name_of};

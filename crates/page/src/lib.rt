@@ -1,5 +1,7 @@
 // A page of fields in one call: a list of records, each the copying call of encode on a part of one text, written one behind the other into one output.
 // All of the work is in `turn`, the call of one record; both forms of the call are a loop of turns.
+#![tactic(auto)]
+
 ghost use Rattle.std.specs.Prelude.{cond, ◌≡◌, ◌++◌, min, ◌≤◌, length, drop};
 ghost use Rattle.rules.specs.Pages.{in_text, single as single_of, leaves, PageAllowed, field_size, field_numbers, field_as, NumbersAllowed};
 ghost use Rattle.page.specs.Turns.{begun, outside_by, answered_at, turned, output_after};

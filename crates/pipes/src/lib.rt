@@ -2,6 +2,8 @@
 //
 // What is proved of this file is that it is safe and ends. No contract of `libc` can say that the bytes are those of standard input, in their order, or
 // that they are written: tools/check_entity runs it.
+#![tactic(auto)]
+
 ghost use Rattle.io.specs.Counts.{IsPrefixLen};
 
 use libc::{STDIN_FILENO, STDOUT_FILENO};

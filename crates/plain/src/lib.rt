@@ -1,4 +1,6 @@
 // Plain texts, which no operation changes, as most names are: they are found many bytes at a time.
+#![tactic(auto)]
+
 pub mod look;
 
 ghost use Rattle.std.specs.Prelude.{true, false, not, ◌≡◌, ◌+◌, ◌≤◌, ◌<◌, length};

@@ -1,4 +1,6 @@
 // read, the strict reader, in ascii_quoted.
+#![tactic(auto)]
+
 mod units;
 
 ghost use Rattle.std.specs.Prelude.{◌≡◌, ◌≤◌, length};

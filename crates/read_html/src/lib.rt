@@ -1,6 +1,8 @@
 // The strict reader of the HTML contexts, for long ASCII texts. What encode writes has none of the bytes that it replaces but `&`: one look tells that
 // the others are absent, and then only `&` is searched, once, since its offsets are kept for the writing. In an unquoted attribute units hold such bytes, and
 // crates/read_unquoted measures.
+#![tactic(auto)]
+
 mod look;
 mod measure;
 

@@ -1,5 +1,7 @@
 // The strict reader of script and style strings, for long ASCII texts. What encode writes has none of the bytes that it replaces but backslashes and the
 // quotes after them: one look tells that the others are absent, and then only the backslash is searched.
+#![tactic(auto)]
+
 mod dense;
 mod fill;
 mod look;

@@ -1,5 +1,7 @@
 // What the quick readers of the HTML contexts share: units as numbers, what is found of a text, and the writing of what it
 // reads back as.
+#![tactic(auto)]
+
 pub mod fill;
 pub mod units;
 

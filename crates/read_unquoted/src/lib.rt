@@ -1,5 +1,7 @@
 // The strict reader of the unquoted attribute, for long ASCII texts: measures what a text reads back as, and keeps where its units are. What encode writes
 // there has letters, digits and units alone, so that the first byte that is no letter or digit must begin a unit.
+#![tactic(auto)]
+
 mod units;
 mod walk;
 

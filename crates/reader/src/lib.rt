@@ -1,4 +1,6 @@
 // read, the strict reader: a text that is a run of the context's units, read back, in the contexts whose units are those of a table.
+#![tactic(auto)]
+
 ghost use Rattle.std.specs.Prelude.{◌≡◌, ◌≤◌, length};
 ghost use Rattle.rules.specs.Bytes.{over};
 ghost use Rattle.rules.specs.Moves.{through};

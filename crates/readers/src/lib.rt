@@ -1,4 +1,6 @@
 // The strict reader by the quickest way for a context and a length, where there is one that is quicker than measuring and writing.
+#![tactic(auto)]
+
 pub mod general;
 mod short;
 

@@ -3,6 +3,7 @@
 //
 // Only the first `reports::ENOUGH` bytes are kept: what follows changes nothing (`reports::is_enough`), and is dropped after the lines are printed.
 // Where a read fails nothing is printed, and where a write fails no more than was written; standard error then says why.
+#![tactic(auto)]
 
 // Prints the line of a refusal, and returns whether there is one.
 fn refused(text: &[u8]) -> bool {

@@ -3,6 +3,7 @@
 //
 // Only the first `repairs::ENOUGH` bytes are kept: what follows changes nothing (`repairs::is_enough`), and is dropped after the reply is printed.
 // Where a read fails nothing is printed, and where a write fails no more than was written; standard error then says why.
+#![tactic(auto)]
 
 // Prints the reply to a request.
 fn print_reply(input: &[u8]) {

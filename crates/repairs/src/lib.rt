@@ -1,6 +1,8 @@
 // Repairs of stored fields that were escaped more than once: reads the request of the program `repair`, takes the layers off, and writes what the
 // program prints. `reply` does all of it, in memory; crates/repair reads and prints the bytes. Which bytes are printed for a request is `repair_of` of
 // specs/Repair.antt.
+#![tactic(auto)]
+
 ghost use Rattle.std.specs.Prelude.{true, List, ◌++◌, ◌≡◌, ℕ, ◌≤◌, length, take};
 ghost use Rattle.rules.specs.Bytes.{ascii, over};
 ghost use Rattle.rules.specs.Contexts.{context_of};

@@ -12,6 +12,8 @@
 //              output of ROOM bytes the answer is the seven numbers, and the first WRITTEN bytes of the output are those of the result;
 //   end COUNT  the last line: how many cases the list has.
 // crates/replay_list says how a text is spelt. A list with any other line, or with another count, is reported as malformed.
+#![tactic(auto)]
+
 ghost use Rattle.std.specs.Prelude.{◌≡◌, length};
 
 use libc::STDIN_FILENO;

@@ -1,4 +1,6 @@
 // What replay does with one case of the list: it makes the call, compares, counts and reports.
+#![tactic(auto)]
+
 pub mod cases;
 pub mod report;
 

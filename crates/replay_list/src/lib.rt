@@ -3,6 +3,8 @@
 // A byte of a text stands for itself, but for these two:
 //   \HH      the byte with this number, in two upper-case hex digits;
 //   \*N,B;   N bytes more, each equal to the one B bytes before it.
+#![tactic(auto)]
+
 ghost use Rattle.std.specs.Prelude.{◌≤◌};
 
 // Returns the byte at a place, 0 past the end.

@@ -1,5 +1,7 @@
 // Reports of the references that decode leaves, line by line: what the program `reasons` prints. Which bytes these are for a text is `reasons_of` of
 // crates/rules/specs/Program.antt; crates/reasons reads and prints the bytes.
+#![tactic(auto)]
+
 ghost use Rattle.std.specs.Prelude.{true, List, ◌++◌, ◌≡◌, ℕ, ◌+◌, ◌≤◌, length, take};
 ghost use Rattle.rules.specs.Bytes.{ascii, over};
 ghost use Rattle.rules.specs.Program.{decimal, reasons_of};

@@ -1,5 +1,7 @@
 // Requests to the program `entity`: reads the header lines, makes the call that they ask for, and writes the lines of the answer. `reply` does all of
 // it, in memory; crates/entity reads and prints the bytes. Which bytes are printed for a request is `entity_of` of crates/rules/specs/Program.antt.
+#![tactic(auto)]
+
 pub mod lines;
 pub mod print;
 

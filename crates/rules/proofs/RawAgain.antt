@@ -149,7 +149,7 @@ raw-quiet (b ∷ s) = ap marks (raw-cons b s) ∙ go (marked b s) refl (raw-quie
     less r = marks-cons 60 (92 ∷ r) ∙ marks-cons 92 r
 
     go : (x : Bool) → marked b s ≡ x → marks (raw_of s) ≡ 0 → marks (piece x b ++ raw_of s) ≡ 0
-    go true e ih = rw (marked-less b s e) (less (raw_of s) ∙ ih)
+    go true e ih = ap (λ (x : ℕ). marks (piece true x ++ raw_of s)) (marked-less b s e) ∙ less (raw_of s) ∙ ih
     go false e ih = marks-cons b (raw_of s) ∙ rw (parted-raw s, e) ih
 
 -- To encode it again changes nothing.

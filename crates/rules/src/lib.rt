@@ -1,4 +1,6 @@
 // The types of the library: contexts, operations, the answer record, and what the readers and the string writer find. specs/ holds the rules.
+#![tactic(auto)]
+
 ghost use Rattle.std.specs.Prelude.{◌≡◌};
 ghost use Rattle.rules.specs.Contexts.{context_of};
 
@@ -291,6 +293,7 @@ pub struct Closing {
 }
 
 // Returns the context of a number, 0 to 15; any other number has none.
+#[tactic(auto, unfolding(crate::specs::Contexts::context_of))]
 pub fn context_of(number: u32) -> AnyContext
     ensures { result ≡ context_of number }
 {

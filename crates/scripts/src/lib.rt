@@ -1,5 +1,7 @@
 // Where the text of a script element ends. The rule has eighteen states and a step for each byte; the code has three modes, goes from one `<` (or, where
 // the text is escaped, dash) to the next, and looks at what stands there.
+#![tactic(auto)]
+
 ghost use Rattle.std.specs.Prelude.{false, ◌&&◌, cond, ◌≡◌, ◌+◌, ◌≤◌, ◌<◌, length};
 ghost use Rattle.rules.specs.Bytes.{is};
 ghost use Rattle.rules.specs.ScriptData.{lower, ends_name, spells, ends, dashed, turn, closing_tag};

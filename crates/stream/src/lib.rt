@@ -1,6 +1,8 @@
 // Raw script by parts: script_raw's encoder with a state, for scripts that are longer than a buffer. A part call writes what is settled and holds back
 // the few bytes that more could still change. It copies the seam alone: what was held and the first eight bytes of the part, at most sixteen bytes.
 // What the seam does not settle lies in the part, and is encoded there, sixteen bytes at a time.
+#![tactic(auto)]
+
 ghost use Rattle.std.specs.Prelude.{true, false, ◌≡◌, [], ◌++◌, ℕ, ◌+◌, ◌≤◌, ◌<◌, ltb, length, take};
 ghost use Rattle.rules.specs.Bytes.{over};
 ghost use Rattle.rules.specs.Refusals.{refusal as refusalOf, part_success};

@@ -1,4 +1,6 @@
 // Escapes a text for a string of a script, a style sheet or JSON, as crate encode_strings does, and a long one faster.
+#![tactic(auto)]
+
 mod ahead;
 mod cold;
 mod words;

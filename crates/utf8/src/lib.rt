@@ -1,6 +1,8 @@
 // The UTF-8 check of RFC 3629. A text is read in blocks: a block that is all ASCII, or in which each byte may follow the three before it (the usual
 // range check over a window of four bytes), is passed as a whole; the rest is read character by character. The loops over blocks have no early exit
 // and no branch on a byte, so that they become vector code.
+#![tactic(auto)]
+
 ghost use Rattle.std.specs.Prelude.{cond, ◌≡◌, ℕ, suc, ◌+◌, ◌-◌, ◌≤◌, ◌<◌, length, take, drop, get_or};
 ghost use Rattle.rules.specs.Bytes.{fits, inside};
 ghost use Rattle.rules.specs.Moves.{takes};
