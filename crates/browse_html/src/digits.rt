@@ -66,7 +66,7 @@ fn browsed(number: u32) -> u32
 }
 
 // The digits at an offset: their number, which stays at the ceiling once it is above the last character, and where they end.
-#[derive(Drop)]
+#[derive(Clone, Copy)]
 struct Run {
     number: u32,
     end: usize,

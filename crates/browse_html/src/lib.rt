@@ -16,14 +16,14 @@ use names_bare::BareName;
 use rules::{DecodedEntityValue, Kind, Measured, Reference};
 
 // A name with its `;`: where it ends, and its value.
-#[derive(Drop)]
+#[derive(Clone, Copy)]
 enum Ended {
     Found(usize, DecodedEntityValue),
     Nothing,
 }
 
 // A number or a name without `;`, which stand for one character: where it ends, and the number of the character.
-#[derive(Drop)]
+#[derive(Clone, Copy)]
 pub enum Single {
     Found(usize, u32),
     Nothing,

@@ -11,7 +11,7 @@ const ROOM: usize = 64;
 
 // How far a text is given: the state, how many bytes are written and how many backslashes are among them, and the status and place of the last call.
 // After a refusal nothing more is given.
-#[derive(Drop)]
+#[derive(Clone, Copy)]
 struct Given {
     state: RawState,
     length: usize,
@@ -137,7 +137,7 @@ fn in_bytes(text: &[u8], answer: Answer, whole: &[u8]) -> bool {
 }
 
 // How many ways were tried, and in how many something differed.
-#[derive(Drop)]
+#[derive(Clone, Copy)]
 struct Tally {
     ways: u64,
     differ: u64,

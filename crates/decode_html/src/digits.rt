@@ -9,14 +9,14 @@ ghost use Rattle.decode_html.specs.Digits.{digit_by, ceiling_of, found, capped, 
 use rules::{DecodedEntityValue, Reason};
 
 // The number of digits, which stays at the ceiling once it is above the last character, or why there is none.
-#[derive(Drop)]
+#[derive(Clone, Copy)]
 enum Number {
     Is(u32),
     Left(Reason),
 }
 
 // What a number stands for, or why it stands for nothing.
-#[derive(Drop)]
+#[derive(Clone, Copy)]
 pub enum Numbered {
     Is(DecodedEntityValue),
     Left(Reason),

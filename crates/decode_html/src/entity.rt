@@ -10,7 +10,7 @@ use crate::digits::Numbered;
 use rules::{DecodedEntity, DecodedEntityValue, Meaning, Reason, Reference};
 
 // What follows an `&`: a body, or the reason why the reference stays.
-#[derive(Drop)]
+#[derive(Clone, Copy)]
 enum Start {
     Body,
     Left(Reason),

@@ -101,7 +101,7 @@ pub fn write(text: &[u8], output: &mut [u8]) -> Measured
 }
 
 // A reference that stays: its place and the number of the reason; 0 and 0 where there is none.
-#[derive(Drop)]
+#[derive(Clone, Copy)]
 pub struct Left {
     pub place: usize,
     pub reason: usize,

@@ -13,7 +13,7 @@ ghost use Rattle.rules.specs.declared.Context.TheVariants.{InAscii};
 ghost use Rattle.encode_ascii.specs.Wide.{Reads, digits, quoted_unit, PutsNext};
 
 // The number of a character and how many bytes it has.
-#[derive(Drop)]
+#[derive(Clone, Copy)]
 pub struct Character {
     pub code: u32,
     pub width: usize,
@@ -163,7 +163,7 @@ fn changed(written: usize) -> usize
 }
 
 // What is written for a character: how many bytes, how many the character has, and 1 if it is replaced.
-#[derive(Drop)]
+#[derive(Clone, Copy)]
 pub struct Put {
     pub written: usize,
     pub width: usize,

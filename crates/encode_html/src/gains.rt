@@ -10,7 +10,7 @@ use rules::Html;
 
 // Per context: whether it replaces nothing but `&`, `<` and `>`, whether it replaces all punctuation, and 1 for each of `>`, `"`, `'` and `/` that it
 // replaces, else 0.
-#[derive(Drop)]
+#[derive(Clone, Copy)]
 pub struct Gains {
     pub text: bool,
     pub unquoted: bool,

@@ -26,7 +26,7 @@ const LONG: usize = 256;
 const SPILL: usize = 7;
 
 // What a pass over a text finds: `high` is 0 only if it is ASCII, its encoding is `grow` bytes longer, and `replaced` of its places are replaced.
-#[derive(Drop)]
+#[derive(Clone, Copy)]
 pub struct Scan {
     pub high: usize,
     pub grow: usize,

@@ -80,7 +80,7 @@ pub fn count(h: Html, g: Gains, text: &[u8]) -> Scan
 
 // The bytes besides `&`, `<` and non-ASCII that the context replaces; `&` stands in for one that it does not. With `text` the last three are
 // not looked at.
-#[derive(Drop)]
+#[derive(Clone, Copy)]
 pub struct Keys {
     pub text: bool,
     pub gt: u8,

@@ -34,7 +34,7 @@ const PLAIN_APOSTROPHE: u64 = 0x0100_0000_0000_0027;
 const PLAIN_SOLIDUS: u64 = 0x0100_0000_0000_002F;
 
 // Per context: whether it replaces nothing but `&`, `<` and `>`, whether it replaces all punctuation, and the words of `>`, `"`, `'` and `/`.
-#[derive(Drop)]
+#[derive(Clone, Copy)]
 pub struct Words {
     pub text: bool,
     pub unquoted: bool,

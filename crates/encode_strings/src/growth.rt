@@ -10,7 +10,7 @@ use crate::{escapes, rule};
 use rules::{Notation, Quotes};
 
 // How many bytes of a part are escaped, how many of these by their hex digits, and how often it has the byte that is counted beside.
-#[derive(Drop)]
+#[derive(Clone, Copy)]
 pub struct Tally {
     pub escaped: u8,
     pub hexed: u8,
@@ -18,7 +18,7 @@ pub struct Tally {
 }
 
 // By how much a part grows, and how many of its places are replaced.
-#[derive(Drop)]
+#[derive(Clone, Copy)]
 pub struct Change {
     pub growth: usize,
     pub replaced: usize,

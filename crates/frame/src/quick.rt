@@ -7,7 +7,7 @@ use outcomes::Outcome;
 use rules::Answer;
 
 // What a try gives: the answer, with the output as it should be; or nothing is done yet.
-#[derive(Drop)]
+#[derive(Clone, Copy)]
 pub enum Tried {
     Answered(Answer),
     Untried,

@@ -9,7 +9,7 @@ ghost use Rattle.jobs.specs.Jobs.{rule_at};
 use rules::{AnyContext, Context, Html, Kind, Operation, Quotes};
 
 // The jobs. decode of references is the same in each HTML context; browse reads them as in text, or as in the value of an attribute.
-#[derive(Drop)]
+#[derive(Clone, Copy)]
 pub enum Job {
     EncodeHtml(Html),
     EncodeScript(Quotes),
@@ -26,7 +26,7 @@ pub enum Job {
 }
 
 // What a call wants: a job, or nothing, where the operation has no such context.
-#[derive(Drop)]
+#[derive(Clone, Copy)]
 pub enum Wanted {
     Do(Job),
     Nothing,

@@ -15,7 +15,7 @@ use rules::{Html, Language, Measured, Notation, Quotes};
 
 // What is to come of a call on a valid text: the rows of the refusal table that are left, and the two ways to pass it. Where nothing is replaced, place
 // and reason of the first reference that stays.
-#[derive(Drop)]
+#[derive(Clone, Copy)]
 pub enum Verdict {
     NotAForm(usize),
     Same(usize, usize),
@@ -24,7 +24,7 @@ pub enum Verdict {
 }
 
 // The HTML context whose replaced places a first look counts, if it counts any.
-#[derive(Drop)]
+#[derive(Clone, Copy)]
 enum Counted {
     In(Html),
     Nothing,

@@ -7,7 +7,7 @@ ghost use Rattle.names_bare.specs.Heads.{Heads, Spelled};
 mod table;
 
 // The name at the head of a text: its length, and the number of the character that it stands for.
-#[derive(Drop)]
+#[derive(Clone, Copy)]
 pub enum BareName {
     Found(usize, u32),
     Nothing,

@@ -3,7 +3,7 @@
 
 // What came of it: nothing was done, the text goes the general way; or the text is a form in which nothing is replaced; or the result of this length has
 // no room; or it is written, with this length and so many replaced characters.
-#[derive(Drop)]
+#[derive(Clone, Copy)]
 pub enum Outcome {
     Untried,
     Same,

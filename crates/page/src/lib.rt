@@ -15,7 +15,7 @@ use rules::{
 pub const FIELD_NUMBERS: usize = 10;
 
 // What a turn leaves: the answer of the page so far, where the results end, and the record.
-#[derive(Drop)]
+#[derive(Clone, Copy)]
 pub struct Turned {
     pub filled: Filled,
     pub end: usize,

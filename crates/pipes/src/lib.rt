@@ -9,7 +9,7 @@ ghost use Rattle.io.specs.Counts.{IsPrefixLen};
 use libc::{STDIN_FILENO, STDOUT_FILENO};
 
 // How many bytes were read, and whether a read failed.
-#[derive(Drop)]
+#[derive(Clone, Copy)]
 pub struct Came {
     pub length: usize,
     pub failed: bool,

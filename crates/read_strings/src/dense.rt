@@ -15,7 +15,7 @@ const PART: usize = 240;
 const NEAR: usize = 5;
 
 // What is counted in a part: its units, those with more than two bytes, and what is no unit.
-#[derive(Drop)]
+#[derive(Clone, Copy)]
 pub struct Sums {
     pub units: u8,
     pub longer: u8,
@@ -24,7 +24,7 @@ pub struct Sums {
 
 // What a text is measured to be up to the first backslash from `from` on: whether all of it is units and bytes that are kept, how much shorter its result is,
 // and how many units it has.
-#[derive(Drop)]
+#[derive(Clone, Copy)]
 pub struct Begun {
     pub whole: bool,
     pub gain: usize,

@@ -9,7 +9,7 @@ use crate::{dense, look, units};
 use rules::{Language, Quotes};
 
 // What is found: whether the whole text is units and bytes that are kept, the length of the result, and how many units it has.
-#[derive(Drop)]
+#[derive(Clone, Copy)]
 pub struct Found {
     pub whole: bool,
     pub length: usize,

@@ -6,7 +6,7 @@ pub mod fill;
 pub mod units;
 
 // What is found: whether the whole text is units and bytes that are kept, the length of the result, and how many units it has.
-#[derive(Drop)]
+#[derive(Clone, Copy)]
 pub struct Found {
     pub whole: bool,
     pub length: usize,

@@ -31,14 +31,14 @@ const HEADER_LIMIT: usize = 22 + 5;
 pub const ENOUGH: usize = HEADER_LIMIT + TEXT_LIMIT + 1;
 
 // What one reading takes off: the length of the text below, or nothing.
-#[derive(Drop)]
+#[derive(Clone, Copy)]
 pub enum Layer {
     Off(usize),
     Nothing,
 }
 
 // What is left of a field: the length of the last text, and how many layers were taken off.
-#[derive(Drop)]
+#[derive(Clone, Copy)]
 pub struct Peeled {
     pub length: usize,
     pub layers: usize,

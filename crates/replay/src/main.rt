@@ -83,7 +83,7 @@ fn end_line(list: &[u8], state: State, ran: u64) -> State {
 }
 
 // The operation of a letter.
-#[derive(Drop)]
+#[derive(Clone, Copy)]
 enum Letter {
     Means(Operation),
     Nothing,
@@ -109,7 +109,7 @@ fn context_of(letter: u8) -> u32 {
 }
 
 // The places of the letters of a line's next case, and where the line's contexts and kinds begin.
-#[derive(Drop)]
+#[derive(Clone, Copy)]
 struct Letters {
     operation: usize,
     context: usize,
@@ -119,7 +119,7 @@ struct Letters {
 }
 
 // A case by its letters, or none where a letter is wrong.
-#[derive(Drop)]
+#[derive(Clone, Copy)]
 enum Asked {
     Names(Case),
     Nothing,
@@ -187,7 +187,7 @@ fn each_case(
 }
 
 // The seven numbers of a line of cases, and the place past them; `found` is false where one is missing.
-#[derive(Drop)]
+#[derive(Clone, Copy)]
 struct Numbers {
     found: bool,
     expected: Expected,

@@ -2,7 +2,7 @@
 use lintelrye::{Answer, Operation};
 
 // The call that a case makes.
-#[derive(Drop)]
+#[derive(Clone, Copy)]
 pub struct Case {
     pub operation: Operation,
     pub context: u32,
@@ -10,7 +10,7 @@ pub struct Case {
 }
 
 // What the list says of a case: the length of the output, the answer, and how many bytes of the result stand in the output afterwards.
-#[derive(Drop)]
+#[derive(Clone, Copy)]
 pub struct Expected {
     pub room: usize,
     pub status: usize,
@@ -24,7 +24,7 @@ pub struct Expected {
 }
 
 // The first thing in which a case differs from the list.
-#[derive(Drop)]
+#[derive(Clone, Copy)]
 pub enum Difference {
     Nothing,
     Status,

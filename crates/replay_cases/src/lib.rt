@@ -6,7 +6,7 @@ pub mod report;
 
 // How far the list is read: the place and the number of the line, the lengths of the text and of the result, whether the last line was met, and whether
 // the list is right so far.
-#[derive(Drop)]
+#[derive(Clone, Copy)]
 pub struct State {
     pub at: usize,
     pub line: u64,

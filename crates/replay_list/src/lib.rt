@@ -66,7 +66,7 @@ fn size(b: u8) -> usize
 }
 
 // A number that was read: whether there was one, its value, and the place past it.
-#[derive(Drop)]
+#[derive(Clone, Copy)]
 pub struct Number {
     pub found: bool,
     pub value: usize,
@@ -96,7 +96,7 @@ pub fn read_number(list: &[u8], at: usize) -> Number {
 }
 
 // What was read of a text: whether it is spelt right, how long it is so far, and the place past what was read.
-#[derive(Drop)]
+#[derive(Clone, Copy)]
 pub struct Spelt {
     pub right: bool,
     pub length: usize,

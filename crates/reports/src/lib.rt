@@ -17,7 +17,7 @@ pub const ENOUGH: usize = requests::TEXT_LIMIT + 1;
 pub const LINE_ROOM: usize = 64;
 
 // A line that was written: its length, and the place from which on the next one is looked for.
-#[derive(Drop)]
+#[derive(Clone, Copy)]
 pub struct Line {
     pub length: usize,
     pub next: usize,

@@ -9,7 +9,7 @@ ghost use Rattle.requests.specs.Lines.{lines_of, line_length, line_found, line_r
 use lintelrye::labels;
 
 // A header line: the number of the name that it has, and its length; or no such line.
-#[derive(Drop)]
+#[derive(Clone, Copy)]
 pub enum Line {
     Names(u32, usize),
     Nothing,

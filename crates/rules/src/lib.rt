@@ -67,7 +67,7 @@ pub const LONE_SURROGATE: usize = 10;
 pub const FIELD_LIMIT: usize = 256;
 
 // The seven HTML contexts.
-#[derive(Drop)]
+#[derive(Clone, Copy)]
 pub enum Html {
     TextMinimal,
     Text,
@@ -79,14 +79,14 @@ pub enum Html {
 }
 
 // What a reference is part of in browse: text, or the value of an attribute.
-#[derive(Drop)]
+#[derive(Clone, Copy)]
 pub enum Kind {
     InText,
     InAttribute,
 }
 
 // Which quotes a script or style string escapes; both in script_quoted and style_quoted.
-#[derive(Drop)]
+#[derive(Clone, Copy)]
 pub enum Quotes {
     Single,
     Double,
@@ -94,14 +94,14 @@ pub enum Quotes {
 }
 
 // The language of a string that decode reads as older pages have it too, by the name of its element.
-#[derive(Drop)]
+#[derive(Clone, Copy)]
 pub enum Language {
     Script,
     Style,
 }
 
 // How a string is written: which control bytes and line separators are escaped, and how these and `<` are.
-#[derive(Drop)]
+#[derive(Clone, Copy)]
 pub enum Notation {
     Script,
     Style,
@@ -109,7 +109,7 @@ pub enum Notation {
 }
 
 // The fifteen contexts that have units.
-#[derive(Drop)]
+#[derive(Clone, Copy)]
 pub enum Context {
     InHtml(Html),
     InScript(Quotes),
@@ -119,7 +119,7 @@ pub enum Context {
 }
 
 // The context that a call names: one of the fifteen, script_raw, or none.
-#[derive(Drop)]
+#[derive(Clone, Copy)]
 pub enum AnyContext {
     Units(Context),
     ScriptRaw,
@@ -127,7 +127,7 @@ pub enum AnyContext {
 }
 
 // The operations that go through a text.
-#[derive(Drop)]
+#[derive(Clone, Copy)]
 pub enum Operation {
     Encode,
     Decode,
@@ -137,7 +137,7 @@ pub enum Operation {
 
 // The answer record of every call, laid out as C lays it out.
 #[repr(C)]
-#[derive(Drop)]
+#[derive(Clone, Copy)]
 pub struct Answer {
     pub status: usize,
     pub length: usize,
@@ -150,7 +150,7 @@ pub struct Answer {
 
 // What `check` answers, laid out as C lays it out.
 #[repr(C)]
-#[derive(Drop)]
+#[derive(Clone, Copy)]
 pub struct Checked {
     pub status: usize,
     pub length: usize,
@@ -159,7 +159,7 @@ pub struct Checked {
 
 // A record of a page, laid out as C lays it out: the context and the part of the text that it asks for; where its result begins, and its answer.
 #[repr(C)]
-#[derive(Drop)]
+#[derive(Clone, Copy)]
 pub struct Field {
     pub context: u32,
     pub start: usize,
@@ -170,7 +170,7 @@ pub struct Field {
 
 // What the call on a page answers: the status of the refusal that stopped it, and how many records passed.
 #[repr(C)]
-#[derive(Drop)]
+#[derive(Clone, Copy)]
 pub struct Filled {
     pub status: usize,
     pub passed: usize,
@@ -178,7 +178,7 @@ pub struct Filled {
 
 // What a pass over a text finds: the length of the result, how far the text is taken, how many places are replaced, and place and reason of the first
 // reference that stays, 0 and 0 where none does.
-#[derive(Drop)]
+#[derive(Clone, Copy)]
 pub struct Measured {
     pub length: usize,
     pub place: usize,
@@ -189,7 +189,7 @@ pub struct Measured {
 
 // How far a raw script by parts has come: the first `count` bytes of `held` are held back (all eight where `count` is more), `done` bytes of the text
 // came before them, and `finished` says that a finish has passed. Every value has a meaning.
-#[derive(Drop)]
+#[derive(Clone, Copy)]
 pub struct RawState {
     pub held: [u8; 8],
     pub count: usize,
@@ -198,28 +198,28 @@ pub struct RawState {
 }
 
 // What a call of a raw script by parts gives: its answer, and the state after it.
-#[derive(Drop)]
+#[derive(Clone, Copy)]
 pub struct RawPart {
     pub answer: Answer,
     pub state: RawState,
 }
 
 // What a reference stands for: a text of the table of names, its bytes packed into one number, or a character by its number.
-#[derive(Drop)]
+#[derive(Clone, Copy)]
 pub enum DecodedEntityValue {
     Named(u64),
     Character(u32),
 }
 
 // What the body of a reference stands for.
-#[derive(Drop)]
+#[derive(Clone, Copy)]
 pub enum Meaning {
     Value(DecodedEntityValue),
     Nothing,
 }
 
 // A found reference: where its `&` is, the place past its `;`, and what it stands for.
-#[derive(Drop)]
+#[derive(Clone, Copy)]
 pub struct DecodedEntity {
     pub start: usize,
     pub end: usize,
@@ -228,7 +228,7 @@ pub struct DecodedEntity {
 
 // Why a reference stays: no `;` before the next `&` or the end, an empty body, an unknown name, a byte that is no digit of its base, or a number that is
 // not allowed.
-#[derive(Drop)]
+#[derive(Clone, Copy)]
 pub enum Reason {
     NoEnd,
     Empty,
@@ -238,7 +238,7 @@ pub enum Reason {
 }
 
 // What a reference reader finds at an `&`: a reference; why decode leaves it; or that browse leaves it, which needs no reason.
-#[derive(Drop)]
+#[derive(Clone, Copy)]
 pub enum Reference {
     Found(DecodedEntity),
     Left(Reason),
@@ -246,14 +246,14 @@ pub enum Reference {
 }
 
 // What the reader of string escapes finds: how many bytes the escape takes, and the number of its character.
-#[derive(Drop)]
+#[derive(Clone, Copy)]
 pub enum Escape {
     Taken(usize, u32),
     Nothing,
 }
 
 // How a string encoder escapes a character: a backslash before it, its two hex digits, `\u2028` or `\u2029`, or U+FFFD in place of NUL.
-#[derive(Drop)]
+#[derive(Clone, Copy)]
 pub enum Replacement {
     Slashed,
     Hex,
@@ -262,14 +262,14 @@ pub enum Replacement {
 }
 
 // What a string encoder finds at a place.
-#[derive(Drop)]
+#[derive(Clone, Copy)]
 pub enum Replaced {
     By(Replacement),
     Nothing,
 }
 
 // How the text of a script element is read: as it is, escaped once (after `<!--`), or escaped twice (after a start tag `<script` in that).
-#[derive(Drop)]
+#[derive(Clone, Copy)]
 pub enum ScriptMode {
     Plain,
     Once,
@@ -277,7 +277,7 @@ pub enum ScriptMode {
 }
 
 // The place of the `<` of the end tag that ends a script element's text.
-#[derive(Drop)]
+#[derive(Clone, Copy)]
 pub enum ClosingTag {
     At(usize),
     Nothing,
@@ -285,7 +285,7 @@ pub enum ClosingTag {
 
 // The answer about a script element's text, laid out as C lays it out.
 #[repr(C)]
-#[derive(Drop)]
+#[derive(Clone, Copy)]
 pub struct Closing {
     pub status: usize,
     pub found: usize,
