@@ -3,7 +3,7 @@
 
 ghost use Rattle.std.specs.Prelude.{true, false, ◌≡◌, ◌+◌, ◌≤◌, ◌<◌, length, drop, get_or};
 ghost use Rattle.rules.specs.Bytes.{over};
-ghost use Rattle.rules.specs.Moves.{through, result};
+ghost use Rattle.rules.specs.Moves.{through, result as result_of};
 ghost use Rattle.rules.specs.Tables.{letter_or_digit};
 ghost use Rattle.rules.specs.Browsing.{goes_on, browse_step};
 ghost use Rattle.rules.specs.Answers.{Measures};
@@ -32,7 +32,7 @@ pub enum Single {
 // Reports whether `=` or an ASCII letter or digit stands at an offset.
 fn goes_on(text: &[u8], at: usize) -> bool
     requires { at ≤ length text.now }
-    ensures* { λ r. ⌜ r ≡ goes_on (drop at text.now) ⌝ }
+    ensures { result ≡ goes_on (drop at text.now) }
 {
     if at == text.len() {
         return false;
@@ -46,7 +46,7 @@ fn goes_on(text: &[u8], at: usize) -> bool
 // Reports whether a name without `;` that ends at an offset is left as it is: in an attribute, before `=` or an ASCII letter or digit.
 fn is_blocked(kind: Kind, text: &[u8], at: usize) -> bool
     requires { at ≤ length text.now }
-    ensures* { λ r. ⌜ r ≡ blocked_in kind (drop at text.now) ⌝ }
+    ensures { result ≡ blocked_in kind (drop at text.now) }
 {
     match kind {
         Kind::InText => false,
@@ -57,7 +57,7 @@ fn is_blocked(kind: Kind, text: &[u8], at: usize) -> bool
 // Reports whether a number begins with the `&` at `start`: whether `#` follows.
 fn is_number(text: &[u8], start: usize) -> bool
     requires { start < length text.now }
-    ensures* { λ r. ⌜ (r ≡ true → (start + 1 < length text.now) × (get_or text.now (start + 1) 0 ≡ 35)) × (r ≡ false → get_or text.now (start + 1) 0 ≡ 35 → ⊥) ⌝ }
+    ensures { (result ≡ true → (start + 1 < length text.now) × (get_or text.now (start + 1) 0 ≡ 35)) × (result ≡ false → get_or text.now (start + 1) 0 ≡ 35 → ⊥) }
 {
     let first = start + 1;
     if first == text.len() {
@@ -72,7 +72,7 @@ fn is_number(text: &[u8], start: usize) -> bool
 // Reports whether a name may begin behind the `&` at `start`: whether a letter or digit follows.
 fn is_name(text: &[u8], start: usize) -> bool
     requires { start < length text.now }
-    ensures* { λ r. ⌜ r ≡ letter_or_digit (get_or text.now (start + 1) 0) ⌝ }
+    ensures { result ≡ letter_or_digit (get_or text.now (start + 1) 0) }
 {
     let first = start + 1;
     if first == text.len() {
@@ -84,7 +84,7 @@ fn is_name(text: &[u8], start: usize) -> bool
 // Reads the name with its `;` behind the `&` at `start`, as decode's reader does. It is longer than any without, so that it goes first.
 fn find_ended(text: &[u8], start: usize) -> Ended
     requires { (start < length text.now) × (get_or text.now start 0 ≡ 38) }
-    ensures* { λ r. ⌜ Ends text.now start r ⌝ }
+    ensures { Ends text.now start result }
 {
     if !is_name(text, start) {
         return Ended::Nothing;
@@ -99,7 +99,7 @@ fn find_ended(text: &[u8], start: usize) -> Ended
 // Reads the name without `;` behind the `&` at `start`, where no name with its `;` stands.
 fn find_bare(kind: Kind, text: &[u8], start: usize) -> Single
     requires { (start < length text.now) × (get_or text.now start 0 ≡ 38) × Named (drop (start + 1) text.now) }
-    ensures* { λ r. ⌜ Reads (browse_step kind) text.now start (single_at start r) ⌝ }
+    ensures { Reads (browse_step kind) text.now start (single_at start result) }
 {
     let first = start + 1;
     let BareName::Found(n, character) = names_bare::find(&text[first..]) else {
@@ -115,7 +115,7 @@ fn find_bare(kind: Kind, text: &[u8], start: usize) -> Single
 // Reads the number or the name without `;` behind the `&` at `start`, where no name with its `;` stands; or tells that there is no reference.
 fn find_single(kind: Kind, text: &[u8], start: usize) -> Single
     requires { (start < length text.now) × (get_or text.now start 0 ≡ 38) × Unended text.now start }
-    ensures* { λ r. ⌜ Reads (browse_step kind) text.now start (single_at start r) ⌝ }
+    ensures { Reads (browse_step kind) text.now start (single_at start result) }
 {
     if is_number(text, start) {
         return digits::find_number(text, start);
@@ -127,7 +127,7 @@ fn find_single(kind: Kind, text: &[u8], start: usize) -> Single
 // of one that is left as one byte.
 pub fn measure(kind: Kind, text: &[u8]) -> Measured
     requires { length text.now ≤ 65536 }
-    ensures* { λ r. ⌜ Measures r (through (browse_step kind) text.now) ⌝ }
+    ensures { Measures result (through (browse_step kind) text.now) }
 {
     let mut length: usize = 0;
     let mut references: usize = 0;
@@ -166,8 +166,8 @@ pub fn measure(kind: Kind, text: &[u8]) -> Measured
 // Writes the result of browse to the start of `output` and returns what `measure` does; the bytes after it keep their values.
 pub fn write(kind: Kind, text: &[u8], output: &mut [u8]) -> Measured
     requires { length (result (through (browse_step kind) text.now)) ≤ length output.old }
-    ensures* fact { λ r. ⌜ Measures r (through (browse_step kind) text.now) ⌝ }
-    ensures* output_after { λ _. ⌜ output.new ≡ over (result (through (browse_step kind) text.now)) output.old ⌝ }
+    ensures fact { Measures result (through (browse_step kind) text.now) }
+    ensures output_after { output.new ≡ over (result_of (through (browse_step kind) text.now)) output.old }
 {
     let mut at: usize = 0;
     let mut references: usize = 0;

@@ -3,7 +3,7 @@
 
 ghost use Rattle.std.specs.Prelude.{cond, ◌≡◌, ◌≤◌, eqb, length};
 ghost use Rattle.rules.specs.Bytes.{over};
-ghost use Rattle.rules.specs.Moves.{through, result};
+ghost use Rattle.rules.specs.Moves.{through, result as result_of};
 ghost use Rattle.rules.specs.References.{reference_step};
 ghost use Rattle.rules.specs.Answers.{Measures};
 ghost use Rattle.decode_html.specs.Taking.{NextLeft};
@@ -16,7 +16,7 @@ use rules::{Measured, Reference};
 
 // Returns the place or reason of the first reference that is left: `noted` if there is one already, else `new`.
 fn kept(reason: usize, noted: usize, new: usize) -> usize
-    ensures* { λ r. ⌜ r ≡ cond (eqb reason 0) new noted ⌝ }
+    ensures { result ≡ cond (eqb reason 0) new noted }
 {
     if reason == 0 { new } else { noted }
 }
@@ -24,7 +24,7 @@ fn kept(reason: usize, noted: usize, new: usize) -> usize
 // Measures the result of decode without writing it. Bytes before the next `&` are skipped together; a reference counts as the bytes of its value.
 pub fn measure(text: &[u8]) -> Measured
     requires { length text.now ≤ 65536 }
-    ensures* { λ r. ⌜ Measures r (through reference_step text.now) ⌝ }
+    ensures { Measures result (through reference_step text.now) }
 {
     let mut length: usize = 0;
     let mut references: usize = 0;
@@ -63,8 +63,8 @@ pub fn measure(text: &[u8]) -> Measured
 // Writes the result of decode to the start of `output` and returns what `measure` does; the bytes after it keep their values.
 pub fn write(text: &[u8], output: &mut [u8]) -> Measured
     requires { length (result (through reference_step text.now)) ≤ length output.old }
-    ensures* fact { λ r. ⌜ Measures r (through reference_step text.now) ⌝ }
-    ensures* output_after { λ _. ⌜ output.new ≡ over (result (through reference_step text.now)) output.old ⌝ }
+    ensures fact { Measures result (through reference_step text.now) }
+    ensures output_after { output.new ≡ over (result_of (through reference_step text.now)) output.old }
 {
     let mut at: usize = 0;
     let mut references: usize = 0;
@@ -110,7 +110,7 @@ pub struct Left {
 // Finds the first reference from `from` on that decode leaves. Since no body has an `&`, each `&` is looked at.
 pub fn next_left(text: &[u8], from: usize) -> Left
     requires { from ≤ length text.now }
-    ensures* { λ r. ⌜ NextLeft text.now from r.place r.reason ⌝ }
+    ensures { NextLeft text.now from result.place result.reason }
 {
     let mut i = base::find::find_byte(text, from, b'&');
     while i < text.len() {

@@ -6,7 +6,7 @@ mod halts;
 
 ghost use Rattle.std.specs.Prelude.{◌≡◌, ◌+◌, ◌≤◌, ◌<◌, eqb, length, get_or};
 ghost use Rattle.rules.specs.Bytes.{over};
-ghost use Rattle.rules.specs.Moves.{through, result, why};
+ghost use Rattle.rules.specs.Moves.{through, result as result_of, why};
 ghost use Rattle.rules.specs.Answers.{Measures};
 ghost use Rattle.rules.specs.Json.{json_step};
 
@@ -15,7 +15,7 @@ use rules::{Escape, Measured};
 // Returns the byte after offset `i` of the text, 0 at the text's end.
 fn byte_after(text: &[u8], i: usize) -> u8
     requires { i < length text.now }
-    ensures* { λ r. ⌜ r ≡ get_or text.now (i + 1) 0 ⌝ }
+    ensures { result ≡ get_or text.now (i + 1) 0 }
 {
     if i + 1 < text.len() {
         return text[i + 1];
@@ -28,7 +28,7 @@ fn byte_after(text: &[u8], i: usize) -> u8
 // content ends there.
 pub fn measure(text: &[u8]) -> Measured
     requires { length text.now ≤ 65536 }
-    ensures* { λ r. ⌜ Measures r (through json_step text.now) ⌝ }
+    ensures { Measures result (through json_step text.now) }
 {
     let mut length: usize = 0;
     let mut escapes: usize = 0;
@@ -76,7 +76,7 @@ pub fn measure(text: &[u8]) -> Measured
 // text as that does.
 pub fn write(text: &[u8], output: &mut [u8]) -> Measured
     requires { length (result (through json_step text.now)) ≤ length output.old }
-    ensures* { λ r. ⌜ Measures r (through json_step text.now) × (output.new ≡ over (result (through json_step text.now)) output.old) ⌝ }
+    ensures { Measures result (through json_step text.now) × (output.new ≡ over (result_of (through json_step text.now)) output.old) }
 {
     let mut at: usize = 0;
     let mut escapes: usize = 0;
@@ -123,7 +123,7 @@ pub fn write(text: &[u8], output: &mut [u8]) -> Measured
 
 // Reports whether decode stops at the start of `rest` because half a surrogate pair stands alone there.
 pub fn is_lone(rest: &[u8]) -> bool
-    ensures* { λ r. ⌜ r ≡ eqb (why (json_step 0 rest.now)) 10 ⌝ }
+    ensures { result ≡ eqb (why (json_step 0 rest.now)) 10 }
 {
     escapes::begins_lone(rest)
 }

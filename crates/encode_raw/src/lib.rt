@@ -5,7 +5,7 @@
 ghost use Rattle.std.specs.Prelude.{true, false, ◌≡◌, ◌+◌, ◌≤◌, length, take};
 ghost use Rattle.rules.specs.Bytes.{over};
 ghost use Rattle.rules.specs.Encoding.{parted, raw_step};
-ghost use Rattle.rules.specs.Moves.{through, result};
+ghost use Rattle.rules.specs.Moves.{through, result as result_of};
 ghost use Rattle.rules.specs.Operations.{raw_of};
 ghost use Rattle.base.specs.First.{Free, First};
 ghost use Rattle.plain.specs.Plain.{Without};
@@ -16,7 +16,7 @@ const BLOCK: usize = 16;
 
 // Reports whether a backslash has to go between a `<` and the bytes that follow it.
 fn is_parted(rest: &[u8]) -> bool
-    ensures* { λ r. ⌜ r ≡ parted rest.now ⌝ }
+    ensures { result ≡ parted rest.now }
 {
     if base::prefix::starts(b"!--", rest) {
         return true;
@@ -26,7 +26,7 @@ fn is_parted(rest: &[u8]) -> bool
 
 // Reports whether the bytes `a` and `b` are `<!` or `</`, without which no backslash goes in.
 fn is_suspect(a: u8, b: u8) -> bool
-    ensures* { λ r. ⌜ r ≡ suspect a b ⌝ }
+    ensures { result ≡ suspect a b }
 {
     (a == b'<') & ((b == b'!') | (b == b'/'))
 }
@@ -34,7 +34,7 @@ fn is_suspect(a: u8, b: u8) -> bool
 // Reports whether the block at `at` has a `<!` or `</`. The loop has no early exit, so that it becomes vector code.
 fn has_suspect(text: &[u8], at: usize) -> bool
     requires { at + 17 ≤ length text.now }
-    ensures* { λ r. ⌜ (r ≡ false → Free (cut_at text.now) at (at + 16)) ⌝ }
+    ensures { result ≡ false → Free (cut_at text.now) at (at + 16) }
 {
     let mut hit = false;
     let mut j: usize = 0;
@@ -49,7 +49,7 @@ fn has_suspect(text: &[u8], at: usize) -> bool
 // byte after a block is read as well.
 fn skip_blocks(text: &[u8], from: usize, end: usize) -> usize
     requires { (from ≤ end) × (end ≤ length text.now) }
-    ensures* { λ r. ⌜ (from ≤ r) × (r ≤ end) × Free (cut_at text.now) from r ⌝ }
+    ensures { (from ≤ result) × (result ≤ end) × Free (cut_at text.now) from result }
 {
     let mut i = from;
     while BLOCK < end - i {
@@ -64,7 +64,7 @@ fn skip_blocks(text: &[u8], from: usize, end: usize) -> usize
 // Returns the first offset from `from` on and before `end` of a `<` that a backslash goes in after, or `end`. What follows `end` counts.
 fn next_cut(text: &[u8], from: usize, end: usize) -> usize
     requires { (from ≤ end) × (end ≤ length text.now) }
-    ensures* { λ r. ⌜ First (cut_at text.now) end from r ⌝ }
+    ensures { First (cut_at text.now) end from result }
 {
     let mut i = skip_blocks(text, from, end);
     while i < end {
@@ -83,7 +83,7 @@ fn next_cut(text: &[u8], from: usize, end: usize) -> usize
 // Returns the length of the encoding of the first `end` bytes of a text. What follows them is looked at: it decides about a `<` near the end.
 pub fn measure_to(text: &[u8], end: usize) -> usize
     requires { (length text.now ≤ 65536) × (end ≤ length text.now) }
-    ensures* { λ r. ⌜ r ≡ length (result (take end (through raw_step text.now))) ⌝ }
+    ensures { result ≡ length (result_of (take end (through raw_step text.now))) }
 {
     let mut n: usize = 0;
     let mut i: usize = 0;
@@ -102,7 +102,7 @@ pub fn measure_to(text: &[u8], end: usize) -> usize
 // Returns the length of the encoding of a text.
 pub fn measure(text: &[u8]) -> usize
     requires { length text.now ≤ 65536 }
-    ensures* { λ r. ⌜ r ≡ length (raw_of text.now) ⌝ }
+    ensures { result ≡ length (raw_of text.now) }
 {
     measure_to(text, text.len())
 }
@@ -110,7 +110,7 @@ pub fn measure(text: &[u8]) -> usize
 // Writes the encoding of the first `end` bytes of a text to the start of `output` and returns its length; the bytes after it keep their values.
 pub fn write_to(text: &[u8], end: usize, output: &mut [u8]) -> usize
     requires { (end ≤ length text.now) × (length (result (take end (through raw_step text.now))) ≤ length output.old) }
-    ensures* { λ r. ⌜ (r ≡ length (result (take end (through raw_step text.now)))) × (output.new ≡ over (result (take end (through raw_step text.now))) output.old) ⌝ }
+    ensures { (result ≡ length (result_of (take end (through raw_step text.now)))) × (output.new ≡ over (result_of (take end (through raw_step text.now))) output.old) }
 {
     let mut at: usize = 0;
     let mut i: usize = 0;
@@ -129,7 +129,7 @@ pub fn write_to(text: &[u8], end: usize, output: &mut [u8]) -> usize
 // Writes the same; a text that is `clear`, ASCII without `<`, is copied.
 pub fn write_with(clear: bool, text: &[u8], end: usize, output: &mut [u8]) -> usize
     requires { (end ≤ length text.now) × (length (result (take end (through raw_step text.now))) ≤ length output.old) × (clear ≡ true → Without 60 text.now) }
-    ensures* { λ r. ⌜ (r ≡ length (result (take end (through raw_step text.now)))) × (output.new ≡ over (result (take end (through raw_step text.now))) output.old) ⌝ }
+    ensures { (result ≡ length (result_of (take end (through raw_step text.now)))) × (output.new ≡ over (result_of (take end (through raw_step text.now))) output.old) }
 {
     if clear {
         return base::put(&text[..end], output);
@@ -140,7 +140,7 @@ pub fn write_with(clear: bool, text: &[u8], end: usize, output: &mut [u8]) -> us
 // Writes the encoding of a text to the start of `output` and returns its length; the bytes after it keep their values.
 pub fn write(text: &[u8], output: &mut [u8]) -> usize
     requires { length (raw_of text.now) ≤ length output.old }
-    ensures* { λ r. ⌜ (r ≡ length (raw_of text.now)) × (output.new ≡ over (raw_of text.now) output.old) ⌝ }
+    ensures { (result ≡ length (raw_of text.now)) × (output.new ≡ over (raw_of text.now) output.old) }
 {
     write_to(text, text.len(), output)
 }

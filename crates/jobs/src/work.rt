@@ -3,7 +3,7 @@
 // rooms below do it.
 ghost use Rattle.std.specs.Prelude.{true, false, ◌≡◌, List, ℕ, ◌+◌, ◌≤◌, length};
 ghost use Rattle.rules.specs.Bytes.{over};
-ghost use Rattle.rules.specs.Moves.{through, result, taken};
+ghost use Rattle.rules.specs.Moves.{through, result as result_of, taken};
 ghost use Rattle.rules.specs.Utf8.{valid_to};
 ghost use Rattle.rules.specs.Answers.{Measures};
 ghost use Rattle.jobs.specs.Jobs.{rule_by, counted_for, Low, Seen, Judged};
@@ -32,7 +32,7 @@ enum Counted {
 
 // Returns the HTML context whose counts serve a job: ascii_quoted writes ASCII as `quoted` does.
 fn counted_for(job: Job) -> Counted
-    ensures* { λ r. ⌜ r ≡ counted_for job ⌝ }
+    ensures { result ≡ counted_for job }
 {
     match job {
         Job::EncodeHtml(h) => Counted::In(h),
@@ -54,7 +54,7 @@ fn counted_for(job: Job) -> Counted
 // ASCII (`high` is 0); most other jobs have none.
 pub fn glance(job: Job, text: &[u8]) -> Scan
     requires { length text.now ≤ 65536 }
-    ensures* { λ r. ⌜ Seen job r text.now ⌝ }
+    ensures { Seen job result text.now }
 {
     let Counted::In(h) = counted_for(job) else {
         return Scan {
@@ -69,7 +69,7 @@ pub fn glance(job: Job, text: &[u8]) -> Scan
 // Returns the job that does the same to this text as `job` does, in the quickest way: an ASCII text is encoded in ascii_quoted as in `quoted`.
 // `scan` is what the glance told of it.
 pub fn settled(job: Job, scan: Scan) -> Job
-    ensures* { λ r. ⌜ ((t : List ℕ) → Seen job scan t → (through (rule_by r) t ≡ through (rule_by job) t) × Seen r scan t) ⌝ }
+    ensures { (t : List ℕ) → Seen job scan t → (through (rule_by result) t ≡ through (rule_by job) t) × Seen result scan t }
 {
     let Job::EncodeAscii = job else {
         return job;
@@ -83,7 +83,7 @@ pub fn settled(job: Job, scan: Scan) -> Job
 // Returns the length of the longest valid prefix. Where `high` is 0 it is ASCII, and needs no look.
 pub fn valid_to(text: &[u8], high: usize) -> usize
     requires { Low high text.now }
-    ensures* { λ r. ⌜ r ≡ valid_to text.now ⌝ }
+    ensures { result ≡ valid_to text.now }
 {
     if high == 0 {
         return text.len();
@@ -96,7 +96,7 @@ pub fn valid_to(text: &[u8], high: usize) -> usize
 // decode of a JSON string, may refuse a text for its form.
 fn fits_any(job: Job, borrows: bool, text: &[u8], room: usize) -> bool
     requires { length text.now ≤ 65536 }
-    ensures* { λ r. ⌜ (r ≡ true → (borrows ≡ false) × (taken (through (rule_by job) text.now) ≡ text.now) × (length (result (through (rule_by job) text.now)) ≤ room)) ⌝ }
+    ensures { result ≡ true → (borrows ≡ false) × (taken (through (rule_by job) text.now) ≡ text.now) × (length (result_of (through (rule_by job) text.now)) ≤ room) }
 {
     if borrows {
         return false;
@@ -119,7 +119,7 @@ fn fits_any(job: Job, borrows: bool, text: &[u8], room: usize) -> bool
 
 // Returns what is known of the result of a job that takes a whole text, of `size` bytes, and leaves no reference.
 fn whole(length: usize, replaced: usize, size: usize) -> Measured
-    ensures* { λ r. ⌜ (r.length ≡ length) × (r.place ≡ size) × (r.replaced ≡ replaced) × (r.left ≡ 0) × (r.reason ≡ 0) ⌝ }
+    ensures { (result.length ≡ length) × (result.place ≡ size) × (result.replaced ≡ replaced) × (result.left ≡ 0) × (result.reason ≡ 0) }
 {
     Measured {
         length,
@@ -133,7 +133,7 @@ fn whole(length: usize, replaced: usize, size: usize) -> Measured
 // Returns the same where each replaced place makes the result one byte longer than the text.
 fn by_ones(length: usize, size: usize) -> Measured
     requires { size ≤ length }
-    ensures* { λ r. ⌜ (r.length ≡ length) × (r.place ≡ size) × (r.replaced + size ≡ length) × (r.left ≡ 0) × (r.reason ≡ 0) ⌝ }
+    ensures { (result.length ≡ length) × (result.place ≡ size) × (result.replaced + size ≡ length) × (result.left ≡ 0) × (result.reason ≡ 0) }
 {
     whole(length, length - size, size)
 }
@@ -141,7 +141,7 @@ fn by_ones(length: usize, size: usize) -> Measured
 // Measures what a job makes of a valid text; `scan` is what the glance told.
 fn measure(job: Job, scan: Scan, text: &[u8]) -> Measured
     requires { (length text.now ≤ 65536) × (valid_to text.now ≡ length text.now) × Seen job scan text.now }
-    ensures* { λ r. ⌜ Measures r (through (rule_by job) text.now) ⌝ }
+    ensures { Measures result (through (rule_by job) text.now) }
 {
     match job {
         Job::EncodeHtml(_) => whole(text.len() + scan.grow, scan.replaced, text.len()),
@@ -162,7 +162,7 @@ fn measure(job: Job, scan: Scan, text: &[u8]) -> Measured
 // Judges a call on a valid text whose output has `room` bytes; `scan` is what the glance told.
 pub fn judge(job: Job, scan: Scan, borrows: bool, text: &[u8], room: usize) -> Verdict
     requires { (length text.now ≤ 65536) × (valid_to text.now ≡ length text.now) × Seen job scan text.now }
-    ensures* { λ r. ⌜ Judged (through (rule_by job) text.now) text.now borrows room r ⌝ }
+    ensures { Judged (through (rule_by job) text.now) text.now borrows room result }
 {
     if fits_any(job, borrows, text, room) {
         return Verdict::Fits;
@@ -185,8 +185,8 @@ pub fn judge(job: Job, scan: Scan, borrows: bool, text: &[u8], room: usize) -> V
 pub fn write(job: Job, scan: Scan, text: &[u8], output: &mut [u8]) -> Measured
     requires text_len_bound { (length text.now ≤ 65536) × (valid_to text.now ≡ length text.now) × Seen job scan text.now }
     requires text_value { (taken (through (rule_by job) text.now) ≡ text.now) × (length (result (through (rule_by job) text.now)) ≤ length output.old) }
-    ensures* fact { λ r. ⌜ Measures r (through (rule_by job) text.now) ⌝ }
-    ensures* output_after { λ _. ⌜ output.new ≡ over (result (through (rule_by job) text.now)) output.old ⌝ }
+    ensures fact { Measures result (through (rule_by job) text.now) }
+    ensures output_after { output.new ≡ over (result_of (through (rule_by job) text.now)) output.old }
 {
     match job {
         Job::EncodeHtml(h) => whole(

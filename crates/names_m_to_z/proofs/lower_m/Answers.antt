@@ -1,0 +1,14 @@
+-- `names_m_to_z::lower_m` meets its contract: a name is looked up in the group of its second byte as it is in all of them.
+-- Made by tools/make_names.py. Assumes nothing.
+use mathlib.Core.Path.{◌∙◌}
+use mathlib.Core.List.{◌∷◌}
+use native.Mathlib.Omega.{arith}
+use Rattle.rules.specs.Names.{lower-m}
+use Rattle.names_search.proofs.Lookups.{in-part}
+use Rattle.names_m_to_z.proofs.lower_m.Goals as goal
+
+pub returns-then-second-lt115 : goal.returns-then-second-lt115
+returns-then-second-lt115 c = c.lower_m_1.ensures ∙ in-part 1 0x00 0x72 (0x6D ∷ c.args.rest.now) (omega arith) (omega arith) lower-m
+
+pub returns : goal.returns
+returns c = c.lower_m_2.ensures ∙ in-part 1 0x73 0xFF (0x6D ∷ c.args.rest.now) (omega arith) (omega arith) lower-m

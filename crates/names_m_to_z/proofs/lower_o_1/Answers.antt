@@ -1,0 +1,12 @@
+-- `names_m_to_z::lower_o_1` meets its contract: computed, its numbers are those rows of the table.
+-- Made by tools/make_names.py. Assumes nothing.
+use Rattle.rules.specs.Names.{lower-o}
+use Rattle.names_search.specs.Listed.{listed}
+use Rattle.names_m_to_z.proofs.lower_o_1.Goals as goal
+
+pub find-requires : goal.find-requires
+find-requires c = tt
+
+pub returns : goal.returns
+unfolding lower-o listed
+returns c = c.find.ensures 0x6F

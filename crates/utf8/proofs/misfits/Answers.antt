@@ -1,0 +1,37 @@
+-- `misfits` meets its contract: while none is counted, each byte passed fits. The measure is what is left of the part.
+-- Assumes nothing.
+use mathlib.Core.Logic.{⊎_elim}
+use mathlib.Core.Path.{sym, ◌∙◌}
+use Prim.Native.Nat.{◌-◌}
+use native.Mathlib.Omega.{arith}
+use borrow.Author.Count.{below_more}
+use borrow.Author.Rules.{rules}
+use borrow.Author.Tests.{not-false}
+use Rattle.utf8.proofs.Parts.{fits-here, all_fit}
+use Rattle.utf8.proofs.misfits.Goals as goal
+
+pub returns-then-not-heads_fit : goal.returns-then-not-heads_fit
+returns-then-not-heads_fit c = λ e. absurd (omega arith)
+
+pub loop-k-init : goal.loop-k-init
+loop-k-init c = (search rules, search rules, λ e j h. absurd (omega arith))
+
+pub loop-k-preserved : goal.loop-k-preserved
+loop-k-preserved c =
+    let f = c.is_fit in
+    let l = c in
+    let s = l.args.part.now in
+    ⊎_elim
+    (λ w. (omega arith, omega arith, λ e j h. absurd (omega arith)))
+    (λ w. (
+      omega arith,
+      omega arith,
+      λ e. below_more _ _ (l.loop-k.invariant.2 (omega arith)) (fits-here s l.loop-k.k (sym f.ensures ∙ not-false f.result w.0.left)),
+    ))
+    c.if-not-is_fit.branch
+
+pub returns : goal.returns
+returns c =
+    let h = c in
+    λ e. all_fit h.args.part.now (search rules) (sym h.heads_fit.ensures ∙ not-false h.heads_fit.result c.if-not-heads_fit.false-raw)
+    (λ k (goal.at.returns h).After-heads_fit. c.loop-k.invariant.2 e k (omega arith))
