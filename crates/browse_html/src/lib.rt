@@ -165,7 +165,7 @@ pub fn measure(kind: Kind, text: &[u8]) -> Measured
 
 // Writes the result of browse to the start of `output` and returns what `measure` does; the bytes after it keep their values.
 pub fn write(kind: Kind, text: &[u8], output: &mut [u8]) -> Measured
-    requires { length (result (through (browse_step kind) text.now)) ≤ length output.old }
+    requires { length (result_of (through (browse_step kind) text.now)) ≤ length output.old }
     ensures fact { Measures result (through (browse_step kind) text.now) }
     ensures output_after { output.new ≡ over (result_of (through (browse_step kind) text.now)) output.old }
 {

@@ -62,7 +62,7 @@ pub fn measure(text: &[u8]) -> Measured
 
 // Writes the result of decode to the start of `output` and returns what `measure` does; the bytes after it keep their values.
 pub fn write(text: &[u8], output: &mut [u8]) -> Measured
-    requires { length (result (through reference_step text.now)) ≤ length output.old }
+    requires { length (result_of (through reference_step text.now)) ≤ length output.old }
     ensures fact { Measures result (through reference_step text.now) }
     ensures output_after { output.new ≡ over (result_of (through reference_step text.now)) output.old }
 {

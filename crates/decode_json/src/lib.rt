@@ -75,7 +75,7 @@ pub fn measure(text: &[u8]) -> Measured
 // Writes the result of decode to the start of `output`, leaves the bytes after it as they were, and returns what `measure` does. It goes through the
 // text as that does.
 pub fn write(text: &[u8], output: &mut [u8]) -> Measured
-    requires { length (result (through json_step text.now)) ≤ length output.old }
+    requires { length (result_of (through json_step text.now)) ≤ length output.old }
     ensures { Measures result (through json_step text.now) × (output.new ≡ over (result_of (through json_step text.now)) output.old) }
 {
     let mut at: usize = 0;

@@ -109,7 +109,7 @@ pub fn measure(text: &[u8]) -> usize
 
 // Writes the encoding of the first `end` bytes of a text to the start of `output` and returns its length; the bytes after it keep their values.
 pub fn write_to(text: &[u8], end: usize, output: &mut [u8]) -> usize
-    requires { (end ≤ length text.now) × (length (result (take end (through raw_step text.now))) ≤ length output.old) }
+    requires { (end ≤ length text.now) × (length (result_of (take end (through raw_step text.now))) ≤ length output.old) }
     ensures { (result ≡ length (result_of (take end (through raw_step text.now)))) × (output.new ≡ over (result_of (take end (through raw_step text.now))) output.old) }
 {
     let mut at: usize = 0;
@@ -128,7 +128,7 @@ pub fn write_to(text: &[u8], end: usize, output: &mut [u8]) -> usize
 
 // Writes the same; a text that is `clear`, ASCII without `<`, is copied.
 pub fn write_with(clear: bool, text: &[u8], end: usize, output: &mut [u8]) -> usize
-    requires { (end ≤ length text.now) × (length (result (take end (through raw_step text.now))) ≤ length output.old) × (clear ≡ true → Without 60 text.now) }
+    requires { (end ≤ length text.now) × (length (result_of (take end (through raw_step text.now))) ≤ length output.old) × (clear ≡ true → Without 60 text.now) }
     ensures { (result ≡ length (result_of (take end (through raw_step text.now)))) × (output.new ≡ over (result_of (take end (through raw_step text.now))) output.old) }
 {
     if clear {

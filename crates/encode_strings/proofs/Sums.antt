@@ -1,7 +1,7 @@
 -- By how much a text grows in a string: what its bytes grow by themselves, less one for each NUL in a style sheet, and three more for each line
 -- separator in a script. And how many of its places are replaced: its escaped bytes, and the line separators in a script. Assumes nothing.
 use mathlib.Core.Bool.{Bool, true, false, ◌&&◌, ◌||◌, cond}
-use mathlib.Core.Path.{◌≡◌, refl, sym, ap, ◌∙◌}
+use mathlib.Core.Path.{◌≡◌, refl, sym, ap, subst, ◌∙◌}
 use mathlib.Core.List.{List, [], ◌∷◌}
 use Prim.Native.Nat.{ℕ, suc, ◌+◌, ◌-◌, ◌*◌, ◌/◌, ◌≤◌, ◌<◌}
 use native.Mathlib.Omega.{arith}
@@ -222,7 +222,7 @@ module _ (notation : Notation) (w : separates notation ≡ true) (q : Quotes) wh
       go : (t u : Bool) → eqb b 0xE2 ≡ t → ends_of x y ≡ u → Grown notation q (x ∷ y ∷ s) → Grown notation q s → Grown notation q (b ∷ x ∷ y ∷ s)
       go false u e f i j = grown-byte b (x ∷ y ∷ s) (rw e) i
       go true false e f i j = grown-byte b (x ∷ y ∷ s) (rw (e, f)) i
-      go true true e f i j = rw (eqb-true b 0xE2 e) (grown-separator x y s f j)
+      go true true e f i j = subst (λ (z : ℕ). Grown notation q (z ∷ x ∷ y ∷ s)) (sym (eqb-true b 0xE2 e)) (grown-separator x y s f j)
 
 -- ---- as the code counts
 

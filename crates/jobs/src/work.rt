@@ -184,7 +184,7 @@ pub fn judge(job: Job, scan: Scan, borrows: bool, text: &[u8], room: usize) -> V
 // glance told.
 pub fn write(job: Job, scan: Scan, text: &[u8], output: &mut [u8]) -> Measured
     requires text_len_bound { (length text.now ≤ 65536) × (valid_to text.now ≡ length text.now) × Seen job scan text.now }
-    requires text_value { (taken (through (rule_by job) text.now) ≡ text.now) × (length (result (through (rule_by job) text.now)) ≤ length output.old) }
+    requires text_value { (taken (through (rule_by job) text.now) ≡ text.now) × (length (result_of (through (rule_by job) text.now)) ≤ length output.old) }
     ensures fact { Measures result (through (rule_by job) text.now) }
     ensures output_after { output.new ≡ over (result_of (through (rule_by job) text.now)) output.old }
 {

@@ -15,7 +15,7 @@ use Rattle.decode_json.specs.Escapes.{short_of, Tells}
 use Rattle.decode_json.proofs.Told.{short-ascii, utf8-low}
 use Rattle.decode_json.proofs.Contents.{content-quiet, halt-stops, rest-begins, single-here, short-here, halves-here, read-within, counted-told}
 use Rattle.decode_json.proofs.measure.Goals as goal
-use Rattle.decode_json.proofs.measure.Goals.{In-Taken-2, In_default, Then-e-i, Then-is_single, Then-short-ne0}
+use Rattle.decode_json.proofs.measure.Goals.{In-Taken, In_default, Then-e-i, Then-is_single, Then-short-ne0}
 
 -- What was read at this place is the move here: a number,
 
@@ -29,7 +29,7 @@ short-told c = let t = c.args.text.now in let i = c.loop-i.i in short-here t i c
 
 -- or a pair.
 
-pair-told : (c : In-Taken-2) → let t = c.args.text.now in let i = c.loop-i.i in Tells (json_step (before t i) (drop i t)) (drop i t) (Taken c.in-Taken.taken c.in-Taken.c)
+pair-told : (c : In-Taken) → let t = c.args.text.now in let i = c.loop-i.i in Tells (json_step (before t i) (drop i t)) (drop i t) (Taken c.in-Taken.taken c.in-Taken.c)
 pair-told c = let t = c.args.text.now in let i = c.loop-i.i in halves-here t i c.read_surrogates.result (Taken c.in-Taken.taken c.in-Taken.c) (omega arith) c.if-text-i-ne92.false (c.shared_slice_known-in-loop-i-1.given (i + 1)).fits (sym (c.short.ensures ∙ ap short_of c.byte_after.ensures) ∙ c.if-short-ne0.false) c.read_surrogates.ensures c.in-Taken.is
 
 -- The content ends where there is none,
@@ -163,7 +163,7 @@ read_surrogates-requires c = let b = rest-begins c.args.text.now c.loop-i.i (ome
 -- src/lib.rt:63:9
 
 pub overflow_add-length-in-loop-i : goal.overflow_add-length-in-loop-i
-overflow_add-length-in-loop-i c = let w = read-within c.args.text.now c.loop-i.i c.in-Taken.taken c.in-Taken.c (omega arith) (pair-told (goal.at.overflow_add-length-in-loop-i c).In-Taken-2) in omega (arith, c.loop-i.invariant.most, w.1, w.2, c.char_length-length-in-loop-i.ensures.0, c.requires)
+overflow_add-length-in-loop-i c = let w = read-within c.args.text.now c.loop-i.i c.in-Taken.taken c.in-Taken.c (omega arith) (pair-told (goal.at.overflow_add-length-in-loop-i c).In-Taken) in omega (arith, c.loop-i.invariant.most, w.1, w.2, c.char_length-length-in-loop-i.ensures.0, c.requires)
 
 -- src/lib.rt:64:9
 
@@ -173,17 +173,17 @@ overflow_add-escapes-in-loop-i c = omega (arith, c.loop-i.invariant.few, c.loop-
 -- src/lib.rt:65:9
 
 pub overflow_add-i-in-loop-i : goal.overflow_add-i-in-loop-i
-overflow_add-i-in-loop-i c = let w = read-within c.args.text.now c.loop-i.i c.in-Taken.taken c.in-Taken.c (omega arith) (pair-told (goal.at.overflow_add-i-in-loop-i c).In-Taken-2) in omega (arith, w.1, c.requires)
+overflow_add-i-in-loop-i c = let w = read-within c.args.text.now c.loop-i.i c.in-Taken.taken c.in-Taken.c (omega arith) (pair-told (goal.at.overflow_add-i-in-loop-i c).In-Taken) in omega (arith, w.1, c.requires)
 
 -- src/lib.rt:37:5
 
 pub loop-i-smaller : goal.loop-i-smaller
-loop-i-smaller c = let w = read-within c.args.text.now c.loop-i.i c.in-Taken.taken c.in-Taken.c (omega arith) (pair-told (goal.at.loop-i-smaller c).In-Taken-2) in omega (arith, w.0, w.1)
+loop-i-smaller c = let w = read-within c.args.text.now c.loop-i.i c.in-Taken.taken c.in-Taken.c (omega arith) (pair-told (goal.at.loop-i-smaller c).In-Taken) in omega (arith, w.0, w.1)
 
 -- src/lib.rt:37:5
 
 pub loop-i-preserved : goal.loop-i-preserved
-loop-i-preserved c = rw c.char_length-length-in-loop-i.ensures.0 (counted-told c.args.text.now c.loop-i.invariant c.in-Taken.taken c.in-Taken.c (omega arith) (pair-told (goal.at.loop-i-preserved c).In-Taken-2))
+loop-i-preserved c = rw c.char_length-length-in-loop-i.ensures.0 (counted-told c.args.text.now c.loop-i.invariant c.in-Taken.taken c.in-Taken.c (omega arith) (pair-told (goal.at.loop-i-preserved c).In-Taken))
 
 -- src/lib.rt:30:1
 

@@ -2,7 +2,7 @@
 -- what is left of the text.
 -- Assumes nothing.
 -- What the rest of the text from place i on gives.
-use mathlib.Core.List.{List, [], ◌∷◌}
+use mathlib.Core.List.{[], ◌∷◌}
 use mathlib.Core.Path.{◌≡◌, sym, ap, ◌∙◌, subst}
 use Prim.Native.Nat.{ℕ, ◌+◌, ◌-◌, ◌<◌}
 use native.Mathlib.Omega.{arith}
@@ -20,10 +20,8 @@ use Rattle.decode_json.specs.Escapes.{short_of, Tells}
 use Rattle.decode_json.proofs.Told.{short-ascii, utf8-low}
 use Rattle.decode_json.proofs.Contents.{content-quiet, halt-stops, rest-begins, single-here, short-here, halves-here, read-within, counted-told, next-told}
 use Rattle.decode_json.proofs.write.Goals as goal
-use Rattle.decode_json.proofs.write.Goals.{After-put_until-e, In-Taken-2, In_default, Then-e-i, Then-is_single, Then-s-ne0}
-
-abbrev Rest : List ℕ → ℕ → List ℕ
-Rest t i = result (from json_step t i)
+use Rattle.decode_json.proofs.write.Invariants.{Rest}
+use Rattle.decode_json.proofs.write.Goals.{After-put_until-e, In-Taken, In_default, Then-e-i, Then-is_single, Then-s-ne0}
 
 -- What was read at this place is the move here: a number,
 
@@ -37,7 +35,7 @@ short-told c = let t = c.args.text.now in let i = c.loop-i.i in short-here t i c
 
 -- or a pair.
 
-pair-told : (c : In-Taken-2) → let t = c.args.text.now in let i = c.loop-i.i in Tells (json_step (before t i) (drop i t)) (drop i t) (Taken c.in-Taken.taken c.in-Taken.c)
+pair-told : (c : In-Taken) → let t = c.args.text.now in let i = c.loop-i.i in Tells (json_step (before t i) (drop i t)) (drop i t) (Taken c.in-Taken.taken c.in-Taken.c)
 pair-told c = let t = c.args.text.now in let i = c.loop-i.i in halves-here t i c.read_surrogates.result (Taken c.in-Taken.taken c.in-Taken.c) (omega arith) c.if-text-i-ne92.false (c.shared_slice_known-in-loop-i-1.given (i + 1)).fits (sym (c.short-s.ensures ∙ ap short_of c.byte_after.ensures) ∙ c.if-s-ne0.false) c.read_surrogates.ensures c.in-Taken.is
 
 -- The content ends where there is none,
@@ -64,13 +62,24 @@ one_byte : (c : Then-s-ne0) → let t = c.args.text.now in let i = c.loop-i.i in
 one_byte c = let t = c.args.text.now in let i = c.loop-i.i in let e : c.short-s.result ≡ short_of (get_or t (i + 1) 0) = c.short-s.ensures ∙ ap short_of c.byte_after.ensures in utf8-low c.short-s.result (subst (λ (s : ℕ). s < 128) (sym e) (short-ascii _ (c.shared_slice_known-in-loop-i-1.given (i + 1)).fits))
 
 next-single : (c : Then-is_single) → let t = c.args.text.now in let i = c.loop-i.i in Next (Rest t i) (utf8 c.number-n.result) (Rest t (i + 6))
-next-single c = let t = c.args.text.now in let i = c.loop-i.i in next-told t i 6 c.number-n.result (omega arith) (single-told c)
+next-single c =
+    let single-told-here : let t = c.args.text.now in let i = c.loop-i.i in Tells (json_step (before t i) (drop i t)) (drop i t) (Taken 6 c.number-n.result) =
+        let t = c.args.text.now in let i = c.loop-i.i in single-here t i c.number-n.result c.number-n.ensures.0 c.number-n.ensures.1 (sym c.is_single.ensures ∙ c.if-is_single.true) in
+    let t = c.args.text.now in let i = c.loop-i.i in next-told t i 6 c.number-n.result (omega arith) (single-told-here)
 
 next-short : (c : Then-s-ne0) → let t = c.args.text.now in let i = c.loop-i.i in Next (Rest t i) (c.short-s.result ∷ []) (Rest t (i + 2))
-next-short c = let t = c.args.text.now in let i = c.loop-i.i in rw (one_byte c) at (next-told t i 2 c.short-s.result (omega arith) (short-told c))
+next-short c =
+    let one_byte-here : let t = c.args.text.now in let i = c.loop-i.i in utf8 c.short-s.result ≡ c.short-s.result ∷ [] =
+        let t = c.args.text.now in let i = c.loop-i.i in let e : c.short-s.result ≡ short_of (get_or t (i + 1) 0) = c.short-s.ensures ∙ ap short_of c.byte_after.ensures in utf8-low c.short-s.result (subst (λ (s : ℕ). s < 128) (sym e) (short-ascii _ (c.shared_slice_known-in-loop-i-1.given (i + 1)).fits)) in
+    let short-told-here : let t = c.args.text.now in let i = c.loop-i.i in Tells (json_step (before t i) (drop i t)) (drop i t) (Taken 2 c.short-s.result) =
+        let t = c.args.text.now in let i = c.loop-i.i in short-here t i c.short-s.result (omega arith) c.if-text-i-ne92.false (c.shared_slice_known-in-loop-i-1.given (i + 1)).fits (c.short-s.ensures ∙ ap short_of c.byte_after.ensures) c.if-s-ne0.true in
+    let t = c.args.text.now in let i = c.loop-i.i in rw (one_byte-here) at (next-told t i 2 c.short-s.result (omega arith) (short-told-here))
 
-next-pair : (c : In-Taken-2) → let t = c.args.text.now in let i = c.loop-i.i in Next (Rest t i) (utf8 c.in-Taken.c) (Rest t (i + c.in-Taken.taken))
-next-pair c = let t = c.args.text.now in let i = c.loop-i.i in next-told t i c.in-Taken.taken c.in-Taken.c (omega arith) (pair-told c)
+next-pair : (c : In-Taken) → let t = c.args.text.now in let i = c.loop-i.i in Next (Rest t i) (utf8 c.in-Taken.c) (Rest t (i + c.in-Taken.taken))
+next-pair c =
+    let pair-told-here : let t = c.args.text.now in let i = c.loop-i.i in Tells (json_step (before t i) (drop i t)) (drop i t) (Taken c.in-Taken.taken c.in-Taken.c) =
+        let t = c.args.text.now in let i = c.loop-i.i in halves-here t i c.read_surrogates.result (Taken c.in-Taken.taken c.in-Taken.c) (omega arith) c.if-text-i-ne92.false (c.shared_slice_known-in-loop-i-1.given (i + 1)).fits (sym (c.short-s.ensures ∙ ap short_of c.byte_after.ensures) ∙ c.if-s-ne0.false) c.read_surrogates.ensures c.in-Taken.is in
+    let t = c.args.text.now in let i = c.loop-i.i in next-told t i c.in-Taken.taken c.in-Taken.c (omega arith) (pair-told-here)
 
 -- src/lib.rt:85:5
 
@@ -234,32 +243,32 @@ read_surrogates-requires c = let b = rest-begins c.args.text.now c.loop-i.i (ome
 -- src/lib.rt:112:15
 
 pub put_char-at-requires-in-loop-i : goal.put_char-at-requires-in-loop-i
-put_char-at-requires-in-loop-i c = ((read-within c.args.text.now c.loop-i.i c.in-Taken.taken c.in-Taken.c (omega arith) (pair-told (goal.at.put_char-at-requires-in-loop-i c).In-Taken-2)).3, filled-room c.loop-i.invariant.1 (next-pair (goal.at.put_char-at-requires-in-loop-i c).In-Taken-2))
+put_char-at-requires-in-loop-i c = ((read-within c.args.text.now c.loop-i.i c.in-Taken.taken c.in-Taken.c (omega arith) (pair-told (goal.at.put_char-at-requires-in-loop-i c).In-Taken)).3, filled-room c.loop-i.invariant.1 (next-pair (goal.at.put_char-at-requires-in-loop-i c).In-Taken))
 
 -- src/lib.rt:112:9
 
 pub overflow_add-at-in-loop-i : goal.overflow_add-at-in-loop-i
-overflow_add-at-in-loop-i c = omega (arith, c.put_char-at-in-loop-i.ensures.0, filled_next c.loop-i.invariant.1 (next-pair (goal.at.overflow_add-at-in-loop-i c).In-Taken-2))
+overflow_add-at-in-loop-i c = omega (arith, c.put_char-at-in-loop-i.ensures.0, filled_next c.loop-i.invariant.1 (next-pair (goal.at.overflow_add-at-in-loop-i c).In-Taken))
 
 -- src/lib.rt:113:9
 
 -- src/lib.rt:114:9
 
 pub overflow_add-i-in-loop-i : goal.overflow_add-i-in-loop-i
-overflow_add-i-in-loop-i c = omega (arith, (read-within c.args.text.now c.loop-i.i c.in-Taken.taken c.in-Taken.c (omega arith) (pair-told (goal.at.overflow_add-i-in-loop-i c).In-Taken-2)).1)
+overflow_add-i-in-loop-i c = omega (arith, (read-within c.args.text.now c.loop-i.i c.in-Taken.taken c.in-Taken.c (omega arith) (pair-told (goal.at.overflow_add-i-in-loop-i c).In-Taken)).1)
 
 -- src/lib.rt:85:5
 
 pub loop-i-smaller : goal.loop-i-smaller
-loop-i-smaller c = let w = read-within c.args.text.now c.loop-i.i c.in-Taken.taken c.in-Taken.c (omega arith) (pair-told (goal.at.loop-i-smaller c).In-Taken-2) in omega (arith, w.0, w.1)
+loop-i-smaller c = let w = read-within c.args.text.now c.loop-i.i c.in-Taken.taken c.in-Taken.c (omega arith) (pair-told (goal.at.loop-i-smaller c).In-Taken) in omega (arith, w.0, w.1)
 
 -- src/lib.rt:85:5
 
 pub loop-i-preserved : goal.loop-i-preserved
 loop-i-preserved c =
     let p = c.put_char-at-in-loop-i in (
-      rw p.ensures.0 (counted-told c.args.text.now c.loop-i.invariant.0 c.in-Taken.taken c.in-Taken.c (omega arith) (pair-told (goal.at.loop-i-preserved c).In-Taken-2)),
-      filled_put c.loop-i.invariant.1 (next-pair (goal.at.loop-i-preserved c).In-Taken-2) p.new.output p.result p.ensures.0 p.ensures.1,
+      rw p.ensures.0 (counted-told c.args.text.now c.loop-i.invariant.0 c.in-Taken.taken c.in-Taken.c (omega arith) (pair-told (goal.at.loop-i-preserved c).In-Taken)),
+      filled_put c.loop-i.invariant.1 (next-pair (goal.at.loop-i-preserved c).In-Taken) p.new.output p.result p.ensures.0 p.ensures.1,
     )
 
 -- src/lib.rt:78:1

@@ -2,13 +2,17 @@
 -- what is left of the text.
 -- Assumes nothing.
 -- What the rest of the text from place i on gives.
-use Prim.Native.Nat.{◌-◌}
+use mathlib.Core.List.{List}
+use Prim.Native.Nat.{ℕ, ◌-◌}
 use lib.ListN.{length}
-use Rattle.rules.specs.Moves.{result, through}
+use Rattle.rules.specs.Moves.{result, through, from}
 use Rattle.rules.specs.Json.{json_step}
 use Rattle.base.proofs.Filled.{Filled}
 use Rattle.base.proofs.Counted.{Counted}
 use Rattle.decode_json.proofs.write.Given as goal
+
+abbrev pub Rest : List ℕ → ℕ → List ℕ
+Rest t i = result (from json_step t i)
 
 abbrev pub invariant-loop-i : goal.invariant-loop-i
 invariant-loop-i l =

@@ -1,0 +1,6 @@
+-- `encode_html::look::keys_of` meets its contract: field by field.
+-- Assumes nothing.
+use Rattle.encode_html.proofs.look.keys_of.Goals as goal
+
+pub returns : goal.returns
+returns c = rw (c.key.ensures, c.key-2.ensures, c.key-3.ensures, c.key-4.ensures)

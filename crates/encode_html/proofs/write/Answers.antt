@@ -1,0 +1,73 @@
+-- All but the last seven bytes, and then these: what the first spill the last write over, since they give at least seven.
+-- Assumes nothing.
+use mathlib.Core.List.{List}
+use mathlib.Core.Path.{sym, ap, ◌∙◌}
+use Prim.Native.Nat.{ℕ, ◌-◌}
+use native.Mathlib.Omega.{arith}
+use lib.ListN.{length, take, drop, length-drop}
+use lib.Seq.{length-take-le}
+use Rattle.rules.specs.Bytes.{over}
+use Rattle.rules.specs.Operations.{encode_of}
+use Rattle.rules.specs.declared.Context.TheVariants.{InHtml}
+use Rattle.base.proofs.Filled.{lent-rest}
+use Rattle.base.proofs.Spilt.{over-spilt}
+use Rattle.encode_html.proofs.Text.{halves, half-sizes}
+use Rattle.encode_html.proofs.write.Goals as goal
+
+pub slice_bounds-write_most-end : goal.slice_bounds-write_most-end
+slice_bounds-write_most-end c = sym (length-take-le _ _ (omega arith))
+
+pub write_most-at-requires : goal.write_most-at-requires
+write_most-at-requires c =
+    let s = c in
+    let a = s.args in
+    let t = a.text.now in
+    (c.words_of-w.ensures, omega (arith, half-sizes a.h t (length t - 7), s.requires.1))
+
+pub slice_bounds-write_exactly-count-2 : goal.slice_bounds-write_exactly-count-2
+slice_bounds-write_exactly-count-2 c =
+    let s = c in
+    let a = s.args in
+    let t = a.text.now in
+    let m = c.write_most-at in
+    omega (arith, half-sizes a.h t (length t - 7), s.requires.1, m.ensures.0, m.auto.1.1.1.1.0)
+
+pub slice_bounds-write_exactly-start-2 : goal.slice_bounds-write_exactly-start-2
+slice_bounds-write_exactly-start-2 c =
+    let s = c in
+    let a = s.args in
+    let t = a.text.now in
+    let m = c.write_most-at in
+    omega (arith, half-sizes a.h t (length t - 7), s.requires.1, m.ensures.0, m.auto.1.1.1.1.0)
+
+pub write_exactly-requires-2 : goal.write_exactly-requires-2
+write_exactly-requires-2 c =
+    let s = c in
+    let a = s.args in
+    let t = a.text.now in
+    let m = c.write_most-at in
+    let sizes = half-sizes a.h t (length t - 7) in (
+      (c.words_of-w.ensures, omega arith),
+      rw (lent-rest m.result m.new.output, length-drop) (omega (arith, s.requires.1, m.ensures.0, m.auto.1.1.1.1.0)),
+    )
+
+pub overflow_add-result : goal.overflow_add-result
+overflow_add-result c =
+    let s = c in
+    let a = s.args in
+    let t = a.text.now in
+    let m = c.write_most-at in
+    omega (arith, half-sizes a.h t (length t - 7), s.requires.1, m.ensures.0, c.write_exactly-2.ensures.0)
+
+pub returns : goal.returns
+returns c =
+    let a = c.args in
+    let t = a.text.now in
+    let m = c.write_most-at in
+    let x = c.write_exactly-2 in
+    let first = encode_of (InHtml a.h) (take (length t - 7) t) in
+    let rest = encode_of (InHtml a.h) (take (length t - (length t - 7)) (drop (length t - 7) t)) in
+    let sizes = half-sizes a.h t (length t - 7) in
+    let spilt = m.new.output in
+    let out = over-spilt 7 first rest a.output.now spilt x.new.output m.result m.ensures.0 (omega arith) m.ensures.1 x.ensures.1 in
+    (omega (arith, m.ensures.0, x.ensures.0), out ∙ ap (λ (w : List ℕ). over w a.output.now) (sym (halves a.h t (length t - 7))))
