@@ -3,8 +3,8 @@
 // it was given, and in how many of them something differed.
 #![tactic(auto)]
 
-use libc::STDOUT_FILENO;
 use lintelrye::{Answer, RawPart, RawState};
+use std::io;
 
 // More than any of the texts and results here has.
 const ROOM: usize = 64;
@@ -96,7 +96,7 @@ fn is_one_encode(given: Given, joined: &[u8], answer: Answer, whole: &[u8]) -> b
     if joined.len() < length || whole.len() < length {
         return false;
     }
-    check::same(&joined[..length], &whole[..length])
+    joined[..length] == whole[..length]
 }
 
 // Reports whether a text in three parts, cut at `a` and `b`, gives what one encode gives.
@@ -182,101 +182,107 @@ fn every_cut(text: &[u8], answer: Answer, whole: &[u8]) -> Tally {
 }
 
 // Encodes a text whole, gives it in parts in every way, and prints what one encode answers and the tally.
-fn try_text(text: &[u8]) {
+fn try_text(rt: &HostRuntime, text: &[u8]) -> io::Result<()> {
     let mut whole: [u8; ROOM] = [0; ROOM];
     let answer = lintelrye::encode(lintelrye::SCRIPT_RAW, text, &mut whole);
     let tally = every_cut(text, answer, &whole);
-    io::print_decimal(STDOUT_FILENO, answer.status as u64);
-    io::write_all(STDOUT_FILENO, b" ");
-    io::print_decimal(STDOUT_FILENO, answer.replaced as u64);
-    io::write_all(STDOUT_FILENO, b", ways ");
-    io::print_decimal(STDOUT_FILENO, tally.ways);
-    io::write_all(STDOUT_FILENO, b", differ ");
-    io::print_decimal(STDOUT_FILENO, tally.differ);
-    io::write_all(STDOUT_FILENO, b"\n");
+    print!(rt; "{}", answer.status as u64)?;
+    print!(rt; " ")?;
+    print!(rt; "{}", answer.replaced as u64)?;
+    print!(rt; ", ways ")?;
+    print!(rt; "{}", tally.ways)?;
+    print!(rt; ", differ ")?;
+    print!(rt; "{}", tally.differ)?;
+    print!(rt; "\n")?;
+    Ok(())
 }
 
 // Tries comments, and what only begins one.
-fn comments() {
-    try_text(b"");
-    try_text(b"<");
-    try_text(b"<!");
-    try_text(b"<!-");
-    try_text(b"<!--");
-    try_text(b"<!---");
-    try_text(b"<!--<!--<!--");
-    try_text(b"<!-<!---");
-    try_text(b"<!<!-<!--");
-    try_text(b"<<!--");
-    try_text(b"<!-x<!x<x");
-    try_text(b"a<!--b-->c");
-    try_text(b"!--<");
-    try_text(b"<!\xe2\x80\x93-");
+fn comments(rt: &HostRuntime) -> io::Result<()> {
+    try_text(rt, b"")?;
+    try_text(rt, b"<")?;
+    try_text(rt, b"<!")?;
+    try_text(rt, b"<!-")?;
+    try_text(rt, b"<!--")?;
+    try_text(rt, b"<!---")?;
+    try_text(rt, b"<!--<!--<!--")?;
+    try_text(rt, b"<!-<!---")?;
+    try_text(rt, b"<!<!-<!--")?;
+    try_text(rt, b"<<!--")?;
+    try_text(rt, b"<!-x<!x<x")?;
+    try_text(rt, b"a<!--b-->c")?;
+    try_text(rt, b"!--<")?;
+    try_text(rt, b"<!\xe2\x80\x93-")?;
+    Ok(())
 }
 
 // Tries end tags, and what only begins one.
-fn end_tags() {
-    try_text(b"</");
-    try_text(b"</s");
-    try_text(b"</scrip");
-    try_text(b"</script");
-    try_text(b"</script>");
-    try_text(b"</SCRIPT>");
-    try_text(b"</ScRiPt/");
-    try_text(b"</sCrIpT\x09");
-    try_text(b"</script\x0a");
-    try_text(b"</script\x0b");
-    try_text(b"</script\x0c");
-    try_text(b"</script\x0d");
-    try_text(b"</script\x1c");
-    try_text(b"</script\x1f");
-    try_text(b"</script ");
-    try_text(b"</script\x08</script\x0e");
-    try_text(b"</script\x1b</script!");
-    try_text(b"</scripts></script>");
-    try_text(b"</scr</script");
-    try_text(b"</s</sc</scr</scri</scrip");
-    try_text(b"<</script");
-    try_text(b"</script</script");
-    try_text(b"</script<!--</script>");
-    try_text(b"</ script></script");
+fn end_tags(rt: &HostRuntime) -> io::Result<()> {
+    try_text(rt, b"</")?;
+    try_text(rt, b"</s")?;
+    try_text(rt, b"</scrip")?;
+    try_text(rt, b"</script")?;
+    try_text(rt, b"</script>")?;
+    try_text(rt, b"</SCRIPT>")?;
+    try_text(rt, b"</ScRiPt/")?;
+    try_text(rt, b"</sCrIpT\x09")?;
+    try_text(rt, b"</script\x0a")?;
+    try_text(rt, b"</script\x0b")?;
+    try_text(rt, b"</script\x0c")?;
+    try_text(rt, b"</script\x0d")?;
+    try_text(rt, b"</script\x1c")?;
+    try_text(rt, b"</script\x1f")?;
+    try_text(rt, b"</script ")?;
+    try_text(rt, b"</script\x08</script\x0e")?;
+    try_text(rt, b"</script\x1b</script!")?;
+    try_text(rt, b"</scripts></script>")?;
+    try_text(rt, b"</scr</script")?;
+    try_text(rt, b"</s</sc</scr</scri</scrip")?;
+    try_text(rt, b"<</script")?;
+    try_text(rt, b"</script</script")?;
+    try_text(rt, b"</script<!--</script>")?;
+    try_text(rt, b"</ script></script")?;
+    Ok(())
 }
 
 // Tries characters of each length, whole, cut short and wrong.
-fn characters() {
-    try_text(b"\x00\x7f");
-    try_text(b"\xc2\x80\xdf\xbf");
-    try_text(b"\xe0\xa0\x80\xed\x9f\xbf");
-    try_text(b"\xee\x80\x80\xef\xbf\xbf");
-    try_text(b"\xf0\x90\x80\x80\xf4\x8f\xbf\xbf");
-    try_text(b"<\xc3\xa9<!--\xe2\x82\xac</script\xf0\x9f\x98\x80");
-    try_text(b"</script\xe2\x80\xa8");
-    try_text(b"</\xc5\xbfcript>");
-    try_text(b"ab\xc3");
-    try_text(b"ab</script\xe2\x82");
-    try_text(b"<!-\xf0\x9f\x98");
-    try_text(b"ab\xc3(c");
-    try_text(b"\xe0\x9f\xbf");
-    try_text(b"a\xed\xa0\x80");
-    try_text(b"\xf4\x90\x80\x80");
-    try_text(b"</script\x80");
-    try_text(b"<!-\xff-");
-    try_text(b"\xe2\x82\xe2\x82\xac");
+fn characters(rt: &HostRuntime) -> io::Result<()> {
+    try_text(rt, b"\x00\x7f")?;
+    try_text(rt, b"\xc2\x80\xdf\xbf")?;
+    try_text(rt, b"\xe0\xa0\x80\xed\x9f\xbf")?;
+    try_text(rt, b"\xee\x80\x80\xef\xbf\xbf")?;
+    try_text(rt, b"\xf0\x90\x80\x80\xf4\x8f\xbf\xbf")?;
+    try_text(rt, b"<\xc3\xa9<!--\xe2\x82\xac</script\xf0\x9f\x98\x80")?;
+    try_text(rt, b"</script\xe2\x80\xa8")?;
+    try_text(rt, b"</\xc5\xbfcript>")?;
+    try_text(rt, b"ab\xc3")?;
+    try_text(rt, b"ab</script\xe2\x82")?;
+    try_text(rt, b"<!-\xf0\x9f\x98")?;
+    try_text(rt, b"ab\xc3(c")?;
+    try_text(rt, b"\xe0\x9f\xbf")?;
+    try_text(rt, b"a\xed\xa0\x80")?;
+    try_text(rt, b"\xf4\x90\x80\x80")?;
+    try_text(rt, b"</script\x80")?;
+    try_text(rt, b"<!-\xff-")?;
+    try_text(rt, b"\xe2\x82\xe2\x82\xac")?;
+    Ok(())
 }
 
 // Tries scripts that are longer than a block of sixteen bytes.
-fn scripts() {
-    try_text(b"if (a < b && c > d) { e(); }");
-    try_text(b"document.write('<script></script>');");
-    try_text(b"// <!-- </script </SCRIPT> <!-");
-    try_text(b"0123456789abcde<!--f0123456789abcd</script>");
-    try_text(b"x = '\xe2\x82\xac'; y = \"<!\"; z = '</scr' + 'ipt>'");
+fn scripts(rt: &HostRuntime) -> io::Result<()> {
+    try_text(rt, b"if (a < b && c > d) { e(); }")?;
+    try_text(rt, b"document.write('<script></script>');")?;
+    try_text(rt, b"// <!-- </script </SCRIPT> <!-")?;
+    try_text(rt, b"0123456789abcde<!--f0123456789abcd</script>")?;
+    try_text(rt, b"x = '\xe2\x82\xac'; y = \"<!\"; z = '</scr' + 'ipt>'")?;
+    Ok(())
 }
 
 // Runs them all.
-fn main() {
-    comments();
-    end_tags();
-    characters();
-    scripts();
+fn main(rt: HostRuntime) -> io::Result<()> {
+    comments(&rt)?;
+    end_tags(&rt)?;
+    characters(&rt)?;
+    scripts(&rt)?;
+    Ok(())
 }

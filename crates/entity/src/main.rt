@@ -5,24 +5,22 @@
 // Where a read fails nothing is printed, and where a write fails no more than was written; standard error then says why.
 #![tactic(auto)]
 
+use std::io;
+
 // Prints the reply to a request.
-fn print_reply(input: &[u8]) {
-    let mut output = io::large_buffer();
+fn print_reply(rt: &HostRuntime, input: &[u8]) -> io::Result<()> {
+    let mut output = [0u8; 65536];
     let n = requests::reply(input, &mut output);
-    pipes::write(&output[..n]);
+    pipes::write(rt, &output[..n])
 }
 
 // Reads a request, prints the reply, and drops what follows it.
-fn main() {
+fn main(rt: HostRuntime) -> io::Result<()> {
     let mut input = [0u8; requests::ENOUGH];
-    let came = pipes::read_into(&mut input);
-    if came.failed {
-        os::fail(b"standard input");
-        return;
-    }
-    let n = came.length;
-    print_reply(&input[..n]);
+    let n = pipes::read_into(&rt, &mut input)?;
+    let printed = print_reply(&rt, &input[..n]);
     if requests::is_enough(n) {
-        pipes::drop_rest();
+        pipes::drop_rest(&rt);
     }
+    printed
 }

@@ -10,8 +10,8 @@ ghost use Rattle.rules.specs.declared.Context.TheVariants.{InHtml};
 ghost use Rattle.rules.specs.declared.Html.TheVariants.{DoubleQuoted};
 ghost use Rattle.rules.specs.declared.Operation.TheVariants.{Encode};
 
-use libc::STDOUT_FILENO;
 use lintelrye::Answer;
+use std::io;
 
 // Escapes a name for an attribute between double quotes.
 fn escape_title(name: &[u8], output: &mut [u8]) -> Answer
@@ -21,7 +21,7 @@ fn escape_title(name: &[u8], output: &mut [u8]) -> Answer
 }
 
 // Prints a plate, or that the name was refused and why.
-fn print_plate(name: &[u8]) {
+fn print_plate(rt: &HostRuntime, name: &[u8]) -> io::Result<()> {
     let mut title: [u8; 240] = [0; 240];
     let mut text: [u8; 240] = [0; 240];
     let first = escape_title(name, &mut title);
@@ -32,21 +32,23 @@ fn print_plate(name: &[u8]) {
         first.status
     };
     if status != lintelrye::PASSED {
-        io::write_all(STDOUT_FILENO, b"refused with status ");
-        io::print_decimal(STDOUT_FILENO, status as u64);
-        io::write_all(STDOUT_FILENO, b"\n");
-        return;
+        print!(rt; "refused with status ")?;
+        print!(rt; "{}", status as u64)?;
+        print!(rt; "\n")?;
+        return Ok(());
     }
-    io::write_all(STDOUT_FILENO, b"<p title=\"");
-    io::write_all(STDOUT_FILENO, lintelrye::view(name, &title, first));
-    io::write_all(STDOUT_FILENO, b"\">");
-    io::write_all(STDOUT_FILENO, lintelrye::view(name, &text, second));
-    io::write_all(STDOUT_FILENO, b"</p>\n");
+    print!(rt; "<p title=\"")?;
+    io::writer(rt).write_all(lintelrye::view(name, &title, first))?;
+    print!(rt; "\">")?;
+    io::writer(rt).write_all(lintelrye::view(name, &text, second))?;
+    print!(rt; "</p>\n")?;
+    Ok(())
 }
 
 // Prints the plates of two names, and of a third that is cut within a character.
-fn main() {
-    print_plate(b"Mum & Dad's");
-    print_plate(b"The \"den\" <attic>");
-    print_plate(b"cut \xC3");
+fn main(rt: HostRuntime) -> io::Result<()> {
+    print_plate(&rt, b"Mum & Dad's")?;
+    print_plate(&rt, b"The \"den\" <attic>")?;
+    print_plate(&rt, b"cut \xC3")?;
+    Ok(())
 }

@@ -5,44 +5,44 @@
 // Where a read fails nothing is printed, and where a write fails no more than was written; standard error then says why.
 #![tactic(auto)]
 
+use std::io;
+
 // Prints the line of a refusal, and returns whether there is one.
-fn refused(text: &[u8]) -> bool {
+fn refused(rt: &HostRuntime, text: &[u8]) -> io::Result<bool> {
     let mut output = [0u8; reports::LINE_ROOM];
     let n = reports::refuse(text, &mut output);
-    pipes::write(&output[..n]);
-    n != 0
+    pipes::write(rt, &output[..n])?;
+    Ok(n != 0)
 }
 
 // Prints the lines of the references that stay, one after the other.
-fn print_lines(text: &[u8]) {
+fn print_lines(rt: &HostRuntime, text: &[u8]) -> io::Result<()> {
     let mut output = [0u8; reports::LINE_ROOM];
     let mut from: usize = 0;
     while from < text.len() {
         let line = reports::report(text, from, &mut output);
         let n = line.length;
-        pipes::write(&output[..n]);
+        pipes::write(rt, &output[..n])?;
         from = line.next;
     }
+    Ok(())
 }
 
 // Prints all that is to be printed of a text.
-fn print_report(text: &[u8]) {
-    if !refused(text) {
-        print_lines(text);
+fn print_report(rt: &HostRuntime, text: &[u8]) -> io::Result<()> {
+    if !refused(rt, text)? {
+        print_lines(rt, text)?;
     }
+    Ok(())
 }
 
 // Reads a text, prints its lines, and drops what follows it.
-fn main() {
+fn main(rt: HostRuntime) -> io::Result<()> {
     let mut input = [0u8; reports::ENOUGH];
-    let came = pipes::read_into(&mut input);
-    if came.failed {
-        os::fail(b"standard input");
-        return;
-    }
-    let n = came.length;
-    print_report(&input[..n]);
+    let n = pipes::read_into(&rt, &mut input)?;
+    let printed = print_report(&rt, &input[..n]);
     if reports::is_enough(n) {
-        pipes::drop_rest();
+        pipes::drop_rest(&rt);
     }
+    printed
 }

@@ -16,11 +16,11 @@
 
 ghost use Rattle.std.specs.Prelude.{◌≡◌, length};
 
-use libc::STDIN_FILENO;
 use lintelrye::Operation;
 use replay_cases::cases::{Case, Expected};
 use replay_cases::{State, cases, report};
 use replay_list::{after, byte_at, read_number};
+use std::io;
 
 // Returns the state after a line that is malformed.
 fn malformed(state: State) -> State {
@@ -160,6 +160,7 @@ fn next_case(list: &[u8], letters: Letters) -> Letters {
 
 // Runs the cases of a line, of which there are at most 4 times 26 times 2. Answers whether the letters are right.
 fn each_case(
+    rt: &HostRuntime,
     list: &[u8],
     line: u64,
     first: Letters,
@@ -168,22 +169,22 @@ fn each_case(
     res: &[u8],
     output: &mut [u8],
     tally: &mut [u64],
-) -> bool {
+) -> io::Result<bool> {
     let mut letters = first;
     let mut left: usize = 209;
     while 0 < left {
         if byte_at(list, letters.operation) == b' ' {
-            return true;
+            return Ok(true);
         }
         let Asked::Names(case) = case_at(list, letters) else {
-            return false;
+            return Ok(false);
         };
         let fault = cases::run(case, expected, text, res, output);
-        report::count(line, case, fault, tally);
+        report::count(rt, line, case, fault, tally)?;
         letters = next_case(list, letters);
         left -= 1;
     }
-    false
+    Ok(false)
 }
 
 // The seven numbers of a line of cases, and the place past them; `found` is false where one is missing.
@@ -225,23 +226,24 @@ fn read_numbers(list: &[u8], at: usize) -> Numbers {
 
 // Reads a line of cases and runs them.
 fn case_line(
+    rt: &HostRuntime,
     list: &[u8],
     state: State,
     text: &[u8],
     res: &[u8],
     output: &mut [u8],
     tally: &mut [u64],
-) -> State {
+) -> io::Result<State> {
     let contexts = after(replay_list::past_letters(list, state.at));
     let kinds = after(replay_list::past_letters(list, contexts));
     let numbers = read_numbers(list, after(replay_list::past_letters(list, kinds)));
     let expected = numbers.expected;
     if !numbers.found || output.len() <= expected.room {
-        return malformed(state);
+        return Ok(malformed(state));
     }
     let next = next_line(list, state, numbers.next);
     if !next.right {
-        return next;
+        return Ok(next);
     }
     let first = Letters {
         operation: state.at,
@@ -250,49 +252,51 @@ fn case_line(
         contexts,
         kinds,
     };
-    let right = each_case(list, state.line, first, expected, text, res, output, tally);
+    let right = each_case(rt, list, state.line, first, expected, text, res, output, tally)?;
     if right {
-        return next;
+        return Ok(next);
     }
-    malformed(state)
+    Ok(malformed(state))
 }
 
 // Goes through one line.
 fn one_line(
+    rt: &HostRuntime,
     list: &[u8],
     state: State,
     text: &mut [u8],
     res: &mut [u8],
     output: &mut [u8],
     tally: &mut [u64],
-) -> State {
+) -> io::Result<State> {
     let n = state.text;
     let m = state.result;
     match byte_at(list, state.at) {
-        b'#' => remark(list, state),
-        b't' => text_line(list, state, text, res),
-        b'r' => result_line(list, state, res),
-        b'e' => end_line(list, state, report::count_at(tally, report::RAN)),
+        b'#' => Ok(remark(list, state)),
+        b't' => Ok(text_line(list, state, text, res)),
+        b'r' => Ok(result_line(list, state, res)),
+        b'e' => Ok(end_line(list, state, report::count_at(tally, report::RAN))),
         _ => {
             if text.len() < n {
-                return malformed(state);
+                return Ok(malformed(state));
             }
             if res.len() < m {
-                return malformed(state);
+                return Ok(malformed(state));
             }
-            case_line(list, state, &text[..n], &res[..m], output, tally)
+            case_line(rt, list, state, &text[..n], &res[..m], output, tally)
         }
     }
 }
 
 // Goes through the list, which has no more lines than bytes, until its end or until a line is malformed.
 fn replay(
+    rt: &HostRuntime,
     list: &[u8],
     text: &mut [u8],
     res: &mut [u8],
     output: &mut [u8],
     tally: &mut [u64],
-) -> State {
+) -> io::Result<State> {
     let mut state = State {
         at: 0,
         line: 1,
@@ -304,12 +308,12 @@ fn replay(
     let mut lines = list.len();
     while 0 < lines {
         if !state.right || state.ended {
-            return state;
+            return Ok(state);
         }
-        state = one_line(list, state, text, res, output, tally);
+        state = one_line(rt, list, state, text, res, output, tally)?;
         lines -= 1;
     }
-    state
+    Ok(state)
 }
 
 // Returns room for the list. The length is what lending a part of it asks for.
@@ -327,13 +331,13 @@ fn room() -> [u8; 1048576]
 }
 
 // Reads the list, replays it and prints the report.
-fn main() {
+fn main(rt: HostRuntime) -> io::Result<()> {
     let mut list = buffer();
     let mut text = room();
     let mut result = room();
     let mut output = room();
     let mut tally: [u64; 258] = [0; 258];
-    let n = io::read_full(STDIN_FILENO, &mut list);
-    let state = replay(&list[..n], &mut text, &mut result, &mut output, &mut tally);
-    report::all(state, &tally);
+    let n = pipes::read_into(&rt, &mut list)?;
+    let state = replay(&rt, &list[..n], &mut text, &mut result, &mut output, &mut tally)?;
+    report::all(&rt, state, &tally)
 }

@@ -20,7 +20,7 @@ pub returns-in_default : goal.returns-in_default
 returns-in_default c =
     let a = c.args in
     let f = c.find_decoded_entity in
-    λ h. left-named InText a.text.now a.start c.requires.0 c.requires.1 h f.result (λ e q. miss (1 ∷ 2 ∷ []) 0 tt (rw q at c.in_default.in_default-own.keys2)) f.ensures
+    λ h. left-named InText a.text.now a.start c.requires.0 c.requires.1 h f.result (c.in_default.not-Found) f.ensures
 
 pub returns : goal.returns
 returns c =

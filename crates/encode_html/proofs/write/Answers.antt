@@ -21,8 +21,7 @@ pub write_most-at-requires : goal.write_most-at-requires
 write_most-at-requires c =
     let s = c in
     let a = s.args in
-    let t = a.text.now in
-    (c.words_of-w.ensures, omega (arith, half-sizes a.h t (length t - 7), s.requires.1))
+    let t = a.text.now in record { w_value = c.words_of-w.ensures; text_in_bounds = omega (arith, half-sizes a.h t (length t - 7), s.requires.text_in_bounds) }
 
 pub slice_bounds-write_exactly-count-2 : goal.slice_bounds-write_exactly-count-2
 slice_bounds-write_exactly-count-2 c =
@@ -30,7 +29,7 @@ slice_bounds-write_exactly-count-2 c =
     let a = s.args in
     let t = a.text.now in
     let m = c.write_most-at in
-    omega (arith, half-sizes a.h t (length t - 7), s.requires.1, m.ensures.0, m.auto.1.1.1.1.0)
+    omega (arith, half-sizes a.h t (length t - 7), s.requires.text_in_bounds, m.ensures.value, m.auto.output)
 
 pub slice_bounds-write_exactly-start-2 : goal.slice_bounds-write_exactly-start-2
 slice_bounds-write_exactly-start-2 c =
@@ -38,7 +37,7 @@ slice_bounds-write_exactly-start-2 c =
     let a = s.args in
     let t = a.text.now in
     let m = c.write_most-at in
-    omega (arith, half-sizes a.h t (length t - 7), s.requires.1, m.ensures.0, m.auto.1.1.1.1.0)
+    omega (arith, half-sizes a.h t (length t - 7), s.requires.text_in_bounds, m.ensures.value, m.auto.output)
 
 pub write_exactly-requires-2 : goal.write_exactly-requires-2
 write_exactly-requires-2 c =
@@ -46,10 +45,7 @@ write_exactly-requires-2 c =
     let a = s.args in
     let t = a.text.now in
     let m = c.write_most-at in
-    let sizes = half-sizes a.h t (length t - 7) in (
-      (c.words_of-w.ensures, omega arith),
-      rw (lent-rest m.result m.new.output, length-drop) (omega (arith, s.requires.1, m.ensures.0, m.auto.1.1.1.1.0)),
-    )
+    let sizes = half-sizes a.h t (length t - 7) in record { w_value = (c.words_of-w.ensures, omega arith); text_in_bounds = rw (lent-rest m.result m.new.output, length-drop) (omega (arith, s.requires.text_in_bounds, m.ensures.value, m.auto.output)) }
 
 pub overflow_add-result : goal.overflow_add-result
 overflow_add-result c =
@@ -57,7 +53,7 @@ overflow_add-result c =
     let a = s.args in
     let t = a.text.now in
     let m = c.write_most-at in
-    omega (arith, half-sizes a.h t (length t - 7), s.requires.1, m.ensures.0, c.write_exactly-2.ensures.0)
+    omega (arith, half-sizes a.h t (length t - 7), s.requires.text_in_bounds, m.ensures.value, c.write_exactly-2.ensures.value)
 
 pub returns : goal.returns
 returns c =
@@ -69,5 +65,4 @@ returns c =
     let rest = encode_of (InHtml a.h) (take (length t - (length t - 7)) (drop (length t - 7) t)) in
     let sizes = half-sizes a.h t (length t - 7) in
     let spilt = m.new.output in
-    let out = over-spilt 7 first rest a.output.now spilt x.new.output m.result m.ensures.0 (omega arith) m.ensures.1 x.ensures.1 in
-    (omega (arith, m.ensures.0, x.ensures.0), out ∙ ap (λ (w : List ℕ). over w a.output.now) (sym (halves a.h t (length t - 7))))
+    let out = over-spilt 7 first rest a.output.now spilt x.new.output m.result m.ensures.value (omega arith) m.ensures.spills x.ensures.output_after in record { value = omega (arith, m.ensures.value, x.ensures.value); output_after = out ∙ ap (λ (w : List ℕ). over w a.output.now) (sym (halves a.h t (length t - 7))) }

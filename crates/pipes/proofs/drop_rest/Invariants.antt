@@ -1,9 +1,5 @@
 -- `drop_rest` is safe and ends. The measure is the number of turns that are left, and nothing has to hold from turn to turn.
--- Assumes nothing.
 use Rattle.pipes.proofs.drop_rest.Given as goal
 
-abbrev pub invariant-loop-turns : goal.invariant-loop-turns
-invariant-loop-turns l = Unit {0}
-
 abbrev pub decreases-loop-turns : goal.decreases-loop-turns
-decreases-loop-turns l = l.turns
+decreases-loop-turns g l = l.turns

@@ -8,10 +8,10 @@ use Rattle.encode_html.proofs.Text.{next-byte, next-none}
 use Rattle.encode_html.proofs.fill.write_bytes.Goals as goal
 
 pub loop-i-init : goal.loop-i-init
-loop-i-init c = (search rules, spilt-start _ _ c.requires.1)
+loop-i-init c = (search rules, spilt-start _ _ c.requires.text_in_bounds)
 
 pub word-requires : goal.word-requires
-word-requires c = c.requires.0
+word-requires c = c.requires.w_value
 
 pub write_byte-at-requires : goal.write_byte-at-requires
 write_byte-at-requires c =
@@ -31,10 +31,10 @@ loop-i-preserved c =
     let l = c.loop-i in
     let p = c.write_byte-at in
     let next = next-byte s.args.h s.args.text.now l.i (search rules) in
-    (search rules, spilt-put l.invariant.1 next (omega arith) p.new.output p.result p.ensures.0 p.auto.1.1.1.0 p.ensures.1)
+    (search rules, spilt-put l.invariant.1 next (omega arith) p.new.output p.result p.ensures.0 p.auto.output p.ensures.1)
 
 pub returns : goal.returns
 returns c =
     let s = c in
     let l = c.loop-i in
-    spilt-end (rw (next-none s.args.h s.args.text.now l.i c.loop-i-test.false) at l.invariant.1)
+    let e = spilt-end (rw (next-none s.args.h s.args.text.now l.i c.loop-i-test.false) at l.invariant.1) in record { value = e.0; spills = e.1 }

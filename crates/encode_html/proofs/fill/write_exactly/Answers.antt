@@ -9,26 +9,27 @@ use Rattle.encode_html.proofs.fill.write_exactly.Goals as goal
 
 pub write_bytes-n-requires : goal.write_bytes-n-requires
 write_bytes-n-requires c =
-    let s = c in
-    (s.requires.0.0, omega (arith, encode-six (InHtml s.args.h) tt s.args.text.now, s.requires.0.1))
+    let s = c in record { w_value = s.requires.w_value.0; text_in_bounds = omega (arith, encode-six (InHtml s.args.h) tt s.args.text.now, s.requires.w_value.1) }
 
 pub slice_bounds-buffer-end : goal.slice_bounds-buffer-end
 slice_bounds-buffer-end c =
     let s = c in
     let p = c.write_bytes-n in
-    omega (arith, p.ensures.0, p.auto.1.1.1.0, encode-six (InHtml s.args.h) tt s.args.text.now, s.requires.0.1)
+    omega (arith, p.ensures.value, p.auto.output, encode-six (InHtml s.args.h) tt s.args.text.now, s.requires.w_value.1)
 
 pub slice_bounds-put-end : goal.slice_bounds-put-end
 slice_bounds-put-end c =
     let p = c.write_bytes-n in
-    p.ensures.0 ∙ sym (ap length (rw (← p.ensures.0) at p.ensures.1.0))
+    p.ensures.value ∙ sym (ap length (rw (← p.ensures.value) at p.ensures.spills.0))
 
 pub put-requires : goal.put-requires
 put-requires c =
     let p = c.write_bytes-n in
-    rw (p.ensures.0, p.ensures.1.0) c.requires.1
+    rw (p.ensures.value, p.ensures.spills.0) c.requires.text_in_bounds
 
 pub returns : goal.returns
 returns c =
-    let p = c.write_bytes-n in
-    rw (p.ensures.0, p.ensures.1.0) at c.put.ensures
+    let p = c.write_bytes-n in record {
+      value = rw (p.ensures.value, p.ensures.spills.0) at c.put.ensures.0;
+      output_after = rw (p.ensures.value, p.ensures.spills.0) at c.put.ensures.1;
+    }

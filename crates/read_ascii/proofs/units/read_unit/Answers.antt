@@ -14,7 +14,7 @@ find_decoded_entity-requires c = (c.requires.0, c.requires.1)
 pub returns-in_default : goal.returns-in_default
 returns-in_default c =
     let s = c in
-    left-read s.args.text.now s.args.at s.requires.0 s.requires.1 c.find_decoded_entity.result (λ e q. miss (1 ∷ 2 ∷ []) 0 tt (rw q at c.in_default.in_default-own.keys2)) c.find_decoded_entity.ensures
+    left-read s.args.text.now s.args.at s.requires.0 s.requires.1 c.find_decoded_entity.result (c.in_default.not-Found) c.find_decoded_entity.ensures
 
 pub put_value-requires : goal.put_value-requires
 put_value-requires c = ((subst (Lies c.args.text.now c.args.at) c.in-Found.is c.find_decoded_entity.ensures.lies).3, omega (arith, value-six c.in-Found.found.value))
