@@ -1,7 +1,7 @@
 -- `measure` meets its contract: what is counted so far, with what the reader makes of the rest, is what it makes of the whole, the text so far is ASCII, and
 -- the places so far are kept (Turns, Kept). The measure is what is left of the text.
 -- Assumes nothing.
-use Rattle.std.proofs.Common.{◌≡◌, ℕ, ◌+◌, ◌-◌, ◌≤◌, List, length, sym, refl, ap, ◌∙◌, subst, arith, length-set, rules}
+use Rattle.std.proofs.Common.{◌≡◌, ℕ, ◌+◌, ◌≤◌, List, length, sym, refl, ap, ◌∙◌, subst, arith, length-set, rules}
 use Rattle.rules.specs.declared.Html.TheVariants.{Unquoted}
 use Rattle.base.specs.Places.{Absent, Nearest}
 use Rattle.marks.specs.Marks.{start_of}

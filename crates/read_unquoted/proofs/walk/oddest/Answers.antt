@@ -1,6 +1,6 @@
 -- `oddest` meets its contract. The invariant: the bits that are joined are 0 only where every byte that is passed is a letter or digit.
 -- Assumes nothing.
-use Rattle.std.proofs.Common.{◌≡◌, ◌+◌, ◌-◌, true, arith, rules}
+use Rattle.std.proofs.Common.{◌≡◌, ◌+◌, true, arith, rules}
 use Rattle.base.proofs.Firsts.{free_step}
 use Rattle.plain.specs.Plain.{special_at}
 use Rattle.read_unquoted.proofs.Letters.{plain_at, or-none}

@@ -1,6 +1,6 @@
 -- `pass` meets its contract. The invariant: every byte that is passed is a letter or digit.
 -- Assumes nothing.
-use Rattle.std.proofs.Common.{◌+◌, ◌-◌, true, rules}
+use Rattle.std.proofs.Common.{◌+◌, true, rules}
 use Rattle.base.proofs.Firsts.{free-start, free-join}
 use Rattle.plain.specs.Plain.{special_at}
 use Rattle.read_unquoted.proofs.walk.pass.Goals as goal

@@ -1,6 +1,6 @@
 -- `walk` meets its contract. The invariant: every byte that is passed is a letter or digit.
 -- Assumes nothing.
-use Rattle.std.proofs.Common.{◌-◌, true, sym, ◌∙◌, rules}
+use Rattle.std.proofs.Common.{true, sym, ◌∙◌, rules}
 use Rattle.base.proofs.Firsts.{free-start, free_step}
 use Rattle.plain.specs.Plain.{special_at}
 use Rattle.read_units.proofs.Turns.{affirmed}
