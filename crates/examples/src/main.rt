@@ -41,7 +41,14 @@ fn print_bytes(rt: &HostRuntime, bytes: &[u8]) -> io::Result<()> {
 }
 
 // Runs one example with an output that is lent whole, and prints both calls.
-fn show(rt: &HostRuntime, example: usize, operation: Operation, context: u32, text: &[u8], output: &mut [u8]) -> io::Result<()> {
+fn show(
+    rt: &HostRuntime,
+    example: usize,
+    operation: Operation,
+    context: u32,
+    text: &[u8],
+    output: &mut [u8],
+) -> io::Result<()> {
     print_number(rt, example)?;
     let lent = lintelrye::call(operation, context, true, text, output);
     print_answer(rt, lent)?;
@@ -58,10 +65,16 @@ fn long_texts(rt: &HostRuntime) -> io::Result<()> {
     let letters = [b'a'; 65537];
     let mut output: [u8; 65536] = [0; 65536];
     print_number(rt, 15)?;
-    print_answer(rt, lintelrye::encode(lintelrye::TEXT, &letters[..65536], &mut output))?;
+    print_answer(
+        rt,
+        lintelrye::encode(lintelrye::TEXT, &letters[..65536], &mut output),
+    )?;
     print!(rt; "\n")?;
     print_number(rt, 15)?;
-    print_answer(rt, lintelrye::encode(lintelrye::TEXT, &letters, &mut output))?;
+    print_answer(
+        rt,
+        lintelrye::encode(lintelrye::TEXT, &letters, &mut output),
+    )?;
     print!(rt; "\n")?;
     Ok(())
 }
@@ -126,16 +139,32 @@ fn refusals(rt: &HostRuntime) -> io::Result<()> {
     let mut of_5: [u8; 5] = [0; 5];
     let mut of_4: [u8; 4] = [0; 4];
     let mut of_3: [u8; 3] = [0; 3];
-    show(rt, 
+    show(
+        rt,
         12,
         Operation::Read,
         lintelrye::TEXT_MINIMAL,
         b"a&lt;&gt;",
         &mut of_64,
     )?;
-    show(rt, 14, Operation::Decode, lintelrye::TEXT, b"&nGt;", &mut of_64)?;
-    show(rt, 14, Operation::Decode, lintelrye::TEXT, b"&nGt;", &mut of_5)?;
-    show(rt, 
+    show(
+        rt,
+        14,
+        Operation::Decode,
+        lintelrye::TEXT,
+        b"&nGt;",
+        &mut of_64,
+    )?;
+    show(
+        rt,
+        14,
+        Operation::Decode,
+        lintelrye::TEXT,
+        b"&nGt;",
+        &mut of_5,
+    )?;
+    show(
+        rt,
         15,
         Operation::Encode,
         lintelrye::TEXT,
@@ -150,7 +179,14 @@ fn refusals(rt: &HostRuntime) -> io::Result<()> {
 // Runs examples 17 and 18: browse, and the empty text in each operation.
 fn others(rt: &HostRuntime) -> io::Result<()> {
     let mut of_64: [u8; 64] = [0; 64];
-    show(rt, 17, Operation::Browse, lintelrye::TEXT, b"&#0;", &mut of_64)?;
+    show(
+        rt,
+        17,
+        Operation::Browse,
+        lintelrye::TEXT,
+        b"&#0;",
+        &mut of_64,
+    )?;
     show(rt, 18, Operation::Encode, lintelrye::TEXT, b"", &mut of_64)?;
     show(rt, 18, Operation::Decode, lintelrye::TEXT, b"", &mut of_64)?;
     show(rt, 18, Operation::Read, lintelrye::TEXT, b"", &mut of_64)?;

@@ -1,6 +1,6 @@
 -- A reply and its answer.
 -- Assumes nothing.
-use Rattle.std.specs.Prelude.{cond, ◌≡◌, ℕ, ◌<◌, eqb}
+use Rattle.std.specs.Prelude.{cond, ◌≡◌, ◌<◌, eqb}
 use Rattle.rules.specs.declared.Answer.{Answer}
 use Rattle.frame.specs.declared.Reply.{Reply}
 

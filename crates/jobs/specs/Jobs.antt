@@ -11,7 +11,6 @@ use Rattle.rules.specs.Browsing.{browse_step}
 use Rattle.rules.specs.Operations.{decode_step, encode_of}
 use Rattle.rules.specs.Refusals.{answer_by, out_by}
 use Rattle.rules.specs.declared.Answer.{Answer}
-use Rattle.rules.specs.declared.Html.{Html}
 use Rattle.rules.specs.declared.Html.TheVariants.{Quoted}
 use Rattle.rules.specs.declared.Context.TheVariants.{InHtml, InScript, InStyle, InJson, InAscii}
 use Rattle.encode_html.specs.declared.Scan.{Scan}

@@ -12,6 +12,7 @@ ghost use Rattle.rules.specs.declared.Operation.TheVariants.{Encode};
 
 use lintelrye::Answer;
 use std::io;
+use std::io::Write;
 
 // Escapes a name for an attribute between double quotes.
 fn escape_title(name: &[u8], output: &mut [u8]) -> Answer

@@ -1,4 +1,3 @@
 pub mod Turns
 pub mod Loop
-pub mod Lent
 pub mod Numbers

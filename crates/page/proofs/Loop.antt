@@ -12,13 +12,12 @@ use borrow.Author.Tests.{eq-eqb, ne_eqb, eqb-true, eqb-false, lt-ltb, le-ltb, lt
 use lib.Dec.{eqb, ltb}
 use lib.ListN.{length as size, get_or, set, take, drop, length-set, take-append-drop}
 use lib.Seq.{set-get_or, get_or-drop, drop-cons, drop-set-lt, take-suc-set, set_split, take_all, map-set_same, drop-length}
-use Rattle.rules.specs.Pages.{single, leaves, field_limit, filled_as, answered, Page, behind, output_by, fill_from, page_of, PageAllowed}
+use Rattle.rules.specs.Pages.{single, field_limit, filled_as, answered, Page, behind, output_by, fill_from, page_of}
 use Rattle.rules.specs.declared.Answer.{Answer}
 use Rattle.rules.specs.declared.Field.{Field}
 use Rattle.rules.specs.declared.Filled.{Filled}
-use Rattle.rules.proofs.Pages.{single-size, single-refused, output-size, fill-passed, fill-refused, page-fill, page-too-long}
-use Rattle.page.specs.Turns.{begun, turned, turned_to, turned_by, output_after, nobody, next, after}
-use Rattle.page.specs.declared.Turned.{Turned}
+use Rattle.rules.proofs.Pages.{single-refused, output-size, fill-passed, fill-refused}
+use Rattle.page.specs.Turns.{turned, turned_to, turned_by, output_after, nobody, next, after}
 
 module _ (text : List ℕ) (p : Page) (k : ℕ) where
   abbrev f : Field

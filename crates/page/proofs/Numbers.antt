@@ -8,10 +8,9 @@ use native.Mathlib.Numerals.{add-one}
 use native.Mathlib.Omega.{arith}
 use lib.ListN.{length as size, get_or, set, take, drop, length-append, length-take, length-drop}
 use lib.Seq.{drop-append-add, take-append-add, take_all, get_or-take}
-use Rattle.rules.specs.Pages.{field_numbers, field_size, field_as, answer_as, records_of, laid, records_in, Page, page_of, NumbersAllowed}
+use Rattle.rules.specs.Pages.{field_numbers, field_size, field_as, records_of, laid, records_in, Page, page_of, NumbersAllowed}
 use Rattle.rules.specs.declared.Field.{Field}
 use Rattle.rules.specs.declared.Filled.{Filled}
-use Rattle.rules.specs.declared.Answer.{Answer}
 use Rattle.page.specs.Turns.{begun, turned, output_after, nobody, after}
 use Rattle.page.specs.declared.Turned.{Turned}
 use Rattle.page.proofs.Turns.{drop_past}

@@ -19,7 +19,6 @@ use Rattle.rules.specs.declared.Field.{Field}
 use Rattle.rules.specs.declared.Filled.{Filled}
 use Rattle.rules.proofs.Pages.{in-text-iff, single-outside, single-passed}
 use Rattle.page.specs.Turns.{outside_at, outside_by, turned_to, turned_by, turned, output_after}
-use Rattle.page.specs.declared.Turned.{Turned}
 
 -- The part of a record that passes the test ends in the text.
 pub part-ends : (text : List ℕ) (f : Field) (b : Bool) → b ≡ in_text text f → b ≡ true → f.start + f.length ≤ size text

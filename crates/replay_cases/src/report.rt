@@ -7,6 +7,7 @@ use lintelrye::{Operation, labels};
 use replay_list::{after, line_end};
 use rules::AnyContext;
 use std::io;
+use std::io::Write;
 
 // The kinds of cases are an operation in a context: 32 numbers for each operation, the last of them for all numbers of no context.
 const NO_CONTEXT: usize = 31;
@@ -153,7 +154,13 @@ fn print_call<R: Print>(rt: &R, case: Case, difference: Difference) -> io::Resul
 }
 
 // Prints a case that differs: its number, the line of the list, and the call.
-fn print_case<R: Print>(rt: &R, ran: u64, line: u64, case: Case, difference: Difference) -> io::Result<()> {
+fn print_case<R: Print>(
+    rt: &R,
+    ran: u64,
+    line: u64,
+    case: Case,
+    difference: Difference,
+) -> io::Result<()> {
     print(rt, b"case ")?;
     print_number(rt, ran)?;
     print(rt, b", line ")?;
@@ -164,7 +171,13 @@ fn print_case<R: Print>(rt: &R, ran: u64, line: u64, case: Case, difference: Dif
 }
 
 // Counts a case that ran, and prints it where it is among the first ten that differ.
-pub fn count<R: Print>(rt: &R, line: u64, case: Case, difference: Difference, tally: &mut [u64]) -> io::Result<()> {
+pub fn count<R: Print>(
+    rt: &R,
+    line: u64,
+    case: Case,
+    difference: Difference,
+    tally: &mut [u64],
+) -> io::Result<()> {
     let kind = kind_of(case);
     add_one(tally, kind);
     add_one(tally, RAN);
