@@ -3,15 +3,15 @@
 use mathlib.Core.Bool.{Bool, true, false, cond}
 use mathlib.Core.Option.{some}
 use mathlib.Core.Path.{◌≡◌, refl, sym, ap, ◌∙◌}
-use mathlib.Core.List.{List, [], ◌∷◌, ◌++◌, append_assoc, append-nil}
-use Prim.Native.Nat.{ℕ, ◌+◌, ◌*◌, ◌≤◌, ◌<◌}
+use mathlib.Core.List.{List, [], ◌++◌, append_assoc, append-nil}
+use Prim.Native.Nat.{ℕ, ◌+◌, ◌≤◌, ◌<◌}
 use native.Mathlib.Omega.{arith}
 use borrow.Author.Tests.{lt-ltb, ltb-true, ltb-false, ne_eqb}
 use lib.Dec.{eqb, ltb}
 use lib.ListN.{length as size, take, drop, length-append, length-take, drop_of_length-le}
 use lib.Seq.{take_all}
 use Rattle.rules.specs.Bytes.{ascii, over}
-use Rattle.rules.specs.Moves.{Rule, reason_number, lefts}
+use Rattle.rules.specs.Moves.{Rule, lefts}
 use Rattle.rules.specs.References.{decode_char, reference_step}
 use Rattle.rules.specs.Reasons.{lefts_in}
 use Rattle.rules.specs.Operations.{decode_step}
@@ -19,7 +19,6 @@ use Rattle.rules.specs.Refusals.{Case, too_long, case_by, moves_in, answer_at}
 use Rattle.rules.specs.Program.{decimal, decoding, left_lines, reasons_of}
 use Rattle.rules.specs.declared.Html.TheVariants.{Text}
 use Rattle.rules.specs.declared.Context.TheVariants.{InHtml}
-use Rattle.rules.specs.declared.Reason.{Reason}
 use Rattle.rules.proofs.Reasons.{lefts-here}
 use Rattle.decode_html.specs.Taking.{NextLeft}
 use Rattle.requests.proofs.Digits.{digits-length}

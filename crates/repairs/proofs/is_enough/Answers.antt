@@ -3,11 +3,7 @@
 use mathlib.Core.Path.{sym, subst}
 use lib.Dec.{T, leb→le}
 use Rattle.repairs.proofs.Enough.{enough}
-use Rattle.repairs.proofs.is_enough.Statement.{statement}
-use Rattle.repairs.proofs.is_enough.Tie as tie
+use Rattle.repairs.proofs.is_enough.Goals as goal
 
-returns : tie.Need-returns
+pub returns : goal.returns
 returns c = λ e s. enough s c.args.n (leb→le 8220 c.args.n (subst T (sym e) tt))
-
-pub is-enough-spec : {M : Type 1} → statement M
-is-enough-spec = tie.close (tie.spec returns)
