@@ -1,8 +1,8 @@
 -- A name that `escape_title` wrote can be had back: where both calls pass, `take` gives the name itself. By the laws of the library alone: what take gives
 -- encodes to what it took, that is what was written for the name, and no two names are written alike.
 -- Assumes nothing.
-use mathlib.Core.Bool.{Bool, false}
-use mathlib.Core.Path.{◌≡◌, sym, ◌∙◌}
+use mathlib.Core.Bool.{false}
+use mathlib.Core.Path.{◌≡◌, ◌∙◌}
 use mathlib.Core.List.{List, [], ◌∷◌}
 use Prim.Native.Nat.{ℕ}
 use Rattle.rules.specs.Bytes.{In, All}

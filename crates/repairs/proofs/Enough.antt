@@ -14,7 +14,7 @@ use Rattle.rules.specs.Refusals.{check_of}
 use Rattle.rules.specs.declared.AnyContext.{AnyContext}
 use Rattle.rules.specs.declared.Operation.TheVariants.{Read}
 use Rattle.requests.proofs.Enough.{context-cut}
-use Rattle.repairs.specs.Repair.{is_html, status_of, status_line, mended, repaired, repaired_by, repair_of}
+use Rattle.repairs.specs.Repair.{is_html, status_line, mended, repaired, repaired_by, repair_of}
 
 -- Of a field that is too long only the context matters.
 long-field : (n : AnyContext) (t : List ℕ) → 8192 < size t → repaired n t ≡ cond (is_html n) (status_line 1) (status_line 5)
