@@ -8,7 +8,7 @@ use mathlib.Core.Option.{Option, none, some}
 use mathlib.Core.Path.{◌≡◌, refl, sym, ap, ◌∙◌, subst}
 use mathlib.Core.List.{List, [], ◌∷◌, ◌++◌, map, append_assoc, append-nil}
 use Prim.Native.Nat.{ℕ, ◌<◌}
-use lib.Dec.{T, eqb, leb, ltb, eqb→eq, T_not}
+use lib.Dec.{T, leb, eqb→eq, T_not}
 use lib.ListN.{take}
 use Rattle.rules.specs.Bytes.{In, All, all, only, join, fits, one_of}
 use Rattle.rules.specs.Moves.{Move, keep, swap, leave, stop, takes, gives, moves, through, taken, result}
@@ -20,7 +20,7 @@ use Rattle.places.specs.Places.{Effect, leaves, means, Entry, Place, entry_at, a
 use Rattle.rules.specs.Ascii.{by_rule}
 use Rattle.rules.specs.declared.Kind.{Kind}
 use Rattle.rules.specs.declared.Context.{Context}
-use Rattle.rules.proofs.Tests.{and_left, and_right, and_both, or_cases, or_right, is_false, all_in, any-in, in-same}
+use Rattle.rules.proofs.Tests.{and_left, and_right, and_both, or_cases, or_right, is_false, all_in, in-same}
 use Rattle.rules.proofs.Machine.{singly, result-singly}
 use Rattle.rules.proofs.Chars.{is_tail, char-tails}
 use Rattle.rules.proofs.AsciiBrowsed.{browsed}

@@ -1,7 +1,7 @@
 -- What ascii_quoted writes by rule, in any place. One that reads references takes it whole, for the character that a browser takes it for; its bytes are letters,
 -- digits and `&`, `#`, `;`, which other places take one by one.
 -- Assumes nothing.
-use mathlib.Core.Bool.{Bool, true, false, not, ◌&&◌, ◌||◌}
+use mathlib.Core.Bool.{Bool, true, false, not, ◌||◌}
 use mathlib.Core.Logic.{◌⊎◌, inl, inr}
 use mathlib.Core.Option.{Option, none, some, none-ne-some}
 use mathlib.Core.Path.{◌≡◌, refl, sym, ap, ◌∙◌, subst}
@@ -10,8 +10,8 @@ use Prim.Native.Nat.{ℕ, ◌≤◌, ◌<◌}
 use native.Mathlib.Omega.{arith}
 use lib.Dec.{T, eqb, leb, leb→le, le→leb, ltb→lt, T_not}
 use Rattle.rules.specs.Bytes.{ascii, all, bytes, inside}
-use Rattle.rules.specs.Moves.{Move, swap, takes, gives, moves, taken, result}
-use Rattle.rules.specs.Utf8.{IsChar, utf8, code_of}
+use Rattle.rules.specs.Moves.{Move, swap, gives, moves, taken, result}
+use Rattle.rules.specs.Utf8.{IsChar, code_of}
 use Rattle.rules.specs.Ascii.{is_high, body_for, by_rule}
 use Rattle.rules.specs.References.{renumbering, stands_for}
 use Rattle.rules.specs.Browsing.{reference_at}

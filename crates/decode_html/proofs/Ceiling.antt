@@ -1,7 +1,7 @@
 -- Numbers under a ceiling: what is above every character's number stays above it, and every number above stands for the same, so that the
 -- ceiling may take its place at each digit.
 -- Assumes nothing.
-use mathlib.Core.Bool.{Bool, true, false, not, ◌&&◌, ◌||◌, cond}
+use mathlib.Core.Bool.{Bool, true, false, not, cond}
 use mathlib.Core.Logic.{◌⊎◌, inl, inr}
 use mathlib.Core.Option.{Option, none, some, none-ne-some, some-ne-none}
 use mathlib.Core.Path.{◌≡◌, refl, sym, ap, ◌∙◌}

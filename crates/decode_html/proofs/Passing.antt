@@ -1,6 +1,5 @@
 -- What decode leaves from a place on: bytes before the next `&` are kept, a reference that gives way leaves nothing, and one that stays comes first.
 -- Assumes nothing.
-use mathlib.Core.Option.{Option, none, some}
 use mathlib.Core.Path.{◌≡◌, refl, sym, ap, ◌∙◌}
 use mathlib.Core.List.{List, [], ◌∷◌}
 use Prim.Native.Nat.{ℕ, zero, suc, ◌+◌, ◌-◌, ◌≤◌, ◌<◌}
@@ -10,13 +9,12 @@ use Rattle.rules.specs.Moves.{Move, reason_number}
 use Rattle.rules.specs.References.{reference_step}
 use Rattle.rules.specs.Reasons.{reason_in, left_here, lefts_in}
 use Rattle.rules.specs.declared.Reason.{Reason}
-use Rattle.rules.specs.declared.DecodedEntity.{DecodedEntity}
 use Rattle.rules.specs.declared.Reference.{Reference}
 use Rattle.rules.specs.declared.Reference.TheVariants.{Found, Left, Nothing}
 use Rattle.rules.proofs.Loops.{drop-next}
 use Rattle.rules.proofs.Reasons.{reason-some}
 use Rattle.base.specs.Places.{Nearest}
-use Rattle.decode_html.specs.Taking.{Reads, left_number, NextLeft}
+use Rattle.decode_html.specs.Taking.{Reads, left_number}
 use Rattle.decode_html.proofs.Readings.{step-quiet}
 
 module _ (t : List ℕ) where

@@ -6,7 +6,7 @@ use mathlib.Core.Path.{◌≡◌, refl, sym, ap, ◌∙◌, subst}
 use mathlib.Core.List.{List, [], ◌∷◌, ◌++◌}
 use Prim.Native.Nat.{ℕ, ◌+◌, ◌-◌, ◌*◌, ◌/◌, ◌%◌, ◌≤◌, ◌<◌}
 use native.Mathlib.Omega.{arith}
-use lib.Dec.{T, leb, ltb, eqb, eqb→eq, eqb_refl, leb→le, ltb→lt}
+use lib.Dec.{T, leb, ltb, eqb, eqb→eq, eqb_refl, leb→le}
 use lib.ListN.{length, drop, get_or}
 use lib.Seq.{drop-append_seam}
 use borrow.Author.Tests.{lt-ltb, le-ltb, ltb-true}

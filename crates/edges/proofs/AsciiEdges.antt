@@ -1,6 +1,6 @@
 -- The edges of ascii_quoted hold: each table is one computed test.
 -- Assumes nothing.
-use mathlib.Core.Bool.{not, ◌&&◌}
+use mathlib.Core.Bool.{not}
 use lib.Dec.{T}
 use Rattle.rules.specs.Bytes.{all}
 use Rattle.rules.specs.Utf8.{char_step, is_cut}

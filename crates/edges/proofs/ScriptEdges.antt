@@ -1,6 +1,5 @@
 -- The script data states, the bytes that end a name and the places hold, by computing.
 -- Assumes nothing.
-use Prim.Native.Nat.{ℕ}
 use lib.Dec.{T}
 use Rattle.rules.specs.Bytes.{count, all}
 use Rattle.rules.specs.ScriptData.{closing_tag}

@@ -1,6 +1,6 @@
 -- RULES 27 at its edges: which body is written for a character, and texts with what each operation makes of them in ascii_quoted.
 -- Assumes nothing.
-use Rattle.std.specs.Prelude.{Bool, true, false, not, ◌&&◌, List, [], ◌∷◌, ◌++◌, ℕ}
+use Rattle.std.specs.Prelude.{Bool, ◌&&◌, List, [], ◌∷◌, ◌++◌, ℕ}
 use Prim.Native.String.{String}
 use Rattle.rules.specs.Bytes.{ascii, same_bytes}
 use Rattle.rules.specs.Utf8.{utf8}

@@ -7,7 +7,6 @@ use Rattle.rules.specs.Bytes.{ascii, count, bytes, join, only, Range, inside, on
 use Rattle.rules.specs.Moves.{Move, keep, swap, leave, stop, takes, gives, reason_number}
 use Rattle.rules.specs.Utf8.{valid_to, utf8, substitute}
 use Rattle.rules.specs.Contexts.{context_of}
-use Rattle.rules.specs.Tables.{value}
 use Rattle.rules.specs.Encoding.{closes}
 use Rattle.rules.specs.Refusals.{refusal, check_of}
 use Rattle.rules.specs.Answers.{reference_move, escape_move, replaced_move}

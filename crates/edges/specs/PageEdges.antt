@@ -3,7 +3,7 @@
 use Rattle.std.specs.Prelude.{Bool, true, false, ◌&&◌, List, [], ◌∷◌, ◌++◌, map, ℕ, ◌-◌, ◌^◌, eqb, take}
 use Rattle.rules.specs.Bytes.{ascii, count, same_bytes}
 use Rattle.rules.specs.Refusals.{refusal}
-use Rattle.rules.specs.Pages.{Page, answer_numbers, page_of}
+use Rattle.rules.specs.Pages.{answer_numbers, page_of}
 use Rattle.rules.specs.declared.Field.{Field}
 
 -- A record that asks for a context, a start and a length. What it holds of an earlier page is 9 throughout.

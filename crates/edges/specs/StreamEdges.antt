@@ -1,11 +1,11 @@
 -- RULES 17, of section 20: each escaped pattern and each kind of sequence cut at every place, with how many bytes are held there; and calls in states of
 -- every kind, with their answers and the states after them.
 -- Assumes nothing.
-use Rattle.std.specs.Prelude.{Bool, true, false, ◌&&◌, cond, List, [], ◌∷◌, ◌++◌, map, ℕ, suc, ◌+◌, eqb, length as size, take, drop}
+use Rattle.std.specs.Prelude.{Bool, true, false, ◌&&◌, cond, List, [], ◌∷◌, ◌++◌, map, ℕ, suc, eqb, length as size, take, drop}
 use Rattle.rules.specs.Bytes.{ascii, all, count, same_bytes}
 use Rattle.rules.specs.Moves.{result}
 use Rattle.rules.specs.Operations.{raw_of}
-use Rattle.rules.specs.Stream.{held, settled_moves, started, holding, held_in, PartCall, part_case, part_answer, part_state, part_moves, part_call}
+use Rattle.rules.specs.Stream.{held, settled_moves, started, holding, held_in, PartCall, part_case, part_answer, part_state, part_call}
 use Rattle.rules.specs.declared.Answer.{Answer}
 use Rattle.rules.specs.declared.RawState.{RawState}
 

@@ -1,16 +1,15 @@
 -- How far the encoder has come through a valid text: what is counted so far, with what the rest gives, is what the whole gives. The next character
 -- is a text, and texts are written one after the other.
 -- Assumes nothing.
-use mathlib.Core.Option.{none}
 use mathlib.Core.Path.{◌≡◌, refl, sym, ap, ◌∙◌, subst}
 use mathlib.Core.List.{List, [], ◌∷◌, ◌++◌, map, map-append, append-nil}
-use Prim.Native.Nat.{ℕ, suc, ◌+◌, ◌-◌, ◌*◌, ◌≤◌, ◌<◌}
+use Prim.Native.Nat.{ℕ, suc, ◌+◌, ◌*◌, ◌≤◌, ◌<◌}
 use native.Mathlib.Omega.{arith}
 use lib.Dec.{T, lt→ltb}
 use lib.ListN.{length, take, drop, get_or, length-append, length-drop, drop_of_length-le}
 use lib.Seq.{drop-drop, drop_at, take_at}
-use Rattle.rules.specs.Bytes.{over, All, all, inside}
-use Rattle.rules.specs.Moves.{Move, result, replaced, through, first_left, first_of, place}
+use Rattle.rules.specs.Bytes.{over, All, all}
+use Rattle.rules.specs.Moves.{Move, result, replaced, through, first_left, first_of}
 use Rattle.rules.specs.Utf8.{IsChar, IsText, char_at, valid_to}
 use Rattle.rules.specs.Tables.{table}
 use Rattle.rules.specs.Units.{IsUnit}

@@ -1,13 +1,11 @@
 -- The encoding of a text in an HTML context, byte by byte and part by part.
 -- Assumes nothing.
-use mathlib.Core.Bool.{Bool, true, false}
 use mathlib.Core.Path.{◌≡◌, refl, sym, ap, ◌∙◌}
 use mathlib.Core.List.{List, [], ◌∷◌, ◌++◌}
 use Prim.Native.Nat.{ℕ, suc, ◌+◌, ◌-◌, ◌≤◌, ◌<◌}
 use native.Mathlib.Omega.{arith}
-use lib.Dec.{T, ltb}
+use lib.Dec.{T}
 use lib.ListN.{length, take, drop, get_or, length-append, length-drop, drop_of_length-le, take-append-drop}
-use borrow.Author.Tests.{ltb-true, ltb-false}
 use Rattle.rules.specs.Bytes.{all}
 use Rattle.rules.specs.Tables.{table}
 use Rattle.rules.specs.Operations.{encode_of}
@@ -18,7 +16,7 @@ use Rattle.rules.proofs.Laws.{encode_same}
 use Rattle.rules.proofs.Bytewise.{of_byte, encode-append, replaced-both}
 use Rattle.rules.proofs.Growth.{encode-six, encode-sum, encode-as-long}
 use Rattle.base.proofs.Filled.{Next, lent-rest}
-use Rattle.base.proofs.Part.{part_length, part_at, parted}
+use Rattle.base.proofs.Part.{parted}
 use Rattle.encode_html.specs.Written.{written}
 use Rattle.encode_html.specs.Gains.{hits_of, Each, Unchanged}
 use Rattle.encode_html.proofs.Seven.{seven}

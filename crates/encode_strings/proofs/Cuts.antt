@@ -16,7 +16,7 @@ use Rattle.rules.specs.Encoding.{encode_step}
 use Rattle.rules.specs.Operations.{encode_of}
 use Rattle.rules.specs.declared.Quotes.{Quotes}
 use Rattle.rules.specs.declared.Context.{Context}
-use Rattle.rules.specs.declared.Context.TheVariants.{InScript, InStyle}
+use Rattle.rules.specs.declared.Context.TheVariants.{InStyle}
 use Rattle.rules.proofs.Tests.{is_false}
 use Rattle.rules.proofs.Blind.{Local, Parted, parted-result, parted-replaced}
 use Rattle.base.proofs.Part.{part_length, part_at, parted as part-split}

@@ -5,7 +5,7 @@ use mathlib.Core.Path.{◌≡◌, refl, sym, ap, subst, ◌∙◌}
 use mathlib.Core.List.{List, [], ◌∷◌}
 use Prim.Native.Nat.{ℕ, suc, ◌+◌, ◌-◌, ◌*◌, ◌/◌, ◌≤◌, ◌<◌}
 use native.Mathlib.Omega.{arith}
-use borrow.Author.Tests.{ne_eqb, le-ltb, ltb-true, ltb-false, eqb-true, eqb-false}
+use borrow.Author.Tests.{ne_eqb, ltb-true, ltb-false, eqb-true, eqb-false}
 use lib.Dec.{eqb, ltb}
 use lib.ListN.{length, drop, get_or, length-append, drop_of_length-le}
 use Rattle.rules.specs.Moves.{Move, keep, takes, gives, through, result, replaced}
@@ -13,15 +13,14 @@ use Rattle.rules.specs.Encoding.{encode_step}
 use Rattle.rules.specs.Operations.{encode_of}
 use Rattle.rules.specs.Answers.{replacement_move}
 use Rattle.rules.specs.declared.Quotes.{Quotes}
-use Rattle.rules.specs.declared.Quotes.TheVariants.{Single, Double, Both}
 use Rattle.rules.specs.declared.Context.{Context}
-use Rattle.rules.specs.declared.Context.TheVariants.{InScript, InStyle}
+use Rattle.rules.specs.declared.Context.TheVariants.{InStyle}
 use Rattle.rules.specs.declared.Replacement.TheVariants.{Separator}
 use Rattle.rules.proofs.Blind.{Blind, blind-next, replaced-append}
 use Rattle.rules.proofs.Loops.{drop-next}
 use Rattle.rules.proofs.Growth.{encode-sum}
 use Rattle.encode_strings.specs.Strings.{alone, single_key, double_key, is_slashed, is_hexed, escaped_of, hexed_of, same_of, total, ends_of, ended, separators_in, separates, hex_growth, more_of, places_by}
-use Rattle.encode_strings.proofs.Heads.{strings-ruleless, not_ascii, kept, no_start, lone}
+use Rattle.encode_strings.proofs.Heads.{strings-ruleless, kept, no_start, lone}
 use Rattle.encode_strings.proofs.Finds.{less, Grows, ascii-grows, slashed-high, hexed-high, ends-are, lead-kept, lead-taken, lead-style, separator-sizes}
 use Rattle.rules.specs.Contexts.{written_in}
 use Rattle.rules.specs.declared.Notation.{Notation}

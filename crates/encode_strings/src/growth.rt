@@ -4,7 +4,7 @@ ghost use Rattle.rules.specs.Contexts.{written_in};
 ghost use Rattle.rules.specs.Encoding.{encode_step};
 ghost use Rattle.rules.specs.Moves.{through, replaced};
 ghost use Rattle.rules.specs.Operations.{encode_of};
-ghost use Rattle.encode_strings.specs.Strings.{escaped_of, hexed_of, hex_growth, same_of, total, separators_in, Counted, separates as separatesIn, places_by};
+ghost use Rattle.encode_strings.specs.Strings.{escaped_of, hexed_of, hex_growth, same_of, total, separators_in, Counted, separates as separates_in, places_by};
 
 use crate::{escapes, rule};
 use rules::{Notation, Quotes};
@@ -105,7 +105,7 @@ pub fn is_copied(notation: Notation, quotes: Quotes, found: Tally, part: &[u8]) 
 // Returns how many places of a part were replaced that was counted and became longer by `growth` bytes. But in a style sheet each line separator is
 // longer by three bytes, so that what the escaped bytes do not explain tells how many there are.
 pub fn places(notation: Notation, found: Tally, growth: usize) -> usize
-    requires { (separatesIn notation ≡ true → found.escaped + hex_growth notation found.hexed ≤ growth) × (growth ≤ 65536) }
+    requires { (separates_in notation ≡ true → found.escaped + hex_growth notation found.hexed ≤ growth) × (growth ≤ 65536) }
     ensures { result ≡ places_by notation found.escaped found.hexed growth }
 {
     let escaped = found.escaped as usize;

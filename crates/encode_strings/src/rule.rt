@@ -1,6 +1,6 @@
 // Which bytes a string escapes, and how: the parts of the rule that counting (growth.rt) and writing (escapes.rt) share.
 ghost use Rattle.std.specs.Prelude.{◌≡◌};
-ghost use Rattle.encode_strings.specs.Strings.{quotes_in, single_of, double_of, single_key, double_key, separates as separatesIn, is_slashed, is_hexed, hex_by};
+ghost use Rattle.encode_strings.specs.Strings.{quotes_in, single_of, double_of, single_key, double_key, separates as separates_in, is_slashed, is_hexed, hex_by};
 
 use rules::{Notation, Quotes, Replacement};
 
@@ -20,7 +20,7 @@ fn quotes_in(notation: Notation, quotes: Quotes) -> Quotes
 
 // Reports whether a string escapes the line separators: not in a style sheet.
 pub fn separates(notation: Notation) -> bool
-    ensures { result ≡ separatesIn notation }
+    ensures { result ≡ separates_in notation }
 {
     match notation {
         Notation::Script => true,

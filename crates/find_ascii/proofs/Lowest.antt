@@ -1,13 +1,13 @@
 -- The lowest bit of the hits is in the first byte that is searched: byte by byte, since no sum carries into the next byte.
 -- Assumes nothing.
-use mathlib.Core.Bool.{Bool, true, false, not, ◌||◌, cond}
+use mathlib.Core.Bool.{Bool, true, false, ◌||◌, cond}
 use mathlib.Core.Path.{◌≡◌, refl, sym, ap, ◌∙◌, subst}
 use mathlib.Core.List.{List}
 use Prim.Native.Nat.{ℕ, zero, suc, ◌+◌, ◌-◌, ◌*◌, ◌/◌, ◌%◌, ◌^◌, ◌≤◌, ◌<◌}
 use native.Mathlib.Omega.{arith}
 use borrow.Author.Tests.{eqb-true, eq-eqb, ne_eqb, ltb-true, ltb-false}
 use lib.Bits.{bit_and, bit_xor, xor_block, and_block, xor_lt}
-use lib.Count.{count_trailing_zeros, under}
+use lib.Count.{count_trailing_zeros}
 use lib.Dec.{T, eqb, ltb, eqb→eq}
 use lib.ListN.{length, get_or, get_or-eq_default}
 use Rattle.rules.proofs.EveryByte.{every_byte_lem}

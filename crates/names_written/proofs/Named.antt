@@ -7,22 +7,19 @@ use mathlib.Core.Option.{Option, none, some}
 use mathlib.Core.Path.{◌≡◌, refl, sym, ap, ◌∙◌, subst}
 use mathlib.Core.List.{List, [], ◌∷◌}
 use Prim.Native.Nat.{ℕ, zero, suc, ◌+◌, ◌-◌, ◌≤◌, ◌<◌}
-use native.Mathlib.Nat.{le_of_suc-le-suc, not-suc-le-zero}
-use native.Mathlib.Numerals.{add-one}
 use native.Mathlib.Omega.{arith}
-use borrow.Author.Tests.{lt-leb}
 use lib.Dec.{T, leb, leb→le, le→leb, T_not}
 use lib.ListN.{length, get_or}
-use Rattle.rules.specs.Bytes.{In, all, any, only, pick, best, Range, inside, same_bytes}
+use Rattle.rules.specs.Bytes.{all, any, only, pick, best, Range, inside, same_bytes}
 use Rattle.rules.specs.Utf8.{utf8, code_of}
 use Rattle.rules.specs.Tables.{Row, key, value}
 use Rattle.rules.specs.Names.{names}
 use Rattle.rules.specs.Ascii.{is_before, key_of, name_in, name_of}
 use Rattle.rules.specs.Browsing.{given}
-use Rattle.rules.proofs.Tests.{and_left, and_right, and_both, or_cases, is_false, all_in, same_bytes_lem, same_refl}
+use Rattle.rules.proofs.Tests.{and_left, and_right, and_both, or_cases, all_in, same_bytes_lem, same_refl}
 use Rattle.rules.proofs.CharNumbers.{code-utf8}
 use Rattle.rules.proofs.CharNames.{name_in_lem}
-use Rattle.names_written.specs.Ties.{part, name_at, is_one, within, is_empty, is_name, cuts_names, has_name, tied_by, is_tied}
+use Rattle.names_written.specs.Ties.{part, name_at, is_one, within, is_empty, is_name, cuts_names, has_name, is_tied}
 
 -- ---- rows that cannot be preferred do not count
 

@@ -1,6 +1,6 @@
 -- A lent table of the names of a range of characters, and when it has for each the name that is written.
 -- Assumes nothing.
-use Rattle.std.specs.Prelude.{Bool, true, false, not, ◌&&◌, ◌||◌, ◌≡◌, List, [], ◌∷◌, ℕ, suc, ◌+◌, ◌-◌, eqb, leb, length, take, drop, get_or}
+use Rattle.std.specs.Prelude.{Bool, true, false, not, ◌&&◌, ◌||◌, ◌≡◌, List, [], ◌∷◌, ℕ, suc, ◌+◌, ◌-◌, leb, length, take, drop, get_or}
 use Rattle.rules.specs.Bytes.{over, all, only, Range, inside, same_bytes}
 use Rattle.rules.specs.Utf8.{utf8, code_of}
 use Rattle.rules.specs.Tables.{Row, value}

@@ -7,8 +7,7 @@
 ghost use Rattle.std.specs.Prelude.{◌≡◌, ◌≤◌, length, take, IfOk};
 
 use std::io;
-use std::io::Read;
-use std::io::Write;
+use std::io::{Read, Write};
 
 // Reads standard input until `input` is full or the input ends, and returns how many bytes it put at the start of `input`. A pipe can return fewer bytes
 // than asked for: that is not the end.

@@ -1,30 +1,29 @@
 -- The moves of the strict reader of ascii_quoted: a plain byte is kept, and where neither a plain character nor a unit stands it stops.
 -- Assumes nothing.
-use mathlib.Core.Bool.{Bool, true, false, not, ◌&&◌, ◌||◌, cond}
+use mathlib.Core.Bool.{Bool, true, false, not, ◌||◌, cond}
 use mathlib.Core.Logic.{◌⊎◌, inl, inr}
-use mathlib.Core.Option.{Option, none, some, none-ne-some}
+use mathlib.Core.Option.{none, some}
 use mathlib.Core.Path.{◌≡◌, refl, sym, ap, ◌∙◌, subst}
 use mathlib.Core.List.{List, [], ◌∷◌, ◌++◌}
 use Prim.Native.Nat.{ℕ, ◌+◌, ◌≤◌, ◌<◌}
 use native.Mathlib.Omega.{arith}
-use borrow.Author.Tests.{leb-false}
 use lib.Dec.{T, eqb, leb, ltb, eqb→eq, eqb_refl, leb→le, le→leb, ltb→lt, T_not}
 use lib.ListN.{length, drop, get_or, length-drop}
-use Rattle.rules.specs.Bytes.{ascii, In, all, any, same_bytes, inside}
+use Rattle.rules.specs.Bytes.{all, any, same_bytes, inside}
 use Rattle.rules.specs.Moves.{Move, keep, swap, leave, stop, before, through, first_left, first_of}
 use Rattle.rules.specs.Utf8.{IsChar, utf8}
-use Rattle.rules.specs.Tables.{Row, key, value, rows, replaced_chars}
+use Rattle.rules.specs.Tables.{Row, value, rows, replaced_chars}
 use Rattle.rules.specs.Units.{IsUnit}
 use Rattle.rules.specs.Ascii.{is_high, by_rule, refer_to}
 use Rattle.rules.specs.Reading.{read_step}
 use Rattle.rules.specs.declared.Escape.{Escape}
-use Rattle.rules.specs.declared.Escape.TheVariants.{Taken, Nothing}
+use Rattle.rules.specs.declared.Escape.TheVariants.{Taken}
 use Rattle.rules.specs.declared.Context.TheVariants.{InAscii}
-use Rattle.rules.proofs.Tests.{and_left, and_right, and_both, or_cases, or_left, or_right, all_in, in-same, same_in, is_false}
+use Rattle.rules.proofs.Tests.{and_left, and_both, or_cases, or_left, or_right, all_in, in-same, same_in, is_false}
 use Rattle.rules.proofs.Chars.{sequence-pos}
 use Rattle.rules.proofs.Tables.{bar-stops}
 use Rattle.rules.proofs.Every.{values-code}
-use Rattle.rules.proofs.Machine.{Fair, Stands}
+use Rattle.rules.proofs.Machine.{Fair}
 use Rattle.rules.proofs.Loops.{drop-next}
 use Rattle.rules.proofs.EveryByte.{every_byte_lem}
 use Rattle.rules.proofs.Reasons.{no-lefts, read-leaveless}

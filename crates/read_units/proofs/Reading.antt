@@ -10,7 +10,7 @@ use native.Mathlib.Omega.{arith}
 use lib.Dec.{T, eqb, ltb, eqb→eq, ltb→lt}
 use lib.ListN.{length, take, drop, get_or, length-drop, length-append, get_or-append}
 use lib.Seq.{get_or-drop, take-append_seam}
-use Rattle.rules.specs.Bytes.{In, all, stands, same_bytes}
+use Rattle.rules.specs.Bytes.{all, stands, same_bytes}
 use Rattle.rules.specs.Moves.{from}
 use Rattle.rules.specs.Tables.{Row, key, value, row_at, html_rows, replaced_chars}
 use Rattle.rules.specs.Reading.{undo, unless}

@@ -7,13 +7,13 @@ use mathlib.Core.List.{List, [], ◌∷◌}
 use Prim.Native.Nat.{ℕ, zero, suc, ◌+◌, ◌-◌, ◌≤◌, ◌<◌}
 use native.Mathlib.Omega.{arith}
 use borrow.Author.Tests.{ltb-true, ltb-false, eqb-true, eqb-false, ne_eqb}
-use lib.Dec.{T, ltb, eqb}
+use lib.Dec.{ltb, eqb}
 use lib.ListN.{length, take, drop, get_or, length-append, length-drop}
 use lib.Seq.{length-take-le}
 use Rattle.rules.specs.Bytes.{all}
 use Rattle.rules.specs.Answers.{Measures}
 use Rattle.rules.specs.Reading.{read_step}
-use Rattle.rules.specs.Moves.{keep, taken, result, place, before, through, from}
+use Rattle.rules.specs.Moves.{keep, taken, place, before, through, from}
 use Rattle.rules.specs.Tables.{html_rows, replaced_chars}
 use Rattle.rules.specs.declared.Html.{Html}
 use Rattle.rules.specs.declared.Context.TheVariants.{InHtml}

@@ -1,6 +1,6 @@
 -- Units as numbers, and what is read off a unit by its second byte.
 -- Assumes nothing.
-use Rattle.std.specs.Prelude.{Bool, ◌||◌, cond, ◌≡◌, List, [], ◌∷◌, ℕ, zero, suc, ◌+◌, ◌-◌, ◌*◌, ◌/◌, ◌%◌, ◌≤◌, ◌<◌, eqb, length, take, drop, get_or}
+use Rattle.std.specs.Prelude.{Bool, ◌||◌, cond, ◌≡◌, List, [], ◌∷◌, ℕ, zero, suc, ◌+◌, ◌*◌, ◌/◌, ◌%◌, ◌≤◌, ◌<◌, eqb, length, take, drop, get_or}
 use Rattle.rules.specs.Moves.{swap, before}
 use Rattle.rules.specs.declared.Html.{Html}
 use Rattle.marks.specs.Marks.{end_by}

@@ -7,7 +7,7 @@ use mathlib.Core.Path.{◌≡◌, refl, sym, ap, ◌∙◌, subst}
 use mathlib.Core.List.{List, [], ◌∷◌, ◌++◌, append_assoc}
 use Prim.Native.Nat.{ℕ, ◌+◌, ◌%◌, ◌^◌, ◌≤◌, ◌<◌}
 use native.Mathlib.Omega.{arith}
-use lib.Dec.{T, eqb, leb, eqb→eq, leb→le, eqb_refl, T_not}
+use lib.Dec.{T, eqb, leb, eqb→eq, leb→le, T_not}
 use borrow.Author.Tests.{ne_eqb}
 use lib.ListN.{length, take, drop, get_or}
 use Rattle.rules.specs.Bytes.{In, all, any, count, stands, same_bytes, one_of}

@@ -6,7 +6,7 @@ use mathlib.Core.Logic.{inl, inr}
 use mathlib.Core.Option.{Option, none, some}
 use mathlib.Core.Path.{◌≡◌, refl, sym, ap, ◌∙◌, subst}
 use mathlib.Core.List.{List, [], ◌∷◌, ◌++◌}
-use Prim.Native.Nat.{ℕ, ◌+◌, ◌≤◌, ◌<◌}
+use Prim.Native.Nat.{ℕ, ◌+◌, ◌<◌}
 use native.Mathlib.Omega.{arith}
 use borrow.Author.Tests.{le-leb}
 use lib.Dec.{T, eqb, ltb}
@@ -20,9 +20,8 @@ use Rattle.rules.specs.Reading.{read_step}
 use Rattle.rules.specs.Tables.{rows}
 use Rattle.rules.specs.Units.{IsUnit}
 use Rattle.rules.specs.declared.Html.TheVariants.{Quoted}
-use Rattle.rules.specs.declared.Context.{Context}
 use Rattle.rules.specs.declared.Context.TheVariants.{InHtml, InAscii}
-use Rattle.rules.proofs.Laws.{form-iff, form-moves, read_whole}
+use Rattle.rules.proofs.Laws.{form-iff, form-moves}
 use Rattle.plain.specs.Plain.{Without}
 use Rattle.outcomes.specs.Outcomes.{Says}
 use Rattle.outcomes.specs.declared.Outcome.{Outcome}

@@ -1,13 +1,13 @@
 -- What is written of a short valid text to a room of its own tells its outcome: the text is read as a whole, and the room begins with the result.
 -- Assumes nothing.
-use mathlib.Core.Path.{◌≡◌, refl, sym, ap, ◌∙◌}
+use mathlib.Core.Path.{◌≡◌, sym, ap, ◌∙◌}
 use mathlib.Core.List.{List}
 use Prim.Native.Nat.{ℕ, ◌≤◌}
 use native.Mathlib.Omega.{arith}
 use lib.ListN.{length as size, take, drop, length-append}
 use lib.Seq.{take-append_seam}
 use Rattle.rules.specs.Bytes.{over}
-use Rattle.rules.specs.Moves.{first_of, place, through}
+use Rattle.rules.specs.Moves.{first_of, through}
 use Rattle.rules.specs.Utf8.{valid_to}
 use Rattle.rules.specs.Answers.{Measures}
 use Rattle.rules.specs.Reading.{read_step}

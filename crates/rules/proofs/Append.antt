@@ -3,8 +3,8 @@
 use mathlib.Core.Path.{◌≡◌, sym, ap, ◌∙◌, subst}
 use mathlib.Core.List.{List, [], ◌∷◌, ◌++◌}
 use Prim.Native.Nat.{ℕ}
-use Rattle.rules.specs.Bytes.{In, All, join}
-use Rattle.rules.specs.Moves.{Move, result, taken, through}
+use Rattle.rules.specs.Bytes.{In, All}
+use Rattle.rules.specs.Moves.{result}
 use Rattle.rules.specs.Utf8.{IsChar, IsText, IsFree}
 use Rattle.rules.specs.Units.{IsForm, undecoded}
 use Rattle.rules.specs.Operations.{encode_of, decode_of, read_of}

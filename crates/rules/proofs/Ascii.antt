@@ -12,17 +12,16 @@ use borrow.Author.Tests.{lt-ltb, ltb-true, ltb-false, le-leb}
 use lib.Dec.{T, eqb, ltb, leb, eqb→eq, leb→le, ltb→lt}
 use lib.ListN.{length, length-append}
 use Rattle.rules.specs.Bytes.{ascii, In, all, any, fits, same_bytes, Range, inside, one_of}
-use Rattle.rules.specs.Moves.{Move, keep, swap}
+use Rattle.rules.specs.Moves.{swap}
 use Rattle.rules.specs.Utf8.{sequences, sequence_at, IsChar, utf8, code_of}
 use Rattle.rules.specs.Tables.{Row, key, value, hex_digit, numeral, letter_or_digit}
 use Rattle.rules.specs.Names.{names, below as comes_before}
 use Rattle.rules.specs.References.{hex_digit_at, digits, number, number_of, scalar, decode_char, lookup, meaning, refer, at_amp, body_of, reference_step}
-use Rattle.rules.specs.Reasons.{Ampless, Endless}
 use Rattle.rules.specs.Reading.{exactly, stands_in, reference_back, rule_back}
 use Rattle.rules.specs.Ascii.{is_before, name_of, is_high, body_for, refer_to, by_rule}
 use Rattle.rules.specs.declared.Context.{Context}
 use Rattle.rules.specs.declared.Context.TheVariants.{InHtml, InScript, InStyle, InJson, InAscii}
-use Rattle.rules.proofs.Tests.{and_left, and_right, and_both, or_cases, or_left, or_right, is_false, all_in, any-in, in-append, first-sound, same_bytes_lem}
+use Rattle.rules.proofs.Tests.{and_left, and_right, and_both, or_cases, or_left, is_false, all_in, any-in, first-sound, same_bytes_lem}
 use Rattle.rules.proofs.CharNumbers.{utf8-code, code-scalar, code-high}
 use Rattle.rules.proofs.Below.{below}
 use Rattle.rules.proofs.Order.{lookup-in, same_self}

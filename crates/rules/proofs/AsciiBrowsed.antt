@@ -7,10 +7,10 @@ use mathlib.Core.Logic.{◌↔◌, inl, inr}
 use mathlib.Core.Option.{Option, none, some, none-ne-some}
 use mathlib.Core.Path.{◌≡◌, refl, sym, ap, ◌∙◌, subst}
 use mathlib.Core.List.{List, [], ◌∷◌, ◌++◌, map, append_assoc}
-use Prim.Native.Nat.{ℕ, suc, pred, ◌≤◌, ◌<◌}
+use Prim.Native.Nat.{ℕ, suc, pred, ◌≤◌}
 use native.Mathlib.Omega.{arith}
 use borrow.Author.Tests.{ne_eqb, eq-eqb}
-use lib.Dec.{T, eqb, ltb, leb, eqb→eq, leb→le, lt→ltb, T_not}
+use lib.Dec.{T, eqb, leb, eqb→eq, leb→le, lt→ltb, T_not}
 use lib.ListN.{length, drop}
 use lib.Seq.{drop_at}
 use Rattle.rules.specs.Bytes.{ascii, In, All, all, stands, join, inside}
@@ -18,14 +18,14 @@ use Rattle.rules.specs.Moves.{Move, keep, swap, leave, stop, takes, gives, Rule,
 use Rattle.rules.specs.Utf8.{IsChar, IsText, IsFree, utf8, code_of, substitute}
 use Rattle.rules.specs.Tables.{Row, value, rows, replaced_chars}
 use Rattle.rules.specs.Names.{names}
-use Rattle.rules.specs.Ascii.{name_of, is_high, body_for, refer_to, by_rule}
+use Rattle.rules.specs.Ascii.{name_of, is_high, body_for, refer_to}
 use Rattle.rules.specs.Units.{IsUnit, IsRun}
-use Rattle.rules.specs.References.{scalar, body_of, meaning, browse_char, renumbering, renumbered, stands_for}
+use Rattle.rules.specs.References.{scalar, meaning, browse_char, renumbering, renumbered, stands_for}
 use Rattle.rules.specs.Operations.{encode_of, browse_of}
 use Rattle.rules.specs.declared.Reason.{Reason}
 use Rattle.rules.specs.declared.Context.TheVariants.{InAscii}
-use Rattle.rules.proofs.Tests.{and_left, and_right, and_both, all_in, in_map, map-in, same_in}
-use Rattle.rules.proofs.Machine.{Makes, Follows, singly, cut, cut-moves, result-cut}
+use Rattle.rules.proofs.Tests.{and_left, and_right, all_in, in_map, map-in, same_in}
+use Rattle.rules.proofs.Machine.{Makes, Follows, singly, cut-moves, result-cut}
 use Rattle.rules.proofs.Chars.{is_tail, char-unique, char-singly, pred_of}
 use Rattle.rules.proofs.Characters.{utf8-char}
 use Rattle.rules.proofs.CharNumbers.{utf8-code, code-scalar, code-high, code-utf8}
@@ -36,7 +36,7 @@ use Rattle.rules.specs.Browsing.{at_amp, browse_step}
 use Rattle.rules.specs.declared.Kind.{Kind}
 use Rattle.rules.proofs.Search.{body-some}
 use Rattle.rules.proofs.Browsing.{browse-quiet, body_alike}
-use Rattle.rules.proofs.Ascii.{high-char, rule-high, is_bodily, body-bodily, body-means, written-split, rule-long}
+use Rattle.rules.proofs.Ascii.{high-char, rule-high, is_bodily, body-bodily, body-means, rule-long}
 use Rattle.rules.proofs.Encoder.{encode-run, unit-of, wide}
 
 -- ---- what browse takes a character's number for

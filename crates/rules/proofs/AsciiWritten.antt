@@ -5,12 +5,12 @@ use mathlib.Core.Bool.{Bool, true, false, ◌&&◌, ◌||◌, cond}
 use mathlib.Core.Logic.{◌⊎◌, inl, inr}
 use mathlib.Core.Option.{Option, none, some, none-ne-some}
 use mathlib.Core.Path.{◌≡◌, refl, sym, ap, ◌∙◌, subst}
-use mathlib.Core.List.{List, [], ◌∷◌, ◌++◌, append-nil}
-use Prim.Native.Nat.{ℕ, zero, suc, pred, ◌≤◌, ◌<◌}
+use mathlib.Core.List.{List, [], ◌∷◌, append-nil}
+use Prim.Native.Nat.{ℕ, zero, suc, pred, ◌≤◌}
 use native.Mathlib.Nat.{suc-ne-zero, suc_inj}
 use native.Mathlib.Omega.{arith}
 use borrow.Author.Tests.{lt-ltb, le-leb, eq-eqb, ltb-false}
-use lib.Dec.{T, eqb, leb, ltb, leb→le, eqb→eq, ltb→lt, lt→ltb}
+use lib.Dec.{T, eqb, leb, ltb, leb→le, ltb→lt}
 use lib.ListN.{length, take, drop}
 use Rattle.rules.specs.Bytes.{In, All, all, fits, first, Range, inside}
 use Rattle.rules.specs.Moves.{Move, keep, swap, leave, stop, takes, and_then, moves, taken, through}
@@ -26,7 +26,7 @@ use Rattle.rules.specs.Operations.{encode_of, decode_of}
 use Rattle.rules.specs.declared.Html.TheVariants.{Quoted}
 use Rattle.rules.specs.declared.Context.{Context}
 use Rattle.rules.specs.declared.Context.TheVariants.{InHtml, InScript, InStyle, InJson, InAscii}
-use Rattle.rules.proofs.Tests.{and_left, and_right, and_both, or_cases, is_false, all_in}
+use Rattle.rules.proofs.Tests.{and_left, and_right, or_cases, is_false, all_in}
 use Rattle.rules.proofs.Chars.{sequence-of-char}
 use Rattle.rules.proofs.Ascii.{is_ascii, all_append, rule-ascii}
 use Rattle.rules.proofs.Encoder.{by-table}

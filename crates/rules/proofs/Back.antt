@@ -1,7 +1,7 @@
 -- What read and decode give back of what encode wrote, what read refuses, and where decode and read agree: a form is read as one run of units, and
 -- the table refuses nothing else within the limit of a text.
 -- Assumes nothing.
-use mathlib.Core.Bool.{Bool, false, not, ◌&&◌, cond}
+use mathlib.Core.Bool.{Bool, false, ◌&&◌, cond}
 use mathlib.Core.Logic.{◌↔◌}
 use mathlib.Core.Option.{none, some, some-ne-none}
 use mathlib.Core.Path.{◌≡◌, refl, sym, ap, ◌∙◌, subst}

@@ -13,7 +13,7 @@ use lib.Dec.{T, eqb, T_not}
 use lib.ListN.{length as size, take, drop, length-append, length-drop}
 use lib.Seq.{take-append_seam, drop-append_seam}
 use Rattle.rules.specs.Bytes.{over}
-use Rattle.rules.specs.Moves.{Move, through, result, replaced, growth, shrinkage, taken, place, first_left}
+use Rattle.rules.specs.Moves.{Move, result, replaced, growth, shrinkage, taken, place, first_left}
 use Rattle.rules.specs.Utf8.{IsText, valid_to}
 use Rattle.rules.specs.Browsing.{kind_of}
 use Rattle.rules.specs.declared.Kind.TheVariants.{InAttribute}

@@ -1,18 +1,18 @@
 -- A character's bytes and its number are each other's: by the ranges of RFC 3629, sequence by sequence.
 -- Assumes nothing.
-use mathlib.Core.Bool.{Bool, true, false, not, ◌&&◌, cond}
+use mathlib.Core.Bool.{Bool, true, false, ◌&&◌, cond}
 use mathlib.Core.Logic.{◌⊎◌, inl, inr}
 use mathlib.Core.Option.{Option, none, some}
 use mathlib.Core.Path.{◌≡◌, refl, sym, ap, ◌∙◌, subst}
 use mathlib.Core.List.{List, [], ◌∷◌, ◌++◌}
-use Prim.Native.Nat.{ℕ, suc, ◌+◌, ◌-◌, ◌*◌, ◌/◌, ◌%◌, ◌≤◌, ◌<◌}
+use Prim.Native.Nat.{ℕ, ◌+◌, ◌-◌, ◌*◌, ◌/◌, ◌%◌, ◌≤◌, ◌<◌}
 use native.Mathlib.Nat.{suc_inj, suc-ne-zero}
 use native.Mathlib.Omega.{arith}
 use borrow.Author.Tests.{lt-ltb, le-ltb, le-leb, lt-leb, ltb-true, ltb-false}
 use lib.Dec.{T, leb, ltb, leb→le}
 use lib.ListN.{length, take, drop, take-append-drop}
 use lib.Seq.{take_at}
-use Rattle.rules.specs.Bytes.{In, all, fits, Range, inside}
+use Rattle.rules.specs.Bytes.{In, fits, Range, inside}
 use Rattle.rules.specs.Utf8.{sequences, IsChar, utf8, code_of, sequence_at, char_at}
 use Rattle.rules.specs.References.{scalar}
 use Rattle.rules.proofs.Tests.{and_left, and_right, all_in, first-none}

@@ -7,7 +7,7 @@ use mathlib.Core.Path.{◌≡◌, refl, sym, ap, ◌∙◌, subst}
 use mathlib.Core.List.{List, []}
 use Prim.Native.Nat.{ℕ, ◌≤◌, ◌<◌}
 use native.Mathlib.Omega.{arith}
-use borrow.Author.Tests.{eqb-true, eqb-false}
+use borrow.Author.Tests.{eqb-false}
 use lib.Dec.{eqb, ltb}
 use lib.ListN.{length as size, drop}
 use Rattle.rules.specs.Moves.{Move, Rule, through, result, replaced, place, why_at}
@@ -15,7 +15,6 @@ use Rattle.rules.specs.Utf8.{IsText, IsFree, valid_to, is_cut}
 use Rattle.rules.specs.Units.{IsForm, unread}
 use Rattle.rules.specs.Operations.{rule_of, encode_of, read_of}
 use Rattle.rules.specs.Refusals.{Call, Case, bad-context, too_long, not-utf8, cut_short, not-a-form, lone-surrogate, lent, no_room, written, Given, moves_of, moves_in, case_by, case_of, refusal, answer_at, out_at, call, answer_by, answer_of, out_of, text_limit, checked_as, checked, check_of}
-use Rattle.rules.specs.declared.Answer.{Answer}
 use Rattle.rules.specs.declared.Checked.{Checked}
 use Rattle.rules.specs.declared.Context.{Context}
 use Rattle.rules.specs.declared.Operation.TheVariants.{Read}

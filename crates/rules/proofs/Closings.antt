@@ -8,7 +8,7 @@ use mathlib.Core.Path.{◌≡◌, refl, sym, ap, ◌∙◌, subst}
 use mathlib.Core.List.{List, ◌++◌}
 use Prim.Native.Nat.{ℕ, ◌+◌, ◌≤◌, ◌<◌}
 use native.Mathlib.Omega.{arith}
-use borrow.Author.Tests.{ltb-true, ltb-false, le-ltb, lt-ltb}
+use borrow.Author.Tests.{ltb-false, le-ltb}
 use lib.Dec.{eqb, ltb}
 use lib.ListN.{length as size, drop, length-append}
 use Rattle.rules.specs.Bytes.{ascii}
@@ -16,7 +16,7 @@ use Rattle.rules.specs.Moves.{Rule, through, result, place, replaced, why_at}
 use Rattle.rules.specs.Utf8.{IsText, char_step, valid_to, is_cut}
 use Rattle.rules.specs.Encoding.{raw_step}
 use Rattle.rules.specs.Operations.{raw_of}
-use Rattle.rules.specs.Refusals.{Case, bad-context, too_long, not-utf8, cut_short, not-a-form, lone-surrogate, lent, no_room, written, Given, answer_at, text_limit, case_by, case_of, call, answer_by, answer_of, Allowed, view_of}
+use Rattle.rules.specs.Refusals.{Case, bad-context, too_long, not-utf8, cut_short, not-a-form, lone-surrogate, lent, no_room, written, Given, answer_at, text_limit, case_by, case_of, call, answer_by, Allowed, view_of}
 use Rattle.rules.specs.ScriptData.{closing_tag}
 use Rattle.rules.specs.Closings.{closing, closing_at, closing_of}
 use Rattle.rules.specs.declared.Answer.{Answer}
@@ -27,7 +27,7 @@ use Rattle.rules.proofs.Valid.{valid-iff, valid-within}
 use Rattle.rules.proofs.Encoder.{text-append}
 use Rattle.rules.proofs.Cut.{cut-no-text}
 use Rattle.rules.proofs.Refused.{case-given}
-use Rattle.rules.proofs.Calls.{numbers, passed, passed-given, passed-view, passed-text, status-allowed}
+use Rattle.rules.proofs.Calls.{numbers, passed, passed-view, passed-text, status-allowed}
 use Rattle.rules.proofs.RawAgain.{raw-quiet, raw-again}
 use Rattle.rules.proofs.RawCloses.{raw-closes}
 

@@ -3,8 +3,8 @@
 use mathlib.Core.Bool.{Bool, true, false, not, ◌&&◌, ◌||◌, cond}
 use mathlib.Core.Logic.{◌⊎◌, inl, inr}
 use mathlib.Core.Option.{Option, none, some, none-ne-some}
-use mathlib.Core.Path.{◌≡◌, refl, sym, ap, ◌∙◌, subst}
-use mathlib.Core.List.{List, [], ◌∷◌, ◌++◌, map, append_assoc}
+use mathlib.Core.Path.{◌≡◌, refl, ap, ◌∙◌, subst}
+use mathlib.Core.List.{List, [], ◌∷◌, ◌++◌, map}
 use Prim.Native.Nat.{ℕ, pred}
 use lib.Dec.{T, eqb, eqb→eq, eqb_refl, lt→ltb, T_not}
 use lib.ListN.{length}
@@ -20,13 +20,13 @@ use Rattle.rules.specs.Encoding.{closes, any_case, terminators}
 use Rattle.rules.specs.Ascii.{by_rule}
 use Rattle.rules.specs.Reading.{undo}
 use Rattle.rules.specs.Names.{names}
-use Rattle.rules.specs.References.{onto, body_of, meaning, refer, at_amp, reference_by, decode_char, reference_step}
+use Rattle.rules.specs.References.{onto, body_of, at_amp, decode_char, reference_step}
 use Rattle.rules.specs.Escapes.{after_less, escape_by}
 use Rattle.rules.specs.Json.{escaped_only, json_step}
 use Rattle.rules.specs.Operations.{decode_step, decode_of}
-use Rattle.rules.proofs.Tests.{and_left, and_right, and_both, or_cases, or_left, or-false, is_false, all_in, any-in, first-none, same_bytes_lem, same_in, in-append}
+use Rattle.rules.proofs.Tests.{and_left, and_right, and_both, or_cases, or_left, or-false, is_false, all_in, any-in, first-none, same_bytes_lem, same_in}
 use Rattle.rules.proofs.Machine.{Makes, Follows, singly, cut, cut-moves, result-cut}
-use Rattle.rules.proofs.Chars.{is_tail, taken-singles, char-singly, pred_of}
+use Rattle.rules.proofs.Chars.{is_tail, char-singly, pred_of}
 use Rattle.rules.proofs.Ascii.{rule-refers, rule-long}
 use Rattle.rules.proofs.Tables.{bar-stops, row-length, row_first}
 use Rattle.rules.proofs.Every.{every, values-code}

@@ -2,7 +2,7 @@
 -- Assumes nothing.
 use mathlib.Core.Bool.{Bool, true, false, cond}
 use mathlib.Core.Option.{Option, none, some, none-ne-some, some-injective}
-use mathlib.Core.Path.{◌≡◌, refl, sym, subst}
+use mathlib.Core.Path.{◌≡◌, refl, subst}
 use mathlib.Core.List.{List}
 use Prim.Native.Nat.{ℕ, ◌*◌, ◌≤◌, ◌<◌}
 use native.Mathlib.Nat.{le_trans, mul-le-mul_right}
@@ -14,7 +14,7 @@ use Rattle.rules.specs.Moves.{result}
 use Rattle.rules.specs.Contexts.{Label, context_names, operation_names}
 use Rattle.rules.specs.Browsing.{kind_of}
 use Rattle.rules.specs.declared.Kind.TheVariants.{InAttribute}
-use Rattle.rules.specs.Operations.{rule_of, encode_of, decode_of, read_of, read_to, browse_of}
+use Rattle.rules.specs.Operations.{rule_of, encode_of}
 use Rattle.rules.specs.Refusals.{Call, no_room, moves_of, moves_in, case_of}
 use Rattle.rules.specs.Program.{line, result_room, text_of, context_line, request_of}
 use Rattle.rules.specs.declared.Context.{Context}

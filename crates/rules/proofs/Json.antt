@@ -1,18 +1,17 @@
 -- decode of a JSON string takes exactly the content of RFC 8259: at each element the rule makes that element's move, every move that it makes is an
 -- element that stands there, and where it stops with 10, half a surrogate pair stands alone.
 -- Assumes nothing.
-use mathlib.Core.Bool.{Bool, true, false, ◌&&◌, cond}
+use mathlib.Core.Bool.{Bool, true, false, cond}
 use mathlib.Core.Logic.{◌⊎◌, inl, inr, ◌↔◌}
 use mathlib.Core.Option.{Option, none, some, none-ne-some, some-injective}
 use mathlib.Core.Path.{◌≡◌, refl, sym, ap, ◌∙◌, subst}
 use mathlib.Core.List.{List, [], ◌∷◌, ◌++◌, append_assoc, append-nil}
 use Prim.Native.Nat.{ℕ, suc, pred, ◌+◌, ◌-◌, ◌*◌, ◌≤◌, ◌<◌}
-use native.Mathlib.Nat.{suc-ne-zero}
 use native.Mathlib.Omega.{arith}
 use lib.Dec.{T, eqb, leb, eqb→eq, leb→le}
 use lib.ListN.{length, take, drop, length-append}
 use lib.Seq.{drop-append_seam}
-use Rattle.rules.specs.Bytes.{ascii, In, All, stands, inside, between, one_of}
+use Rattle.rules.specs.Bytes.{ascii, All, stands, inside, between, one_of}
 use Rattle.rules.specs.Moves.{Move, keep, swap, leave, stop, takes, and_then, moves, taken, place, through, before, why, why_at}
 use Rattle.rules.specs.Utf8.{utf8}
 use Rattle.rules.specs.Tables.{Row, row_at, value}
@@ -20,7 +19,7 @@ use Rattle.rules.specs.Reading.{undo, unless}
 use Rattle.rules.specs.References.{hex_digit_at, number}
 use Rattle.rules.specs.Json.{escaped_only, short_escapes, Spells, highs, lows, pair_of, IsSingle, IsPair, IsElement, IsContent, BeginsLow, BeginsLone, IsLone, four_at, unicode_at, at_high, at_unicode, keep_unescaped, at_escape, json_step, content_to}
 use Rattle.rules.proofs.Tests.{and_left, and_right, is_false, first-none, first-sound, stands-split, all_in}
-use Rattle.rules.proofs.Machine.{Makes, Fair, Ends, retrace, moves-fair, place-within, taken-append}
+use Rattle.rules.proofs.Machine.{Makes, Fair, retrace, moves-fair, place-within}
 use Rattle.rules.proofs.Codes.{Reads, follows, units-unique, place-written, place-longest, written-iff}
 use Rattle.rules.proofs.Tables.{is_code, row-length, row_first}
 

@@ -11,7 +11,7 @@ use lib.ListN.{length, take, length-append}
 use Rattle.rules.specs.Bytes.{ascii, In, All, all, any, same_bytes}
 use Rattle.rules.specs.Moves.{Move, keep, swap, leave, stop, gives, taken, result, replaced, growth, place, through}
 use Rattle.rules.specs.Utf8.{IsText, IsFree, utf8}
-use Rattle.rules.specs.Tables.{Row, key, value, rows, replaced_chars}
+use Rattle.rules.specs.Tables.{Row, key, value, rows}
 use Rattle.rules.specs.Units.{IsUnit, IsRun, IsForm, unread, undecoded}
 use Rattle.rules.specs.Encoding.{encode_step, raw_step}
 use Rattle.rules.specs.Reading.{read_step}

@@ -5,17 +5,16 @@ use mathlib.Core.Bool.{Bool, true, false, ◌&&◌, cond}
 use mathlib.Core.Logic.{◌↔◌}
 use mathlib.Core.Option.{Option, none, some}
 use mathlib.Core.Path.{◌≡◌, refl, sym, ap, ◌∙◌, subst}
-use mathlib.Core.List.{List, [], ◌∷◌, ◌++◌, append_assoc}
+use mathlib.Core.List.{List, [], ◌∷◌, ◌++◌}
 use Prim.Native.Nat.{ℕ, suc, ◌+◌, ◌-◌, ◌≤◌, ◌<◌, min}
-use native.Mathlib.Nat.{add-zero, zero-add, add-suc, suc-add}
+use native.Mathlib.Nat.{add-zero, add-suc, suc-add}
 use native.Mathlib.Omega.{arith}
 use borrow.Author.Tests.{eq-eqb, ne_eqb, eqb-true, eqb-false, le-leb, leb-true, le-ltb, lt-ltb}
-use lib.Dec.{T, eqb, leb, ltb}
+use lib.Dec.{T, eqb, leb}
 use lib.ListN.{length as size, get_or, take, drop, take-append-drop, length-append, length-drop, length-take}
 use lib.Seq.{drop_at, get_or_at, drop-drop, length-take-le, take-append-le, take-take, take-add}
 use Rattle.rules.specs.Moves.{Rule}
 use Rattle.rules.specs.Contexts.{context_of}
-use Rattle.rules.specs.Operations.{rule_of}
 use Rattle.rules.specs.Refusals.{refusal, answer_by, out_by, answer_of, out_of, case_by}
 use Rattle.rules.specs.Pages.{InText, in_text, part_of, encoder, single_by, leaves_by, single, leaves, field_limit, filled_as, answered, Page, behind, output_by, fill_from, page_of, PageAllowed}
 use Rattle.rules.specs.declared.Answer.{Answer}

@@ -5,19 +5,19 @@ use mathlib.Core.Bool.{Bool, true, false, not, ◌&&◌, cond}
 use mathlib.Core.Logic.{◌↔◌}
 use mathlib.Core.Path.{◌≡◌, refl, sym, ap, ◌∙◌, subst}
 use mathlib.Core.List.{List, [], ◌∷◌, ◌++◌, append_assoc, append-nil}
-use Prim.Native.Nat.{ℕ, ◌+◌, ◌-◌, ◌*◌, ◌/◌, ◌≤◌, ◌<◌}
+use Prim.Native.Nat.{ℕ, ◌+◌, ◌-◌, ◌*◌, ◌≤◌}
 use native.Mathlib.Omega.{arith}
-use borrow.Author.Tests.{ltb-true, ltb-false, lt-ltb, le-ltb}
-use lib.Dec.{T, ltb}
-use lib.ListN.{length as size, take, drop, length-append, length-drop, take-append-drop}
-use lib.Seq.{take_at, drop_at, drop-drop, take-add, take-append-le, length-take-le, take_all}
+use borrow.Author.Tests.{ltb-false, le-ltb}
+use lib.Dec.{ltb}
+use lib.ListN.{length as size, take, drop, length-append, take-append-drop}
+use lib.Seq.{take_at, drop_at, drop-drop, take-add, length-take-le}
 use Rattle.rules.specs.Bytes.{All, over}
-use Rattle.rules.specs.Moves.{Move, through, result, replaced, taken}
-use Rattle.rules.specs.Utf8.{IsText, IsCut, valid_to, is_cut}
+use Rattle.rules.specs.Moves.{Move, through, result, replaced}
+use Rattle.rules.specs.Utf8.{IsText, valid_to, is_cut}
 use Rattle.rules.specs.Encoding.{raw_step}
 use Rattle.rules.specs.Operations.{raw_of}
 use Rattle.rules.specs.Refusals.{text_limit}
-use Rattle.rules.specs.Stream.{held, settled, settled_moves, moves_at, taken_at, held_at, held_in, started, holding, PartCall, PartCase, finished, too_long, not-utf8, cut_short, no_room, written, before, PartSays, PartGiven, broken, unfinished, part_case, part_answer, part_state, part_moves, part_call, PartAllowed}
+use Rattle.rules.specs.Stream.{held, settled, settled_moves, moves_at, held_in, started, holding, PartCall, PartCase, finished, too_long, not-utf8, cut_short, no_room, written, before, PartSays, PartGiven, broken, unfinished, part_case, part_answer, part_state, part_moves, part_call, PartAllowed}
 use Rattle.rules.specs.declared.Answer.{Answer}
 use Rattle.rules.specs.declared.RawState.{RawState}
 use Rattle.rules.proofs.Valid.{valid-iff, valid-within}

@@ -2,16 +2,15 @@
 -- script_raw parts from what follows, and no part of such a pattern is the `<` of that tag.
 -- Assumes nothing.
 use mathlib.Core.Bool.{Bool, true, false, not, ◌&&◌, ◌||◌, cond}
-use mathlib.Core.Option.{Option, some}
+use mathlib.Core.Option.{some}
 use mathlib.Core.Path.{◌≡◌, refl, sym, ap, ◌∙◌, subst}
-use mathlib.Core.List.{List, [], ◌∷◌, ◌++◌, map}
-use Prim.Native.Nat.{ℕ, suc, ◌+◌, ◌-◌, ◌<◌, ◌≤◌}
+use mathlib.Core.List.{List, [], ◌∷◌, ◌++◌}
+use Prim.Native.Nat.{ℕ, ◌+◌, ◌-◌}
 use native.Mathlib.Omega.{arith}
 use native.Mathlib.Nat.{suc-ne-zero}
-use borrow.Author.Tests.{eqb-true}
 use lib.Dec.{T, eqb, leb, leb→le, eqb→eq, eqb_refl}
 use lib.ListN.{length}
-use Rattle.rules.specs.Bytes.{ascii, is, all, fits, stands, between, one_of}
+use Rattle.rules.specs.Bytes.{ascii, is, stands, between, one_of}
 use Rattle.rules.specs.Encoding.{any_case, terminators, closes, closes_at_end, parted}
 use Rattle.rules.specs.Operations.{raw_of}
 use Rattle.rules.specs.ScriptData.{lower, name_ends, ends_name, spells, end_from, closing_tag}

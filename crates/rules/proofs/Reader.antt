@@ -8,25 +8,23 @@ use mathlib.Core.List.{List, [], ◌∷◌, ◌++◌}
 use Prim.Native.Nat.{ℕ, pred}
 use lib.Dec.{T, eqb, ltb, eqb→eq, lt→ltb}
 use lib.ListN.{length}
-use Rattle.rules.specs.Bytes.{In, all, stands}
+use Rattle.rules.specs.Bytes.{In, stands}
 use Rattle.rules.specs.Moves.{Move, keep, swap, leave, stop, gives}
 use Rattle.rules.specs.Utf8.{IsChar, char_at}
-use Rattle.rules.specs.Tables.{Row, key, value, html_rows, rows, replaced_chars}
-use Rattle.rules.specs.Names.{names}
+use Rattle.rules.specs.Tables.{Row, key, value, rows, replaced_chars}
 use Rattle.rules.specs.Ascii.{by_rule}
 use Rattle.rules.specs.Units.{IsUnit}
 use Rattle.rules.specs.References.{body_of, reference_step}
 use Rattle.rules.specs.Reading.{undo, unless, read_by, exactly, stands_in, rule_back, is_ruled, read_step}
-use Rattle.rules.specs.declared.Html.TheVariants.{Quoted}
 use Rattle.rules.specs.declared.Context.{Context}
 use Rattle.rules.specs.declared.Context.TheVariants.{InHtml, InScript, InStyle, InJson, InAscii}
-use Rattle.rules.proofs.Tests.{and_left, is_false, all_in, same_in}
-use Rattle.rules.proofs.Machine.{Makes, Stands, Fair}
+use Rattle.rules.proofs.Tests.{is_false, all_in, same_in}
+use Rattle.rules.proofs.Machine.{Makes, Fair}
 use Rattle.rules.proofs.Codes.{Reads}
 use Rattle.rules.proofs.Chars.{pred_of, sequence-pos}
 use Rattle.rules.proofs.CharNumbers.{char-at}
-use Rattle.rules.proofs.Tables.{IsEntry, bar-stops, row-length, read-finds, read-fair}
-use Rattle.rules.proofs.Every.{every, values-code}
+use Rattle.rules.proofs.Tables.{IsEntry, bar-stops, read-finds, read-fair}
+use Rattle.rules.proofs.Every.{values-code}
 use Rattle.rules.proofs.Ascii.{rule-back, back-rule, rule-long, rule-refers}
 use Rattle.rules.proofs.Encoder.{key-ruleless}
 use Rattle.rules.proofs.Decoder.{quoted-refers}

@@ -24,7 +24,7 @@ use Rattle.rules.specs.References.{onto, body_of, digit, hex_digit_at, digits, n
 use Rattle.rules.specs.Browsing.{kind_of, reference_at, at_amp as browse_amp, browse_step}
 use Rattle.rules.specs.declared.Kind.{Kind}
 use Rattle.rules.specs.declared.Kind.TheVariants.{InAttribute}
-use Rattle.rules.specs.Reasons.{Ampless, Endless, Closed, Body, Undigit, Hexed, Because, Stays, StaysAt, reason_in, left_here, lefts_in}
+use Rattle.rules.specs.Reasons.{Ampless, Closed, Body, Undigit, Because, Stays, StaysAt, reason_in, left_here, lefts_in}
 use Rattle.rules.specs.Escapes.{escape_by}
 use Rattle.rules.specs.Json.{IsElement, json_step}
 use Rattle.rules.specs.Operations.{decode_step, rule_of}
@@ -37,7 +37,7 @@ use Rattle.rules.specs.declared.Operation.{Operation}
 use Rattle.rules.specs.declared.Operation.TheVariants.{Encode, Decode, Read, Browse}
 use Rattle.rules.specs.declared.Reason.{Reason}
 use Rattle.rules.specs.declared.Reason.TheVariants.{NoEnd, Empty, UnknownName, NoDigit, NotAllowed}
-use Rattle.rules.proofs.Tests.{or_cases, or_left, or_right, is_false, first-none, same_bytes_lem, same_refl, stands_self, stands-split, in-append}
+use Rattle.rules.proofs.Tests.{is_false, first-none, same_bytes_lem, same_refl, stands-split, in-append}
 use Rattle.rules.proofs.Below.{eqb_comm}
 use Rattle.rules.proofs.Names.{empty-unnamed, hash-unnamed}
 use Rattle.rules.proofs.Search.{body-none, body-some}

@@ -5,14 +5,14 @@ use mathlib.Core.Logic.{◌⊎◌, inl, inr}
 use mathlib.Core.Path.{◌≡◌, refl, sym, ap, ◌∙◌, subst}
 use mathlib.Core.Option.{Option, none}
 use mathlib.Core.List.{List, [], ◌∷◌, ◌++◌, append_assoc, append-nil}
-use Prim.Native.Nat.{ℕ, zero, suc, pred, ◌+◌, ◌-◌, ◌≤◌, ◌<◌}
+use Prim.Native.Nat.{ℕ, zero, suc, pred, ◌+◌, ◌-◌, ◌≤◌}
 use native.Mathlib.Omega.{arith}
 use native.Mathlib.Nat.{suc-ne-zero}
 use borrow.Author.Tests.{ne_eqb, ltb-true, ltb-false, lt-ltb, le-ltb, lt-leb}
-use lib.Dec.{T, eqb, leb, ltb, leb→le, ltb→lt}
+use lib.Dec.{T, leb, ltb, leb→le, ltb→lt}
 use lib.ListN.{length, take, drop, get_or, length-append, length-drop, take-append-drop}
 use lib.Seq.{take-add, length-take-le, drop_at, drop-drop}
-use Rattle.rules.specs.Bytes.{In, All, all, any, first, fits, join, opens, Range, inside, one_of}
+use Rattle.rules.specs.Bytes.{In, All, all, any, fits, join, opens, Range, inside, one_of}
 use Rattle.rules.specs.Moves.{Move, and_then, moves, takes, taken, result, place, through}
 use Rattle.rules.proofs.Machine.{retrace, taken-append, moves-fair}
 use Rattle.rules.proofs.Codes.{follows}

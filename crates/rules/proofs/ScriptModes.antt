@@ -1,7 +1,7 @@
 -- The eighteen states end an element where the three modes do: from each state on, what was read since the last `<` or dash and what stands next decide
 -- as the mode did at that `<` or dash.
 -- Assumes nothing.
-use mathlib.Core.Bool.{Bool, true, false, not, ◌&&◌, ◌||◌, cond}
+use mathlib.Core.Bool.{Bool, true, false, not, ◌&&◌, cond}
 use mathlib.Core.Option.{Option, none, some, none-ne-some, some-injective}
 use mathlib.Core.Path.{◌≡◌, refl, sym, ap, ◌∙◌, subst}
 use mathlib.Core.List.{List, [], ◌∷◌, ◌++◌}
@@ -10,8 +10,8 @@ use native.Mathlib.Omega.{arith}
 use borrow.Author.Tests.{eqb-true, ne_eqb}
 use lib.Dec.{T, eqb, leb, leb→le, eqb→eq}
 use lib.ListN.{length, drop, get_or}
-use Rattle.rules.specs.Bytes.{ascii, is, In, all, stands, between, same_bytes}
-use Rattle.rules.specs.ScriptData.{ScriptState, Data, LessThan, EndTagOpen, EndTagName, EscapeStart, EscapeStartDash, Escaped, EscapedDash, EscapedDashDash, EscapedLessThan, EscapedEndTagOpen, EscapedEndTagName, DoubleEscapeStart, DoubleEscaped, DoubleEscapedDash, DoubleEscapedDashDash, DoubleEscapedLessThan, DoubleEscapeEnd, lower, alpha, name_ends, ends_name, named, in_data, in_escaped, in_double, next, naming, leaves, is_script, closing_from, closing_tag, spells, ends, dashed, turn, end_from}
+use Rattle.rules.specs.Bytes.{ascii, is, all, stands, between, same_bytes}
+use Rattle.rules.specs.ScriptData.{ScriptState, Data, LessThan, EndTagOpen, EndTagName, EscapeStart, EscapeStartDash, Escaped, EscapedDash, EscapedDashDash, EscapedLessThan, EscapedEndTagOpen, EscapedEndTagName, DoubleEscapeStart, DoubleEscaped, DoubleEscapedDash, DoubleEscapedDashDash, DoubleEscapedLessThan, DoubleEscapeEnd, lower, alpha, name_ends, ends_name, named, in_data, in_escaped, in_double, next, leaves, is_script, closing_from, closing_tag, spells, ends, dashed, turn, end_from}
 use Rattle.rules.specs.declared.ScriptMode.{ScriptMode}
 use Rattle.rules.specs.declared.ScriptMode.TheVariants.{Plain, Once, Twice}
 use Rattle.rules.proofs.Tests.{and_left, and_right, all_in, any-in}

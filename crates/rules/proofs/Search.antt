@@ -8,7 +8,7 @@ use mathlib.Core.List.{List, [], ◌∷◌, ◌++◌, append_assoc, append-nil}
 use Prim.Native.Nat.{ℕ}
 use lib.Dec.{T, eqb}
 use lib.ListN.{length}
-use Rattle.rules.specs.Bytes.{ascii, is, In}
+use Rattle.rules.specs.Bytes.{ascii, In}
 use Rattle.rules.specs.Moves.{Move, keep, swap, leave, moves, taken}
 use Rattle.rules.specs.References.{onto, body_of, meaning, why, refer, at_amp, reference_by}
 use Rattle.rules.specs.Reasons.{Ampless, Endless}

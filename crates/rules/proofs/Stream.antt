@@ -1,8 +1,8 @@
 -- What is written by parts is what is written at once, wherever the text is cut: what is held back is exactly what more bytes could still change.
 -- Assumes nothing.
-use mathlib.Core.Bool.{Bool, true, false, not, ◌&&◌, ◌||◌, cond}
+use mathlib.Core.Bool.{Bool, true, false, not, ◌&&◌, ◌||◌}
 use mathlib.Core.Path.{◌≡◌, refl, sym, ap, ◌∙◌, subst}
-use mathlib.Core.List.{List, [], ◌∷◌, ◌++◌, map, append_assoc, append-nil}
+use mathlib.Core.List.{List, [], ◌∷◌, ◌++◌, map, append-nil}
 use Prim.Native.Nat.{ℕ, zero, suc, ◌+◌, ◌≤◌}
 use native.Mathlib.Omega.{arith}
 use native.Mathlib.Nat.{suc-ne-zero, suc_inj}
@@ -10,7 +10,7 @@ use borrow.Author.Tests.{eqb-true, eqb-false, eq-eqb, ne_eqb}
 use lib.Dec.{T, eqb, leb, leb→le}
 use lib.ListN.{length, take, drop, length-append}
 use Rattle.rules.specs.Bytes.{ascii, any, all, fits, opens, between, inside, one_of}
-use Rattle.rules.specs.Moves.{Move, keep, swap, stop, takes, gives, through, taken, result, replaced}
+use Rattle.rules.specs.Moves.{takes, through, taken, result}
 use Rattle.rules.specs.Utf8.{sequences, is_cut}
 use Rattle.rules.specs.Encoding.{any_case, terminators, closes_at_end, parted, raw_step}
 use Rattle.rules.specs.Operations.{raw_of}

@@ -1,8 +1,8 @@
 -- RULES 27. ascii_quoted: what is written for a character above 7F, by its name or by its number.
 -- Assumes nothing.
-use Rattle.std.specs.Prelude.{Bool, true, false, not, ◌&&◌, ◌||◌, cond, List, ◌++◌, ℕ, T, eqb, ltb, length}
+use Rattle.std.specs.Prelude.{Bool, false, not, ◌&&◌, ◌||◌, cond, List, ◌++◌, ℕ, T, eqb, ltb, length}
 use Rattle.std.proofs.Math.Option.{Option, none, some}
-use Rattle.rules.specs.Bytes.{ascii, In, best, Range, same_bytes}
+use Rattle.rules.specs.Bytes.{ascii, In, best, same_bytes}
 use Rattle.rules.specs.Utf8.{sequence_at, code_of}
 use Rattle.rules.specs.Tables.{Row, key, value, hex_digit, numeral}
 use Rattle.rules.specs.Names.{names, below}

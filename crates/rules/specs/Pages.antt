@@ -1,6 +1,6 @@
 -- RULES 21. A page: a list of records, each the copying call of encode on a part of one text, one behind the other into one output.
 -- Assumes nothing.
-use Rattle.std.specs.Prelude.{Bool, false, ◌&&◌, cond, ◌≡◌, List, [], ◌∷◌, ◌++◌, map, ℕ, suc, ◌+◌, ◌-◌, ◌/◌, ◌≤◌, ltb, leb, eqb, length as size, get_or, take, drop}
+use Rattle.std.specs.Prelude.{Bool, false, ◌&&◌, cond, ◌≡◌, List, [], ◌∷◌, ◌++◌, ℕ, suc, ◌+◌, ◌-◌, ◌/◌, ◌≤◌, ltb, leb, eqb, length as size, get_or, take, drop}
 use Rattle.std.proofs.Math.Option.{Option, none, some}
 use Rattle.rules.specs.Moves.{Rule}
 use Rattle.rules.specs.Contexts.{context_of}

@@ -1,6 +1,6 @@
 -- RULES 15. The programs `entity` and `reasons`: what they print for what they read.
 -- Assumes nothing.
-use Rattle.std.specs.Prelude.{false, cond, List, [], ◌∷◌, ◌++◌, map, ℕ, ◌+◌, eqb, length as size, drop}
+use Rattle.std.specs.Prelude.{false, cond, List, [], ◌++◌, map, ℕ, ◌+◌, eqb, length as size, drop}
 use Rattle.std.proofs.Math.Option.{Option, none, some}
 use Rattle.rules.specs.Bytes.{ascii, join, first, stands}
 use Rattle.rules.specs.Moves.{result, lefts, reason_number}

@@ -1,6 +1,6 @@
 -- RULES 3. Valid UTF-8: a text is one character of RFC 3629 after the other.
 -- Assumes nothing.
-use Rattle.std.specs.Prelude.{Bool, true, false, ◌&&◌, cond, ◌≡◌, List, [], ◌∷◌, ◌++◌, ℕ, ◌+◌, ◌-◌, ◌*◌, ◌/◌, ◌%◌, ◌<◌, T, ltb, length, take}
+use Rattle.std.specs.Prelude.{Bool, cond, ◌≡◌, List, [], ◌∷◌, ◌++◌, ℕ, ◌+◌, ◌-◌, ◌*◌, ◌/◌, ◌%◌, ◌<◌, T, ltb, length, take}
 use Rattle.std.proofs.Math.Option.{Option, none, some}
 use Rattle.rules.specs.Bytes.{join, In, All, any, first, fits, opens, Range, inside}
 use Rattle.rules.specs.Moves.{Move, keep, stop, Rule, place, through}

@@ -2,14 +2,14 @@
 -- A seam that is broken breaks the text; else its settled bytes are whole characters, and the rest has the other tests by itself.
 -- Assumes nothing.
 use mathlib.Core.Bool.{Bool, true, false, not, ◌&&◌, cond}
-use mathlib.Core.Logic.{◌⊎◌, inl, inr}
+use mathlib.Core.Logic.{inl, inr}
 use mathlib.Core.Path.{◌≡◌, refl, sym, ap, ◌∙◌, subst}
 use mathlib.Core.List.{List, [], ◌∷◌, ◌++◌, append_assoc, append-nil}
 use Prim.Native.Nat.{ℕ, zero, suc, ◌+◌, ◌-◌, ◌*◌, ◌/◌, ◌≤◌, ◌<◌}
 use native.Mathlib.Omega.{arith}
 use borrow.Author.Tests.{ltb-true, ltb-false, lt-ltb, le-ltb}
 use lib.Dec.{ltb}
-use lib.ListN.{length, take, drop, length-append, length-drop, take-append-drop, drop_of_length-le}
+use lib.ListN.{length, take, drop, length-append, take-append-drop, drop_of_length-le}
 use lib.Seq.{take_at, drop_at, drop-drop, drop-append-le, take_all, length-take-le}
 use Rattle.rules.specs.Bytes.{over}
 use Rattle.rules.specs.Moves.{Move, gives, through, result, replaced}
@@ -22,7 +22,6 @@ use Rattle.rules.specs.declared.Answer.{Answer}
 use Rattle.rules.specs.declared.RawState.{RawState}
 use Rattle.rules.proofs.Growth.{raw-replaced}
 use Rattle.rules.proofs.RawAgain.{marked, raw_move, raw-through}
-use Rattle.rules.proofs.Valid.{valid-within}
 use Rattle.rules.proofs.Blind.{result-append}
 use Rattle.rules.proofs.Stream.{settled-parts, held-parts, held-tail, held-short, settled-sum, settled-add}
 use Rattle.rules.proofs.Released.{settled-text, valid-after, broken-place, broken-far, broken-after}

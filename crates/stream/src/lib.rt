@@ -5,8 +5,8 @@
 
 ghost use Rattle.std.specs.Prelude.{true, false, ◌≡◌, [], ◌++◌, ℕ, ◌+◌, ◌≤◌, ◌<◌, ltb, length, take};
 ghost use Rattle.rules.specs.Bytes.{over};
-ghost use Rattle.rules.specs.Refusals.{refusal as refusalOf, part_success};
-ghost use Rattle.rules.specs.Stream.{begins as beginsOf, settled as settled_of, held_in, started, holding as holdingOf, PartAllowed};
+ghost use Rattle.rules.specs.Refusals.{refusal as refusal_of, part_success};
+ghost use Rattle.rules.specs.Stream.{begins as begins_of, settled as settled_of, held_in, started, holding as holding_of, PartAllowed};
 ghost use Rattle.plain.specs.Plain.{Without};
 ghost use Rattle.stream.specs.Seams.{opens_name, Sound, Joined, Needed, Released, Clipped};
 
@@ -17,7 +17,7 @@ const HELD: usize = 8;
 
 // Returns a refusal by its three numbers; the other numbers are 0.
 fn refusal(status: usize, length: usize, place: usize) -> Answer
-    ensures { result ≡ refusalOf status length place }
+    ensures { result ≡ refusal_of status length place }
 {
     Answer {
         status,
@@ -65,7 +65,7 @@ fn opens_name(name: &[u8], rest: &[u8]) -> bool
 // Reports whether `rest` begins a character or an escaped pattern that more bytes could complete.
 fn begins(rest: &[u8]) -> bool
     requires { 0 < length rest.now }
-    ensures { result ≡ beginsOf rest.now }
+    ensures { result ≡ begins_of rest.now }
 {
     if utf8::is_cut(rest) {
         return true;
@@ -152,7 +152,7 @@ fn release(seam: &[u8], s: usize, clear: bool, rest: &[u8], e: usize, output: &m
 // Returns the state that holds `bytes` after `done` others.
 fn holding(bytes: &[u8], done: usize, finished: bool) -> RawState
     requires { length bytes.now ≤ 8 }
-    ensures { result ≡ holdingOf bytes.now done finished }
+    ensures { result ≡ holding_of bytes.now done finished }
 {
     let mut held: [u8; 8] = [0; 8];
     let count = base::put(bytes, &mut held);

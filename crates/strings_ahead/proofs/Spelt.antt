@@ -6,7 +6,6 @@ use mathlib.Core.List.{[], ◌∷◌}
 use Prim.Native.Nat.{ℕ, ◌+◌, ◌*◌, ◌≤◌}
 use native.Mathlib.Omega.{arith}
 use borrow.Author.Tests.{ne_eqb}
-use lib.Dec.{eqb}
 use Rattle.rules.specs.Moves.{Move, gives}
 use Rattle.rules.specs.Answers.{replacement_move, replaced_move}
 use Rattle.rules.specs.declared.Notation.{Notation}

@@ -1,16 +1,16 @@
 -- The turns of the writer that copies ahead: each takes some of what is left of the text and writes what that gives, and spills up to sixteen bytes past it.
 -- Assumes nothing.
-use mathlib.Core.Bool.{true, false}
+use mathlib.Core.Bool.{false}
 use mathlib.Core.Path.{◌≡◌, refl, sym, ap, ◌∙◌, subst}
 use mathlib.Core.List.{List, [], ◌∷◌, ◌++◌}
-use Prim.Native.Nat.{ℕ, ◌+◌, ◌-◌, ◌*◌, ◌/◌, ◌≤◌, ◌<◌}
+use Prim.Native.Nat.{ℕ, ◌+◌, ◌-◌, ◌/◌, ◌≤◌, ◌<◌}
 use native.Mathlib.Nat.{add-zero}
 use native.Mathlib.Omega.{arith}
 use borrow.Author.Tests.{ne_eqb}
 use lib.ListN.{length, take, drop, get_or, length-drop, take-append-drop}
 use lib.Seq.{length-take-le, take-take, drop-drop, get_or-drop}
 use Rattle.rules.specs.Bytes.{over}
-use Rattle.rules.specs.Moves.{Move, takes, gives, through, replaced}
+use Rattle.rules.specs.Moves.{gives, through, replaced}
 use Rattle.rules.specs.Answers.{Measures, replacement_move}
 use Rattle.rules.specs.Contexts.{written_in}
 use Rattle.rules.specs.Encoding.{keep_byte, encode_step}

@@ -1,6 +1,5 @@
 -- `base::letter_value` meets its contract: by its test.
 -- Assumes nothing.
-use mathlib.Core.Bool.{true, false}
 use mathlib.Core.Path.{sym, ◌∙◌}
 use native.Mathlib.Omega.{arith}
 use Rattle.base.specs.Digits.{letter_of}

@@ -1,6 +1,5 @@
 -- `base::upper_digit_value` meets its contract: its two tests are those of the computed law.
 -- Assumes nothing.
-use mathlib.Core.Bool.{true, false}
 use mathlib.Core.Path.{sym, ◌∙◌}
 use Prim.Native.Nat.{◌-◌}
 use borrow.Author.Rules.{rules}

@@ -1,11 +1,9 @@
 -- `browse_html::find_ended` meets its contract: what decode takes for a name is the reference; where it takes none, no name with its `;` stands there.
 -- Assumes nothing.
-use mathlib.Core.List.{[], ◌∷◌}
 use mathlib.Core.Path.{sym, ap, ◌∙◌, subst}
 use borrow.Author.Tests.{not-true, not-false}
 use lib.Dec.{T}
 use Rattle.rules.specs.Tables.{letter_or_digit}
-use types.Run.{miss}
 use Rattle.rules.specs.declared.Kind.TheVariants.{InText}
 use Rattle.browse_html.proofs.Readings.{reads-decoded, left-named, wordless}
 use Rattle.browse_html.proofs.find_ended.Goals as goal

@@ -2,7 +2,6 @@
 -- Assumes nothing.
 use borrow.Author.Rules.{rules}
 use native.Mathlib.Omega.{arith}
-use Prim.Native.Nat.{◌-◌}
 use Rattle.rules.specs.Browsing.{browse_step}
 use Rattle.rules.specs.declared.DecodedEntityValue.TheVariants.{Character}
 use Rattle.rules.proofs.Loops.{from_end}

@@ -1,9 +1,6 @@
 -- The bytes before place i are counted, and the first reference that stays before it is noted.
 -- Assumes nothing.
-use mathlib.Core.List.{[], ◌∷◌}
-use Prim.Native.Nat.{◌-◌}
 use native.Mathlib.Omega.{arith}
-use types.Run.{miss}
 use borrow.Author.Rules.{rules}
 use Rattle.rules.specs.declared.Reference.TheVariants.{Found}
 use Rattle.rules.proofs.Loops.{from_end}

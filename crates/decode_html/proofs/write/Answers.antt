@@ -3,8 +3,6 @@
 use Prim.Native.Nat.{◌-◌}
 use native.Mathlib.Omega.{arith}
 use mathlib.Core.Path.{sym, ap}
-use mathlib.Core.List.{◌∷◌, []}
-use types.Run.{miss}
 use borrow.Author.Rules.{rules}
 use Rattle.rules.specs.Moves.{result}
 use Rattle.rules.specs.declared.Reference.TheVariants.{Found}

@@ -1,7 +1,7 @@
 -- `measure` meets its contract: what is counted so far, with what the rest of the text gives, is what the whole gives. The measure is what is left.
 -- Assumes nothing.
 use Prim.Native.Nat.{◌-◌}
-use lib.ListN.{length, length as size}
+use lib.ListN.{length as size}
 use Rattle.rules.specs.Json.{json_step}
 use Rattle.base.proofs.Counted.{Counted}
 use Rattle.decode_json.proofs.measure.Given as goal

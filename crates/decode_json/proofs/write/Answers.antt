@@ -64,21 +64,21 @@ one_byte c = let t = c.args.text.now in let i = c.loop-i.i in let e : c.short-s.
 next-single : (c : Then-is_single) → let t = c.args.text.now in let i = c.loop-i.i in Next (Rest t i) (utf8 c.number-n.result) (Rest t (i + 6))
 next-single c =
     let single-told-here : let t = c.args.text.now in let i = c.loop-i.i in Tells (json_step (before t i) (drop i t)) (drop i t) (Taken 6 c.number-n.result) =
-        let t = c.args.text.now in let i = c.loop-i.i in single-here t i c.number-n.result c.number-n.ensures.0 c.number-n.ensures.1 (sym c.is_single.ensures ∙ c.if-is_single.true) in
+    let t = c.args.text.now in let i = c.loop-i.i in single-here t i c.number-n.result c.number-n.ensures.0 c.number-n.ensures.1 (sym c.is_single.ensures ∙ c.if-is_single.true) in
     let t = c.args.text.now in let i = c.loop-i.i in next-told t i 6 c.number-n.result (omega arith) (single-told-here)
 
 next-short : (c : Then-s-ne0) → let t = c.args.text.now in let i = c.loop-i.i in Next (Rest t i) (c.short-s.result ∷ []) (Rest t (i + 2))
 next-short c =
     let one_byte-here : let t = c.args.text.now in let i = c.loop-i.i in utf8 c.short-s.result ≡ c.short-s.result ∷ [] =
-        let t = c.args.text.now in let i = c.loop-i.i in let e : c.short-s.result ≡ short_of (get_or t (i + 1) 0) = c.short-s.ensures ∙ ap short_of c.byte_after.ensures in utf8-low c.short-s.result (subst (λ (s : ℕ). s < 128) (sym e) (short-ascii _ (c.shared_slice_known-in-loop-i-1.given (i + 1)).fits)) in
+    let t = c.args.text.now in let i = c.loop-i.i in let e : c.short-s.result ≡ short_of (get_or t (i + 1) 0) = c.short-s.ensures ∙ ap short_of c.byte_after.ensures in utf8-low c.short-s.result (subst (λ (s : ℕ). s < 128) (sym e) (short-ascii _ (c.shared_slice_known-in-loop-i-1.given (i + 1)).fits)) in
     let short-told-here : let t = c.args.text.now in let i = c.loop-i.i in Tells (json_step (before t i) (drop i t)) (drop i t) (Taken 2 c.short-s.result) =
-        let t = c.args.text.now in let i = c.loop-i.i in short-here t i c.short-s.result (omega arith) c.if-text-i-ne92.false (c.shared_slice_known-in-loop-i-1.given (i + 1)).fits (c.short-s.ensures ∙ ap short_of c.byte_after.ensures) c.if-s-ne0.true in
+    let t = c.args.text.now in let i = c.loop-i.i in short-here t i c.short-s.result (omega arith) c.if-text-i-ne92.false (c.shared_slice_known-in-loop-i-1.given (i + 1)).fits (c.short-s.ensures ∙ ap short_of c.byte_after.ensures) c.if-s-ne0.true in
     let t = c.args.text.now in let i = c.loop-i.i in rw (one_byte-here) at (next-told t i 2 c.short-s.result (omega arith) (short-told-here))
 
 next-pair : (c : In-Taken) → let t = c.args.text.now in let i = c.loop-i.i in Next (Rest t i) (utf8 c.in-Taken.c) (Rest t (i + c.in-Taken.taken))
 next-pair c =
     let pair-told-here : let t = c.args.text.now in let i = c.loop-i.i in Tells (json_step (before t i) (drop i t)) (drop i t) (Taken c.in-Taken.taken c.in-Taken.c) =
-        let t = c.args.text.now in let i = c.loop-i.i in halves-here t i c.read_surrogates.result (Taken c.in-Taken.taken c.in-Taken.c) (omega arith) c.if-text-i-ne92.false (c.shared_slice_known-in-loop-i-1.given (i + 1)).fits (sym (c.short-s.ensures ∙ ap short_of c.byte_after.ensures) ∙ c.if-s-ne0.false) c.read_surrogates.ensures c.in-Taken.is in
+    let t = c.args.text.now in let i = c.loop-i.i in halves-here t i c.read_surrogates.result (Taken c.in-Taken.taken c.in-Taken.c) (omega arith) c.if-text-i-ne92.false (c.shared_slice_known-in-loop-i-1.given (i + 1)).fits (sym (c.short-s.ensures ∙ ap short_of c.byte_after.ensures) ∙ c.if-s-ne0.false) c.read_surrogates.ensures c.in-Taken.is in
     let t = c.args.text.now in let i = c.loop-i.i in next-told t i c.in-Taken.taken c.in-Taken.c (omega arith) (pair-told-here)
 
 -- src/lib.rt:85:5

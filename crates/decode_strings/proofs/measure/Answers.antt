@@ -13,7 +13,7 @@ use Rattle.rules.specs.Contexts.{string_of}
 use Rattle.rules.specs.Utf8.{utf8}
 use Rattle.base.proofs.Places.{nearest-past}
 use Rattle.decode_strings.proofs.Strings.{string-quiet, SlashedAt, slashed-here, Told, told_here, within-rest, none_left}
-use Prim.Native.Nat.{◌+◌, ◌-◌, ◌≤◌}
+use Prim.Native.Nat.{◌+◌, ◌≤◌}
 use Rattle.rules.specs.Operations.{decode_step}
 use Rattle.base.proofs.Counted.{counted_start, counted-quiet, counted-keep, counted-swap, counted-measures}
 use Rattle.decode_strings.proofs.measure.Goals as goal
@@ -60,17 +60,17 @@ none : (c : In_default)
     Told a.language a.quotes a.text.now l.i Nothing
 none c =
     let told-here : let a = c.args in
-        let l = c.loop-i in
-        (r : Escape) → c.escape_of.result ≡ r → Told a.language a.quotes a.text.now l.i r =
-        λ r.
-            let a = c.args in
-            let l = c.loop-i in
-            let byte-after = c.byte_after in
-            let byte-before = c.byte_before in
-            let is-slashed = c.is_slashed in
-            let if2 = c.if-is_slashed in
-            told_here a.language a.quotes a.text.now l.i byte-after.result byte-before.result r c.escape_of.result
-            byte-after.ensures (sym is-slashed.ensures ∙ if2.false) byte-before.ensures (rw c.escape_of.ensures c.unslashed-code.ensures) in
+    let l = c.loop-i in
+    (r : Escape) → c.escape_of.result ≡ r → Told a.language a.quotes a.text.now l.i r =
+    λ r.
+    let a = c.args in
+    let l = c.loop-i in
+    let byte-after = c.byte_after in
+    let byte-before = c.byte_before in
+    let is-slashed = c.is_slashed in
+    let if2 = c.if-is_slashed in
+    told_here a.language a.quotes a.text.now l.i byte-after.result byte-before.result r c.escape_of.result
+    byte-after.ensures (sym is-slashed.ensures ∙ if2.false) byte-before.ensures (rw c.escape_of.ensures c.unslashed-code.ensures) in
     told-here _ c.in_default.is
 
 taken : (c : In-Taken)
@@ -79,17 +79,17 @@ taken : (c : In-Taken)
     Told a.language a.quotes a.text.now l.i (Taken c.in-Taken.n c.in-Taken.c)
 taken c =
     let told-here : let a = c.args in
-        let l = c.loop-i in
-        (r : Escape) → c.escape_of.result ≡ r → Told a.language a.quotes a.text.now l.i r =
-        λ r.
-            let a = c.args in
-            let l = c.loop-i in
-            let byte-after = c.byte_after in
-            let byte-before = c.byte_before in
-            let is-slashed = c.is_slashed in
-            let if2 = c.if-is_slashed in
-            told_here a.language a.quotes a.text.now l.i byte-after.result byte-before.result r c.escape_of.result
-            byte-after.ensures (sym is-slashed.ensures ∙ if2.false) byte-before.ensures (rw c.escape_of.ensures c.unslashed-code.ensures) in
+    let l = c.loop-i in
+    (r : Escape) → c.escape_of.result ≡ r → Told a.language a.quotes a.text.now l.i r =
+    λ r.
+    let a = c.args in
+    let l = c.loop-i in
+    let byte-after = c.byte_after in
+    let byte-before = c.byte_before in
+    let is-slashed = c.is_slashed in
+    let if2 = c.if-is_slashed in
+    told_here a.language a.quotes a.text.now l.i byte-after.result byte-before.result r c.escape_of.result
+    byte-after.ensures (sym is-slashed.ensures ∙ if2.false) byte-before.ensures (rw c.escape_of.ensures c.unslashed-code.ensures) in
     told-here _ c.in-Taken.is
 
 fits : (c : In-Taken)
@@ -98,21 +98,21 @@ fits : (c : In-Taken)
     (1 ≤ c.in-Taken.n) × (l.i + c.in-Taken.n ≤ length a.text.now) × (length (utf8 c.in-Taken.c) ≤ c.in-Taken.n) × (c.in-Taken.c ≤ 0x10FFFF)
 fits c =
     let taken-here : let a = c.args in
-        let l = c.loop-i in
-        Told a.language a.quotes a.text.now l.i (Taken c.in-Taken.n c.in-Taken.c) =
-        let told-here : let a = c.args in
-                let l = c.loop-i in
-                (r : Escape) → c.escape_of.result ≡ r → Told a.language a.quotes a.text.now l.i r =
-                λ r.
-                    let a = c.args in
-                    let l = c.loop-i in
-                    let byte-after = c.byte_after in
-                    let byte-before = c.byte_before in
-                    let is-slashed = c.is_slashed in
-                    let if2 = c.if-is_slashed in
-                    told_here a.language a.quotes a.text.now l.i byte-after.result byte-before.result r c.escape_of.result
-                    byte-after.ensures (sym is-slashed.ensures ∙ if2.false) byte-before.ensures (rw c.escape_of.ensures c.unslashed-code.ensures) in
-            told-here _ c.in-Taken.is in
+    let l = c.loop-i in
+    Told a.language a.quotes a.text.now l.i (Taken c.in-Taken.n c.in-Taken.c) =
+    let told-here : let a = c.args in
+    let l = c.loop-i in
+    (r : Escape) → c.escape_of.result ≡ r → Told a.language a.quotes a.text.now l.i r =
+    λ r.
+    let a = c.args in
+    let l = c.loop-i in
+    let byte-after = c.byte_after in
+    let byte-before = c.byte_before in
+    let is-slashed = c.is_slashed in
+    let if2 = c.if-is_slashed in
+    told_here a.language a.quotes a.text.now l.i byte-after.result byte-before.result r c.escape_of.result
+    byte-after.ensures (sym is-slashed.ensures ∙ if2.false) byte-before.ensures (rw c.escape_of.ensures c.unslashed-code.ensures) in
+    told-here _ c.in-Taken.is in
     let a = c.args in
     let l = c.loop-i in
     within-rest a.text.now l.i c.in-Taken.n c.in-Taken.c (taken-here).within

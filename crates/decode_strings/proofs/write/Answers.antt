@@ -40,11 +40,11 @@ next-part : (c : After-put_until-e)
     Next (Rest a.language a.quotes a.text.now l.i) (take (c.put_until-e.result - l.i) (drop l.i a.text.now)) (Rest a.language a.quotes a.text.now c.put_until-e.result)
 next-part c =
     let quiet-here : let a = c.args in
-        let l = c.loop-i in
-        Keeps (decode_step (string_of a.language a.quotes)) a.text.now l.i c.put_until-e.result =
-        let a = c.args in
-            let l = c.loop-i in
-            string-quiet a.language a.quotes a.text.now l.i c.put_until-e.result c.put_until-e.ensures.0 in
+    let l = c.loop-i in
+    Keeps (decode_step (string_of a.language a.quotes)) a.text.now l.i c.put_until-e.result =
+    let a = c.args in
+    let l = c.loop-i in
+    string-quiet a.language a.quotes a.text.now l.i c.put_until-e.result c.put_until-e.ensures.0 in
     let a = c.args in
     let l = c.loop-i in
     next-quiet (decode_step (string_of a.language a.quotes)) a.text.now l.i c.put_until-e.result c.put_until-e.ensures.0.after c.put_until-e.ensures.0.within (quiet-here)
@@ -74,12 +74,12 @@ next-two : (c : Then-is_slashed)
     Next (Rest a.language a.quotes a.text.now l.i) (c.byte_after-b.result ∷ []) (Rest a.language a.quotes a.text.now (l.i + 2))
 next-two c =
     let two-here : let a = c.args in
-        let l = c.loop-i in
-        SlashedAt a.language a.quotes a.text.now l.i c.byte_after-b.result =
-        let a = c.args in
-            let l = c.loop-i in
-            let byte-after = c.byte_after-b in
-            slashed-here a.language a.quotes a.text.now l.i byte-after.result byte-after.ensures (sym c.is_slashed.ensures ∙ c.if-is_slashed.true) in
+    let l = c.loop-i in
+    SlashedAt a.language a.quotes a.text.now l.i c.byte_after-b.result =
+    let a = c.args in
+    let l = c.loop-i in
+    let byte-after = c.byte_after-b in
+    slashed-here a.language a.quotes a.text.now l.i byte-after.result byte-after.ensures (sym c.is_slashed.ensures ∙ c.if-is_slashed.true) in
     let a = c.args in
     let l = c.loop-i in
     next-swap (decode_step (string_of a.language a.quotes)) a.text.now l.i 2 (c.byte_after-b.result ∷ []) (omega arith) (two-here).1 (two-here).0
@@ -106,17 +106,17 @@ none : (c : In_default)
     Told a.language a.quotes a.text.now l.i Nothing
 none c =
     let told-here : let a = c.args in
-        let l = c.loop-i in
-        (r : Escape) → c.read_escape.result ≡ r → Told a.language a.quotes a.text.now l.i r =
-        λ r.
-            let a = c.args in
-            let l = c.loop-i in
-            let byte-after = c.byte_after-b in
-            let byte-before = c.byte_before-before in
-            let is-slashed = c.is_slashed in
-            let if2 = c.if-is_slashed in
-            told_here a.language a.quotes a.text.now l.i byte-after.result byte-before.result r c.read_escape.result
-            byte-after.ensures (sym is-slashed.ensures ∙ if2.false) byte-before.ensures c.read_escape.ensures in
+    let l = c.loop-i in
+    (r : Escape) → c.read_escape.result ≡ r → Told a.language a.quotes a.text.now l.i r =
+    λ r.
+    let a = c.args in
+    let l = c.loop-i in
+    let byte-after = c.byte_after-b in
+    let byte-before = c.byte_before-before in
+    let is-slashed = c.is_slashed in
+    let if2 = c.if-is_slashed in
+    told_here a.language a.quotes a.text.now l.i byte-after.result byte-before.result r c.read_escape.result
+    byte-after.ensures (sym is-slashed.ensures ∙ if2.false) byte-before.ensures c.read_escape.ensures in
     told-here _ c.in_default.is
 
 next_one : (c : In_default)
@@ -125,21 +125,21 @@ next_one : (c : In_default)
     Next (Rest a.language a.quotes a.text.now l.i) (take (l.i + 1 - l.i) (drop l.i a.text.now)) (Rest a.language a.quotes a.text.now (l.i + 1))
 next_one c =
     let none-here : let a = c.args in
-        let l = c.loop-i in
-        Told a.language a.quotes a.text.now l.i Nothing =
-        let told-here : let a = c.args in
-                let l = c.loop-i in
-                (r : Escape) → c.read_escape.result ≡ r → Told a.language a.quotes a.text.now l.i r =
-                λ r.
-                    let a = c.args in
-                    let l = c.loop-i in
-                    let byte-after = c.byte_after-b in
-                    let byte-before = c.byte_before-before in
-                    let is-slashed = c.is_slashed in
-                    let if2 = c.if-is_slashed in
-                    told_here a.language a.quotes a.text.now l.i byte-after.result byte-before.result r c.read_escape.result
-                    byte-after.ensures (sym is-slashed.ensures ∙ if2.false) byte-before.ensures c.read_escape.ensures in
-            told-here _ c.in_default.is in
+    let l = c.loop-i in
+    Told a.language a.quotes a.text.now l.i Nothing =
+    let told-here : let a = c.args in
+    let l = c.loop-i in
+    (r : Escape) → c.read_escape.result ≡ r → Told a.language a.quotes a.text.now l.i r =
+    λ r.
+    let a = c.args in
+    let l = c.loop-i in
+    let byte-after = c.byte_after-b in
+    let byte-before = c.byte_before-before in
+    let is-slashed = c.is_slashed in
+    let if2 = c.if-is_slashed in
+    told_here a.language a.quotes a.text.now l.i byte-after.result byte-before.result r c.read_escape.result
+    byte-after.ensures (sym is-slashed.ensures ∙ if2.false) byte-before.ensures c.read_escape.ensures in
+    told-here _ c.in_default.is in
     let a = c.args in
     let l = c.loop-i in
     next-keep (decode_step (string_of a.language a.quotes)) a.text.now l.i (search rules) (none-here).moves
@@ -150,17 +150,17 @@ taken : (c : In-Taken)
     Told a.language a.quotes a.text.now l.i (Taken c.in-Taken.n c.in-Taken.c)
 taken c =
     let told-here : let a = c.args in
-        let l = c.loop-i in
-        (r : Escape) → c.read_escape.result ≡ r → Told a.language a.quotes a.text.now l.i r =
-        λ r.
-            let a = c.args in
-            let l = c.loop-i in
-            let byte-after = c.byte_after-b in
-            let byte-before = c.byte_before-before in
-            let is-slashed = c.is_slashed in
-            let if2 = c.if-is_slashed in
-            told_here a.language a.quotes a.text.now l.i byte-after.result byte-before.result r c.read_escape.result
-            byte-after.ensures (sym is-slashed.ensures ∙ if2.false) byte-before.ensures c.read_escape.ensures in
+    let l = c.loop-i in
+    (r : Escape) → c.read_escape.result ≡ r → Told a.language a.quotes a.text.now l.i r =
+    λ r.
+    let a = c.args in
+    let l = c.loop-i in
+    let byte-after = c.byte_after-b in
+    let byte-before = c.byte_before-before in
+    let is-slashed = c.is_slashed in
+    let if2 = c.if-is_slashed in
+    told_here a.language a.quotes a.text.now l.i byte-after.result byte-before.result r c.read_escape.result
+    byte-after.ensures (sym is-slashed.ensures ∙ if2.false) byte-before.ensures c.read_escape.ensures in
     told-here _ c.in-Taken.is
 
 fits : (c : In-Taken)
@@ -169,21 +169,21 @@ fits : (c : In-Taken)
     (1 ≤ c.in-Taken.n) × (l.i + c.in-Taken.n ≤ length a.text.now) × (length (utf8 c.in-Taken.c) ≤ c.in-Taken.n) × (c.in-Taken.c ≤ 0x10FFFF)
 fits c =
     let taken-here : let a = c.args in
-        let l = c.loop-i in
-        Told a.language a.quotes a.text.now l.i (Taken c.in-Taken.n c.in-Taken.c) =
-        let told-here : let a = c.args in
-                let l = c.loop-i in
-                (r : Escape) → c.read_escape.result ≡ r → Told a.language a.quotes a.text.now l.i r =
-                λ r.
-                    let a = c.args in
-                    let l = c.loop-i in
-                    let byte-after = c.byte_after-b in
-                    let byte-before = c.byte_before-before in
-                    let is-slashed = c.is_slashed in
-                    let if2 = c.if-is_slashed in
-                    told_here a.language a.quotes a.text.now l.i byte-after.result byte-before.result r c.read_escape.result
-                    byte-after.ensures (sym is-slashed.ensures ∙ if2.false) byte-before.ensures c.read_escape.ensures in
-            told-here _ c.in-Taken.is in
+    let l = c.loop-i in
+    Told a.language a.quotes a.text.now l.i (Taken c.in-Taken.n c.in-Taken.c) =
+    let told-here : let a = c.args in
+    let l = c.loop-i in
+    (r : Escape) → c.read_escape.result ≡ r → Told a.language a.quotes a.text.now l.i r =
+    λ r.
+    let a = c.args in
+    let l = c.loop-i in
+    let byte-after = c.byte_after-b in
+    let byte-before = c.byte_before-before in
+    let is-slashed = c.is_slashed in
+    let if2 = c.if-is_slashed in
+    told_here a.language a.quotes a.text.now l.i byte-after.result byte-before.result r c.read_escape.result
+    byte-after.ensures (sym is-slashed.ensures ∙ if2.false) byte-before.ensures c.read_escape.ensures in
+    told-here _ c.in-Taken.is in
     let a = c.args in
     let l = c.loop-i in
     within-rest a.text.now l.i c.in-Taken.n c.in-Taken.c (taken-here).within
@@ -194,43 +194,43 @@ next-char : (c : In-Taken)
     Next (Rest a.language a.quotes a.text.now l.i) (utf8 c.in-Taken.c) (Rest a.language a.quotes a.text.now (l.i + c.in-Taken.n))
 next-char c =
     let fits-here : let l = c.loop-i in
-        let a = c.args in
-        (1 ≤ c.in-Taken.n) × (l.i + c.in-Taken.n ≤ length a.text.now) × (length (utf8 c.in-Taken.c) ≤ c.in-Taken.n) × (c.in-Taken.c ≤ 0x10FFFF) =
-        let taken-here : let a = c.args in
-                let l = c.loop-i in
-                Told a.language a.quotes a.text.now l.i (Taken c.in-Taken.n c.in-Taken.c) =
-                let told-here : let a = c.args in
-                        let l = c.loop-i in
-                        (r : Escape) → c.read_escape.result ≡ r → Told a.language a.quotes a.text.now l.i r =
-                        λ r.
-                            let a = c.args in
-                            let l = c.loop-i in
-                            let byte-after = c.byte_after-b in
-                            let byte-before = c.byte_before-before in
-                            let is-slashed = c.is_slashed in
-                            let if2 = c.if-is_slashed in
-                            told_here a.language a.quotes a.text.now l.i byte-after.result byte-before.result r c.read_escape.result
-                            byte-after.ensures (sym is-slashed.ensures ∙ if2.false) byte-before.ensures c.read_escape.ensures in
-                    told-here _ c.in-Taken.is in
-            let a = c.args in
-            let l = c.loop-i in
-            within-rest a.text.now l.i c.in-Taken.n c.in-Taken.c (taken-here).within in
+    let a = c.args in
+    (1 ≤ c.in-Taken.n) × (l.i + c.in-Taken.n ≤ length a.text.now) × (length (utf8 c.in-Taken.c) ≤ c.in-Taken.n) × (c.in-Taken.c ≤ 0x10FFFF) =
     let taken-here : let a = c.args in
-        let l = c.loop-i in
-        Told a.language a.quotes a.text.now l.i (Taken c.in-Taken.n c.in-Taken.c) =
-        let told-here : let a = c.args in
-                let l = c.loop-i in
-                (r : Escape) → c.read_escape.result ≡ r → Told a.language a.quotes a.text.now l.i r =
-                λ r.
-                    let a = c.args in
-                    let l = c.loop-i in
-                    let byte-after = c.byte_after-b in
-                    let byte-before = c.byte_before-before in
-                    let is-slashed = c.is_slashed in
-                    let if2 = c.if-is_slashed in
-                    told_here a.language a.quotes a.text.now l.i byte-after.result byte-before.result r c.read_escape.result
-                    byte-after.ensures (sym is-slashed.ensures ∙ if2.false) byte-before.ensures c.read_escape.ensures in
-            told-here _ c.in-Taken.is in
+    let l = c.loop-i in
+    Told a.language a.quotes a.text.now l.i (Taken c.in-Taken.n c.in-Taken.c) =
+    let told-here : let a = c.args in
+    let l = c.loop-i in
+    (r : Escape) → c.read_escape.result ≡ r → Told a.language a.quotes a.text.now l.i r =
+    λ r.
+    let a = c.args in
+    let l = c.loop-i in
+    let byte-after = c.byte_after-b in
+    let byte-before = c.byte_before-before in
+    let is-slashed = c.is_slashed in
+    let if2 = c.if-is_slashed in
+    told_here a.language a.quotes a.text.now l.i byte-after.result byte-before.result r c.read_escape.result
+    byte-after.ensures (sym is-slashed.ensures ∙ if2.false) byte-before.ensures c.read_escape.ensures in
+    told-here _ c.in-Taken.is in
+    let a = c.args in
+    let l = c.loop-i in
+    within-rest a.text.now l.i c.in-Taken.n c.in-Taken.c (taken-here).within in
+    let taken-here : let a = c.args in
+    let l = c.loop-i in
+    Told a.language a.quotes a.text.now l.i (Taken c.in-Taken.n c.in-Taken.c) =
+    let told-here : let a = c.args in
+    let l = c.loop-i in
+    (r : Escape) → c.read_escape.result ≡ r → Told a.language a.quotes a.text.now l.i r =
+    λ r.
+    let a = c.args in
+    let l = c.loop-i in
+    let byte-after = c.byte_after-b in
+    let byte-before = c.byte_before-before in
+    let is-slashed = c.is_slashed in
+    let if2 = c.if-is_slashed in
+    told_here a.language a.quotes a.text.now l.i byte-after.result byte-before.result r c.read_escape.result
+    byte-after.ensures (sym is-slashed.ensures ∙ if2.false) byte-before.ensures c.read_escape.ensures in
+    told-here _ c.in-Taken.is in
     let a = c.args in
     let l = c.loop-i in
     next-swap (decode_step (string_of a.language a.quotes)) a.text.now l.i c.in-Taken.n (utf8 c.in-Taken.c) (fits-here).0 (fits-here).1 (taken-here).moves

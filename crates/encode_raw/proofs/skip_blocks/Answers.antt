@@ -1,7 +1,7 @@
 -- `encode_raw::skip_blocks` meets its contract. The invariant: no backslash goes in after a byte that is passed.
 -- Assumes nothing.
 use borrow.Author.Rules.{rules}
-use Prim.Native.Nat.{◌+◌, ◌-◌}
+use Prim.Native.Nat.{◌+◌}
 use Rattle.base.proofs.Firsts.{free-start, free-join}
 use Rattle.encode_raw.specs.Cuts.{cut_at}
 use Rattle.encode_raw.proofs.skip_blocks.Goals as goal

@@ -1,7 +1,6 @@
 -- `encode_raw::write_to` meets its contract: what is written so far, with what the rest of the text gives, is the result of the whole. The measure is what is left before the end.
 -- Assumes nothing.
 use mathlib.Core.Path.{ap}
-use Prim.Native.Nat.{◌-◌}
 use native.Mathlib.Omega.{arith}
 use borrow.Author.Rules.{rules}
 use Rattle.rules.specs.Moves.{result}

@@ -3,7 +3,7 @@
 -- Assumes nothing.
 use Prim.Native.Nat.{◌-◌, ◌≤◌}
 use native.Mathlib.Omega.{arith}
-use lib.ListN.{length, take, drop}
+use lib.ListN.{take, drop}
 use Rattle.base.proofs.Part.{part_length}
 use Rattle.base.proofs.Filled.{filled-start, filled_next, filled-room, filled_put, filled-end}
 use Rattle.rules.specs.Contexts.{written_in}

@@ -28,7 +28,7 @@ none c = eqb-true _ 0 (sym c.is_copied.ensures ∙ c.if-is_copied.true)
 stays : (c : Then-is_copied) → let a = c.args in encode_of (written_in a.notation a.quotes) a.part.now ≡ a.part.now
 stays c =
     let none-here : let a = c.args in replaced (through (encode_step (written_in a.notation a.quotes)) a.part.now) ≡ 0 =
-        eqb-true _ 0 (sym c.is_copied.ensures ∙ c.if-is_copied.true) in
+    eqb-true _ 0 (sym c.is_copied.ensures ∙ c.if-is_copied.true) in
     let a = c.args in (encode_same (written_in a.notation a.quotes) a.part.now).0 (none-here)
 
 -- The growth tells the places.

@@ -1,6 +1,6 @@
 -- `find` meets its contract: what is passed has no hit, and the lowest bit of the first hits is at the first place.
 -- Assumes nothing.
-use Prim.Native.Nat.{◌+◌, ◌-◌}
+use Prim.Native.Nat.{◌+◌}
 use native.Mathlib.Omega.{arith}
 use Rattle.base.proofs.Places.{absent-join, nearest-after}
 use Rattle.find_ascii.proofs.Lowest.{index-near}

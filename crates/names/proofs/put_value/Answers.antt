@@ -1,6 +1,5 @@
 -- `names::put_value` meets its contract: what is read of the number is written, and `rest` holds what is left.
 -- Assumes nothing.
-use Prim.Native.Nat.{◌-◌}
 use borrow.Author.Rules.{rules}
 use Rattle.names.proofs.Packed.{unpacked-start, unpacked-end, unpacked-zero, unpacked-six, unpacked-room, unpacked-next}
 use Rattle.names.proofs.put_value.Goals as goal

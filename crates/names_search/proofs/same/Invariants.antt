@@ -1,6 +1,5 @@
 -- `names_search::same` meets its contract: the two names are as long as each other, and the same from the place on that the loop has reached.
 -- Assumes nothing.
-use Prim.Native.Nat.{◌-◌}
 use Rattle.names_search.proofs.Scanning.{Alike}
 use Rattle.names_search.proofs.same.Given as goal
 

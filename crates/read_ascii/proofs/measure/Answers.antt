@@ -7,8 +7,6 @@ use Rattle.rules.specs.declared.Escape.TheVariants.{Taken, Nothing}
 use Rattle.rules.specs.declared.Context.TheVariants.{InAscii}
 use Rattle.rules.specs.Reading.{read_step}
 use Rattle.rules.specs.Utf8.{utf8}
-use Rattle.rules.specs.Moves.{result}
-use Prim.Native.Nat.{◌-◌}
 use native.Mathlib.Omega.{arith}
 use Rattle.read_ascii.proofs.measure.Goals as goal
 

@@ -10,7 +10,6 @@ use Rattle.rules.proofs.Quiet.{Keeps}
 use Rattle.rules.specs.Utf8.{utf8}
 use Rattle.reader.specs.Units.{byte_step}
 use Rattle.reader.proofs.Characters.{clear-keeps, UnitAt, unit-here, no-unit-here, no-mark-here}
-use Prim.Native.Nat.{◌-◌}
 use Rattle.rules.specs.Moves.{from}
 use Rattle.base.proofs.Counted.{counted_start, counted-quiet, counted-swap}
 use Rattle.reader.proofs.Bytewise.{read-measures}

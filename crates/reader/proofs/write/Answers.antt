@@ -40,14 +40,14 @@ next-part : (c : After-next_replaced-e)
     Next (Rest a.c a.text.now l.i) (take (c.next_replaced-e.result - l.i) (drop l.i a.text.now)) (Rest a.c a.text.now c.next_replaced-e.result)
 next-part c =
     let clear-here : let a = c.args in
-        let l = c.loop-i in
-        Keeps (byte_step a.c) a.text.now l.i c.next_replaced-e.result =
-        let a = c.args in
-            let shared-slice-known = c.shared_slice_known-1 in
-            let leads-of = c.leads_of-leads in
-            let l = c.loop-i in
-            clear-keeps a.c a.text.now (λ k. (shared-slice-known.given k).fits) leads-of.result leads-of.ensures l.i c.next_replaced-e.result
-            c.next_replaced-e.ensures in
+    let l = c.loop-i in
+    Keeps (byte_step a.c) a.text.now l.i c.next_replaced-e.result =
+    let a = c.args in
+    let shared-slice-known = c.shared_slice_known-1 in
+    let leads-of = c.leads_of-leads in
+    let l = c.loop-i in
+    clear-keeps a.c a.text.now (λ k. (shared-slice-known.given k).fits) leads-of.result leads-of.ensures l.i c.next_replaced-e.result
+    c.next_replaced-e.ensures in
     let a = c.args in
     let l = c.loop-i in
     next-quiet (byte_step a.c) a.text.now l.i c.next_replaced-e.result c.next_replaced-e.ensures.after c.next_replaced-e.ensures.within (clear-here)
@@ -100,12 +100,12 @@ next-char : (c : In-Taken)
     Next (Rest a.c a.text.now l.i) (utf8 c.in-Taken.ch) (Rest a.c a.text.now (l.i + c.in-Taken.n))
 next-char c =
     let found-here : let a = c.args in
-        let l = c.loop-i in
-        UnitAt a.c a.text.now l.i c.in-Taken.n c.in-Taken.ch =
-        let a = c.args in
-            let l = c.loop-i in
-            let read-unit = c.read_unit in
-            unit-here a.c a.text.now l.i (omega arith) c.in-Taken.n c.in-Taken.ch read-unit.result c.in-Taken.is read-unit.ensures in
+    let l = c.loop-i in
+    UnitAt a.c a.text.now l.i c.in-Taken.n c.in-Taken.ch =
+    let a = c.args in
+    let l = c.loop-i in
+    let read-unit = c.read_unit in
+    unit-here a.c a.text.now l.i (omega arith) c.in-Taken.n c.in-Taken.ch read-unit.result c.in-Taken.is read-unit.ensures in
     let a = c.args in
     let l = c.loop-i in
     next-swap (byte_step a.c) a.text.now l.i c.in-Taken.n (utf8 c.in-Taken.ch) (found-here).some (found-here).ends (found-here).moves

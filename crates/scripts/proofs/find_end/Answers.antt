@@ -1,7 +1,6 @@
 -- `scripts::find_end` meets its contract: what the rest of the text gives from the mode that was reached is what the whole gives. The measure is what is left of the text.
 -- Assumes nothing.
 use mathlib.Core.Path.{sym, ◌∙◌}
-use Prim.Native.Nat.{◌-◌}
 use borrow.Author.Rules.{rules}
 use Rattle.scripts.proofs.Ends.{ends-here, turns-here, no_more, from_start}
 use Rattle.scripts.proofs.find_end.Goals as goal

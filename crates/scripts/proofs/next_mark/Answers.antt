@@ -2,7 +2,6 @@
 -- Assumes nothing.
 use borrow.Author.Rules.{rules}
 use borrow.Author.Tests.{ne_eqb}
-use Prim.Native.Nat.{◌-◌}
 use Rattle.base.proofs.Firsts.{free-start, free_step}
 use Rattle.scripts.specs.Marks.{stop_at}
 use Rattle.scripts.proofs.Ends.{passed-others}

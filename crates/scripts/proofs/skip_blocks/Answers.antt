@@ -1,7 +1,7 @@
 -- `scripts::skip_blocks` meets its contract. The invariant: no byte that is passed begins a mark.
 -- Assumes nothing.
 use borrow.Author.Rules.{rules}
-use Prim.Native.Nat.{◌+◌, ◌-◌}
+use Prim.Native.Nat.{◌+◌}
 use native.Mathlib.Omega.{arith}
 use Rattle.base.proofs.Firsts.{free-start, free-join}
 use Rattle.scripts.specs.Marks.{mark_at}

@@ -1,7 +1,7 @@
 -- `scripts::starts_with_name` meets its contract: the name is left at what of the text is left exactly if the whole is at the whole. The measure is what is left of the name.
 -- Assumes nothing.
 use mathlib.Core.Path.{refl, sym, ap, ◌∙◌}
-use Prim.Native.Nat.{ℕ, ◌-◌}
+use Prim.Native.Nat.{ℕ}
 use borrow.Author.Rules.{rules}
 use borrow.Author.Tests.{eq-eqb, ne_eqb}
 use lib.Dec.{eqb}

@@ -1,6 +1,5 @@
 -- `scripts::to_lower` meets its contract, by the test of the letter, both ways.
 -- Assumes nothing.
-use mathlib.Core.Bool.{true, false}
 use mathlib.Core.Path.{sym, ◌∙◌}
 use native.Mathlib.Omega.{arith}
 use Rattle.scripts.proofs.Named.{upper-low}

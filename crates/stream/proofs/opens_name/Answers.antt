@@ -2,7 +2,6 @@
 -- left of the bytes.
 -- Assumes nothing.
 use mathlib.Core.Path.{refl, sym, ◌∙◌}
-use Prim.Native.Nat.{◌-◌}
 use borrow.Author.Rules.{rules}
 use borrow.Author.Tests.{not-true, not-false}
 use Rattle.stream.proofs.Opened.{name-on, name-off, name-past, name-within}

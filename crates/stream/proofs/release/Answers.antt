@@ -25,8 +25,8 @@ first : (c : After-slice_known-2-1)
     → Filled (both c.args.seam.now c.args.s c.args.rest.now c.args.e) (front c.args.e c.args.rest.now) c.args.output.now c.write_to-at.new.output c.write_to-at.result
 first c =
     let room-here : length (front c.args.s c.args.seam.now) + length (front c.args.e c.args.rest.now) ≤ length c.args.output.now =
-        let a = c.args in
-            needed-room a.seam.now a.s a.rest.now a.e (length a.output.now) c.needed-length.ensures c.if-output-length.false in
+    let a = c.args in
+    needed-room a.seam.now a.s a.rest.now a.e (length a.output.now) c.needed-length.ensures c.if-output-length.false in
     let a = c.args in
     let w = c.write_to-at in
     first-filled (front a.s a.seam.now) (front a.e a.rest.now) a.output.now (room-here) w.new.output w.result w.ensures.0 w.ensures.1

@@ -9,7 +9,7 @@ pub loop-k-preserved : goal.loop-k-preserved
 loop-k-preserved c =
     let passed = c.loop-k.invariant.2 in
     elim c.if-part-k-ge128.branch [
-      then-part-k-ge128 w ↦ (omega arith, omega arith, λ e k l. absurd (omega arith))
+      | then-part-k-ge128 w ↦ (omega arith, omega arith, λ e k l. absurd (omega arith))
       | else-part-k-ge128 w ↦ (omega arith, omega arith, λ e. below_more _ _ (passed (omega arith)) (omega arith))
     ]
 

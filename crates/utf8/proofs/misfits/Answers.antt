@@ -1,8 +1,6 @@
 -- `misfits` meets its contract: while none is counted, each byte passed fits. The measure is what is left of the part.
 -- Assumes nothing.
-use mathlib.Core.Logic.{⊎_elim}
 use mathlib.Core.Path.{sym, ◌∙◌}
-use Prim.Native.Nat.{◌-◌}
 use native.Mathlib.Omega.{arith}
 use borrow.Author.Count.{below_more}
 use borrow.Author.Rules.{rules}
@@ -23,7 +21,7 @@ loop-k-preserved c =
     let l = c in
     let s = l.args.part.now in
     elim c.if-not-is_fit.branch [
-      then-not-is_fit w ↦ (omega arith, omega arith, λ e j h. absurd (omega arith))
+      | then-not-is_fit w ↦ (omega arith, omega arith, λ e j h. absurd (omega arith))
       | else-not-is_fit w ↦ (
         omega arith,
         omega arith,

@@ -1,6 +1,5 @@
 -- `valid_to` meets its contract: up to `i` the text is valid. The measure is what is left of it.
 -- Assumes nothing.
-use Prim.Native.Nat.{◌-◌}
 use borrow.Author.Rules.{rules}
 use Rattle.utf8.proofs.Texts.{no_text, valid-here, end-no-char}
 use Rattle.utf8.proofs.valid_to.Goals as goal

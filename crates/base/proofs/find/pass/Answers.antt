@@ -1,7 +1,7 @@
 -- `crate::find::pass` meets its contract. The invariant: the byte is at no place that is passed.
 -- Assumes nothing.
 use borrow.Author.Rules.{rules}
-use Prim.Native.Nat.{◌+◌, ◌-◌}
+use Prim.Native.Nat.{◌+◌}
 use native.Mathlib.Omega.{arith}
 use Rattle.base.proofs.Places.{absent-join}
 use Rattle.base.proofs.find.pass.Goals as goal

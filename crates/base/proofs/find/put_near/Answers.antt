@@ -1,6 +1,5 @@
 -- `crate::find::put_near` meets its contract. The invariant: the bytes before place n are not the byte, and stand in the output.
 -- Assumes nothing.
-use Prim.Native.Nat.{◌-◌}
 use borrow.Author.Rules.{rules}
 use Rattle.base.proofs.Copied.{copied-start, copied-here, copied-end, copied-room, copied_next}
 use Rattle.base.proofs.find.put_near.Goals as goal

@@ -1,7 +1,6 @@
 -- `crate::find::walk` meets its contract. The invariant: the byte is at no place that is passed.
 -- Assumes nothing.
 use borrow.Author.Rules.{rules}
-use Prim.Native.Nat.{◌-◌}
 use native.Mathlib.Omega.{arith}
 use Rattle.base.proofs.Places.{absent-step}
 use Rattle.base.proofs.find.walk.Goals as goal

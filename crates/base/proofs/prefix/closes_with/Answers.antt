@@ -1,7 +1,6 @@
 -- `closes_with` meets its contract: the name is left at what of the text is left exactly if the whole is at the whole. The measure is what is left of the name.
 -- Assumes nothing.
 use mathlib.Core.Path.{refl, sym, ◌∙◌}
-use Prim.Native.Nat.{◌-◌}
 use borrow.Author.Tests.{not-true, not-false}
 use borrow.Author.Rules.{rules}
 use Rattle.base.proofs.Standing.{named-closes, named-on, named-off, named-short, named_end, named-last}

@@ -1,7 +1,6 @@
 -- `starts` meets its contract: what of the pattern is left stands at what of the text is left exactly if the whole does at the whole.
 -- Assumes nothing.
 use mathlib.Core.Path.{refl, sym, ◌∙◌}
-use Prim.Native.Nat.{◌-◌}
 use borrow.Author.Rules.{rules}
 use borrow.Author.Tests.{eq-eqb, ne_eqb}
 use lib.Dec.{eqb}

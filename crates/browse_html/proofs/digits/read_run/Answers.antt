@@ -1,7 +1,7 @@
 -- The number so far takes up each digit, and the run ends where none stands.
 -- Assumes nothing.
 use borrow.Author.Rules.{rules}
-use Prim.Native.Nat.{◌+◌, ◌-◌, ◌*◌}
+use Prim.Native.Nat.{◌+◌, ◌*◌}
 use native.Mathlib.Omega.{arith}
 use lib.ListN.{get_or}
 use Rattle.decode_html.proofs.Ceiling.{ceiling-most, digit-by, base-some, base-small, base-most}

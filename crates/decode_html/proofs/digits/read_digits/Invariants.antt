@@ -3,7 +3,7 @@
 use mathlib.Core.Path.{◌≡◌}
 use Prim.Native.Nat.{◌-◌, ◌≤◌}
 use lib.ListN.{length, drop}
-use Rattle.rules.specs.References.{digits as digits_of, number}
+use Rattle.rules.specs.References.{digits as digits_of}
 use Rattle.decode_html.specs.Digits.{digit_by, capped}
 use Rattle.decode_html.proofs.digits.read_digits.Given as goal
 

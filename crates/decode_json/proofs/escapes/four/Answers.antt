@@ -10,7 +10,6 @@
 -- src/escapes.rt:41:13
 -- src/escapes.rt:43:9
 use Rattle.decode_json.proofs.Told.{four-first, four-second, four-third, four-fourth, four-all}
-use Rattle.base.proofs.digit_value.Reads as digit-value-reads
 use Rattle.decode_json.proofs.escapes.four.Goals as goal
 
 pub returns-then-w-ge16 : goal.returns-then-w-ge16

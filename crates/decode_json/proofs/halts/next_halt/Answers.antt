@@ -1,7 +1,7 @@
 -- `next_halt` meets its contract. The invariant: no such byte is among those that are passed. The measure is what is left.
 -- Assumes nothing.
 use borrow.Author.Rules.{rules}
-use Prim.Native.Nat.{◌+◌, ◌-◌}
+use Prim.Native.Nat.{◌+◌}
 use native.Mathlib.Omega.{arith}
 use Rattle.base.proofs.Firsts.{free-start, free-join}
 use Rattle.decode_json.specs.Escapes.{halt_at}

@@ -32,11 +32,11 @@ room : (c : After-shared_slice_known-in-loop-i-2-1)
     l.i + 1 ≤ a.from + length a.output.now
 room c =
     let free-here : let a = c.args in
-        let l = c.loop-i in
-        Free (halt_at a.text.now) a.from (l.i + 1) =
-        let a = c.args in
-            let l = c.loop-i in
-            free_step (halt_at a.text.now) a.from l.i l.invariant.3 (sym c.is_halt.ensures ∙ c.if-is_halt.false) in
+    let l = c.loop-i in
+    Free (halt_at a.text.now) a.from (l.i + 1) =
+    let a = c.args in
+    let l = c.loop-i in
+    free_step (halt_at a.text.now) a.from l.i l.invariant.3 (sym c.is_halt.ensures ∙ c.if-is_halt.false) in
     let p = c.requires in
     let l = c.loop-i in
     p.2 (l.i + 1) (omega (arith, l.invariant.0)) (omega (arith, p.1)) (free-here)

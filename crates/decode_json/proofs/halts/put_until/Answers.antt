@@ -22,7 +22,7 @@ whole c = let a = c.args in let p = c.put_near-near in part_length a.text.now a.
 kept : (c : Else-near-end) → let a = c.args in let p = c.put_near-near in (p.result ≤ a.from + length a.output.now) × (length p.new.output ≡ length a.output.now)
 kept c =
     let whole-here : let a = c.args in let p = c.put_near-near in length (take (p.result - a.from) (drop a.from a.text.now)) ≡ p.result - a.from =
-        let a = c.args in let p = c.put_near-near in part_length a.text.now a.from p.result p.ensures.0.after (omega (arith, p.ensures.0.within, c.min.ensures.0)) in
+    let a = c.args in let p = c.put_near-near in part_length a.text.now a.from p.result p.ensures.0.after (omega (arith, p.ensures.0.within, c.min.ensures.0)) in
     let a = c.args in
     let p = c.put_near-near in
     let r = c.requires.1 p.result p.ensures.0.after (omega (arith, p.ensures.0.within, c.min.ensures.0)) p.ensures.0.none in
@@ -36,7 +36,7 @@ free c = free-join (halt_at c.args.text.now) c.args.from c.put_near-near.result 
 room : (c : After-next_halt-far) → c.next_halt-far.result ≤ c.args.from + length c.args.output.now
 room c =
     let free-here : Free (halt_at c.args.text.now) c.args.from c.next_halt-far.result =
-        free-join (halt_at c.args.text.now) c.args.from c.put_near-near.result c.next_halt-far.result c.put_near-near.ensures.0.none c.next_halt-far.ensures.none in
+    free-join (halt_at c.args.text.now) c.args.from c.put_near-near.result c.next_halt-far.result c.put_near-near.ensures.0.none c.next_halt-far.ensures.none in
     c.requires.1 c.next_halt-far.result (omega (arith, c.put_near-near.ensures.0.after, c.next_halt-far.ensures.after)) c.next_halt-far.ensures.within (free-here)
 
 -- src/halts.rt:106:32

@@ -1,6 +1,5 @@
 -- The least so far is above 0 only if no byte that is passed is a key.
 -- Assumes nothing.
-use Prim.Native.Nat.{◌-◌}
 use native.Mathlib.Omega.{arith}
 use borrow.Author.Count.{below_more}
 use borrow.Author.Rules.{rules}

@@ -1,6 +1,5 @@
 -- What is written so far, with what the rest of the text gives, is the encoding of the whole; the measure is what is left of the text.
 -- Assumes nothing.
-use Prim.Native.Nat.{◌-◌}
 use native.Mathlib.Omega.{arith}
 use borrow.Author.Rules.{rules}
 use Rattle.base.proofs.Spilt.{spilt-start, spilt-room, spilt-next, spilt-put, spilt-end}

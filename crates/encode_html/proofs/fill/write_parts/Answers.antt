@@ -1,7 +1,7 @@
 -- What is written so far, with what the rest of the text gives, is the encoding of the whole; the measure is what is left of the text. The bytes that
 -- fill no part are one more.
 -- Assumes nothing.
-use Prim.Native.Nat.{◌+◌, ◌-◌}
+use Prim.Native.Nat.{◌+◌}
 use native.Mathlib.Omega.{arith}
 use lib.ListN.{length}
 use borrow.Author.Rules.{rules}

@@ -1,6 +1,6 @@
 -- The parts so far grow by what is counted and have so many places replaced, and with what is left they are the whole; if none was counted as high, every byte so far is ASCII.
 -- Assumes nothing.
-use Prim.Native.Nat.{◌-◌, ◌≤◌}
+use Prim.Native.Nat.{◌≤◌}
 use native.Mathlib.Omega.{arith}
 use borrow.Author.Rules.{rules}
 use Rattle.base.proofs.Part.{part_length}

@@ -1,7 +1,6 @@
 -- The counts so far are the growth of the first bytes and how many of them are replaced, and with what is left they are the whole; no byte so far is
 -- above the greatest.
 -- Assumes nothing.
-use Prim.Native.Nat.{◌-◌}
 use native.Mathlib.Omega.{arith}
 use borrow.Author.Count.{below_more}
 use borrow.Author.Rules.{rules}

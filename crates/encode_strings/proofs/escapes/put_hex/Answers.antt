@@ -5,8 +5,6 @@
 -- src/escapes.rt:118:40
 -- src/escapes.rt:118:39
 -- src/escapes.rt:118:29
-use Rattle.base.proofs.hex_digit.Reads as hex-digit-reads
-use Rattle.base.proofs.put.Reads as put_reads
 use Rattle.encode_strings.proofs.escapes.put_hex.Goals as goal
 
 pub put-requires : goal.put-requires

@@ -33,9 +33,9 @@ next : (c : In-By)
     → Next (encode_of (written_in a.notation a.quotes) (drop l.i a.text.now)) (gives (replacement_move a.notation (take (length a.text.now - l.i) (drop l.i a.text.now)) c.in-By.found)) (encode_of (written_in a.notation a.quotes) (drop (l.i + n) a.text.now))
 next c =
     let kind-here : let a = c.args in
-        let l = c.loop-i in
-        FoundAt a.notation a.quotes a.text.now l.i (By c.in-By.found) =
-        rw c.in-By.is at c.escape.ensures in
+    let l = c.loop-i in
+    FoundAt a.notation a.quotes a.text.now l.i (By c.in-By.found) =
+    rw c.in-By.is at c.escape.ensures in
     let a = c.args in
     let l = c.loop-i in
     let loop-test = c.loop-i-test in
@@ -47,9 +47,9 @@ ends : (c : In-By)
     taken_by c.in-By.found ≤ length a.text.now - l.i
 ends c =
     let kind-here : let a = c.args in
-        let l = c.loop-i in
-        FoundAt a.notation a.quotes a.text.now l.i (By c.in-By.found) =
-        rw c.in-By.is at c.escape.ensures in
+    let l = c.loop-i in
+    FoundAt a.notation a.quotes a.text.now l.i (By c.in-By.found) =
+    rw c.in-By.is at c.escape.ensures in
     rw (lent-rest, length-drop) at (held-within c.in-By.found _ (kind-here).1)
 
 byte : (c : In_default)

@@ -3,7 +3,7 @@
 -- Assumes nothing.
 use mathlib.Core.Bool.{true, false}
 use mathlib.Core.Path.{sym, ◌∙◌}
-use Prim.Native.Nat.{◌+◌, ◌-◌, ◌≤◌}
+use Prim.Native.Nat.{◌+◌, ◌≤◌}
 use native.Mathlib.Omega.{arith}
 use borrow.Author.Rules.{rules}
 use lib.ListN.{length, drop, length-drop}
@@ -21,7 +21,7 @@ loop-i-preserved c =
     let i = c₁.loop-i.i in
     let h = c.loop-i-test.true in
     elim c.if-part-i.branch [
-      then-part-i+then-ends_separator w ↦ (search rules, omega (arith, separators-lead s i h true w.if-part-i.true (sym w.ends_separator.ensures ∙ w.if-ends_separator.true)), omega arith)
+      | then-part-i+then-ends_separator w ↦ (search rules, omega (arith, separators-lead s i h true w.if-part-i.true (sym w.ends_separator.ensures ∙ w.if-ends_separator.true)), omega arith)
       | then-part-i+else-ends_separator w ↦ (search rules, omega (arith, separators-lead s i h false w.if-part-i.true (sym w.ends_separator.ensures ∙ w.if-ends_separator.false)), omega arith)
       | else-part-i w ↦ (search rules, omega (arith, separators-other s i h w.if-part-i.false), omega arith)
     ]

@@ -3,7 +3,6 @@
 -- Assumes nothing.
 use mathlib.Core.Bool.{Bool, ◌||◌, cond}
 use mathlib.Core.Path.{ap, ◌∙◌}
-use Prim.Native.Nat.{◌-◌}
 use native.Mathlib.Omega.{arith}
 use borrow.Author.Rules.{rules}
 use Rattle.encode_strings.specs.Strings.{escaped_of, hexed_of, same_of}
@@ -51,8 +50,11 @@ returns c =
     let a = c.args in
     let l = c.loop-i in
     let s = a.part.now in
-    let h = c.loop-i-test.false in record { escaped_value = (
+    let h = c.loop-i-test.false in record {
+      escaped_value = (
         omega (arith, total-none (escaped_of a.single a.double) s l.i h),
         omega (arith, total-none hexed_of s l.i h),
         omega (arith, total-none (same_of a.odd) s l.i h),
-      ); escaped_in_bounds = (omega arith, omega arith) }
+      );
+      escaped_in_bounds = (omega arith, omega arith);
+    }

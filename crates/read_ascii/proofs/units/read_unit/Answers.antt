@@ -2,8 +2,6 @@
 -- Assumes nothing.
 use Rattle.read_ascii.proofs.Exact.{left-read, value-six, scalar-top, exact_read, odd-read}
 use Rattle.decode_html.specs.Taking.{Lies}
-use types.Run.{miss}
-use mathlib.Core.List.{[], ◌∷◌}
 use native.Mathlib.Omega.{arith}
 use mathlib.Core.Path.{sym, ◌∙◌, subst}
 use Rattle.read_ascii.proofs.units.read_unit.Goals as goal

@@ -1,7 +1,7 @@
 -- `count` meets its contract: the sums so far are those of the places that are passed.
 -- Assumes nothing.
 use mathlib.Core.Path.{◌≡◌, sym, ap, ◌∙◌}
-use Prim.Native.Nat.{ℕ, ◌+◌, ◌-◌}
+use Prim.Native.Nat.{ℕ, ◌+◌}
 use native.Mathlib.Omega.{arith}
 use lib.ListN.{get_or}
 use Rattle.read_strings.specs.Dense.{last_of, start_at, unless_it, longer_at, wrong_at, sum_to}

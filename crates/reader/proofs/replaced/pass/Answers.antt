@@ -1,6 +1,5 @@
 -- `pass` meets its contract: what has been passed so far has no such byte. The measure is what is left of the text.
 -- Assumes nothing.
-use Prim.Native.Nat.{◌-◌}
 use native.Mathlib.Omega.{arith}
 use borrow.Author.Rules.{rules}
 use Rattle.base.proofs.Part.{part_length}

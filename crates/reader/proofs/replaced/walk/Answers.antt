@@ -1,7 +1,6 @@
 -- `walk` meets its contract: what has been passed so far has no byte of the set. The measure is what is left.
 -- Assumes nothing.
 use mathlib.Core.Path.{sym, ◌∙◌}
-use Prim.Native.Nat.{◌-◌}
 use native.Mathlib.Omega.{arith}
 use Rattle.reader.specs.Replaced.{member_at}
 use Rattle.base.proofs.Firsts.{free-start, free_step}

@@ -12,11 +12,6 @@ use Rattle.rules.specs.declared.Quotes.TheVariants.{Double}
 use Rattle.decode_strings.specs.Strings.{slashed_bytes}
 use Rattle.decode_strings.proofs.Strings.{escape-packed}
 use Rattle.reader.proofs.JsonRows.{json-slashed, json-hexed, json-rest}
-use Rattle.decode_strings.proofs.rows.after_slash.Reads as after-slash-reads
-use Rattle.decode_strings.proofs.rows.is_hexed.Reads as is-hexed-reads
-use Rattle.decode_strings.proofs.rows.is_slashed.Reads as is-slashed-reads
-use Rattle.decode_strings.proofs.rows.packed.Reads as packed-reads
-use Rattle.decode_strings.proofs.rows.separator.Reads as separator-reads
 use Rattle.reader.proofs.units.json_row.Goals as goal
 
 pub returns-then-is_slashed : goal.returns-then-is_slashed

@@ -1,7 +1,6 @@
 -- `run` meets its contract. The invariant: the bytes so far are copied. The measure is what is left of the sixteen.
 -- Assumes nothing.
 use mathlib.Core.Path.{◌≡◌, sym, ◌∙◌}
-use Prim.Native.Nat.{◌-◌}
 use native.Mathlib.Omega.{arith}
 use borrow.Author.Tests.{not-true, not-false}
 use borrow.Author.Rules.{rules}

@@ -1,6 +1,5 @@
 -- `least` meets its contract. The invariant: the least so far is above 0 only if no byte that is passed is a key. The measure is what is left of the sixteen.
 -- Assumes nothing.
-use Prim.Native.Nat.{◌-◌}
 use native.Mathlib.Omega.{arith}
 use borrow.Author.Rules.{rules}
 use borrow.Author.Count.{below_more}

@@ -1,7 +1,6 @@
 -- `fill` meets its contract. The invariant: the words of the bytes so far stand in the table. The measure is how many bytes are left.
 -- Assumes nothing.
 use mathlib.Core.Path.{◌∙◌}
-use Prim.Native.Nat.{◌-◌}
 use native.Mathlib.Omega.{arith}
 use lib.Seq.{get_or-set_same, get_or-set_other}
 use borrow.Author.Count.{below_more}

@@ -1,0 +1,14 @@
+-- `write_steps` meets its contract: what is written so far, with what the reader gives of the rest, is the result (Turns). The measure is what is left of
+-- the text.
+-- Assumes nothing.
+use Prim.Native.Nat.{◌-◌, ◌≤◌}
+use lib.ListN.{length}
+use Rattle.marks.proofs.Ahead.{Exact}
+use Rattle.read_units.specs.Marks.{Rest, Reaches}
+use Rattle.read_units.proofs.fill.write_steps.Given as goal
+
+abbrev pub invariant-loop-i : goal.invariant-loop-i
+invariant-loop-i l = (l.i ≤ length l.text) × Reaches l.h l.text l.i × Exact (Rest l.h l.text 0) (Rest l.h l.text l.i) l.output l.at
+
+abbrev pub decreases-loop-i : goal.decreases-loop-i
+decreases-loop-i l = length l.text - l.i
