@@ -6,6 +6,7 @@
 #   shown LOG COMMAND...     runs a command with its output in LOG, tells which crates rt comes to, and every ten seconds that it still runs
 #   rt_in FOLDER WORDS...    runs rt in a folder, as that of a crate; a command for `shown`, which gives it a shell of its own, as is the next one
 #   rt_run FOLDER OUT        has rt prove and build the program of a crate's folder and run it on its stored input, with what it prints in OUT
+#   (`shown` sets log, began, said, told, before, now, job and job_status: name yours otherwise)
 #   target                   the processor to build for: --target of the script where it has one, else LINTELRYE_TARGET, else this machine's
 me=${0#"$root"/}
 case $me in /* | ./*) me=$(basename "$(cd "$(dirname "$0")" && pwd)")/$(basename "$0") ;; esac
