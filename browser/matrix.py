@@ -23,11 +23,11 @@ READERS = {
     'StyleSingle': "inStyle(\"'\", i)", 'StyleDouble': "inStyle('\"', i)", 'JsonText': 'inJson(i)'}
 # The places of Samples.antt, and what stands behind the value there.
 SAMPLED = {
-    'elementText': ('ElementText', b'</p>'), 'rcdata (ascii "title")': ('TitleText', b'</title>'), 'rcdata (ascii "textarea")': ('TextareaText', b'</textarea>'),
-    'attribute 34': ('DoubleQuotedValue', b'"'), 'attribute 39': ('SingleQuotedValue', b"'"), 'attributeUnquoted': ('UnquotedValue', b'>'),
-    'scriptData': ('ScriptElement', b'</script>'), 'rawtext (ascii "style")': ('StyleElement', b'</style>'), 'scriptString 39': ('ScriptSingle', b"'"),
-    'scriptString 34': ('ScriptDouble', b'"'), 'scriptStringOld 39': ('OldScriptSingle', b"'"), 'template': ('ScriptTemplate', b'`'),
-    'styleString 39': ('StyleSingle', b"'"), 'styleString 34': ('StyleDouble', b'"'), 'jsonString': ('JsonText', b'"')}
+    'element_text': ('ElementText', b'</p>'), 'rcdata (ascii "title")': ('TitleText', b'</title>'), 'rcdata (ascii "textarea")': ('TextareaText', b'</textarea>'),
+    'attribute 34': ('DoubleQuotedValue', b'"'), 'attribute 39': ('SingleQuotedValue', b"'"), 'attribute_unquoted': ('UnquotedValue', b'>'),
+    'script_data': ('ScriptElement', b'</script>'), 'rawtext (ascii "style")': ('StyleElement', b'</style>'), 'script_string 39': ('ScriptSingle', b"'"),
+    'script_string 34': ('ScriptDouble', b'"'), 'script_string_old 39': ('OldScriptSingle', b"'"), 'template': ('ScriptTemplate', b'`'),
+    'style_string 39': ('StyleSingle', b"'"), 'style_string 34': ('StyleDouble', b'"'), 'json_string': ('JsonText', b'"')}
 # Texts for the cells that alter.
 SOME = list(dict.fromkeys(TYPED + MARKUP + list(ascii_texts())))
 OUT, CHANGED, STAYS = 'leaves the place', 'is changed', 'stays'

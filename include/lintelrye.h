@@ -62,7 +62,7 @@
  *   - no heap, no static data that is written, no recursion, no floating point; every call is reentrant, and any number of threads can call at once;
  *   - the deepest stack of a call is below LINTELRYE_STACK_AT_MOST bytes. On x86-64 leaf functions use the red zone of 128 bytes below the stack pointer, as
  *     the System V convention allows: an interrupt that runs on the same stack has to keep clear of it;
- *   - the one function that the archive needs from outside is memcpy: with -nostdlib, bring your own;
+ *   - the functions that the archive needs from outside are memcpy, memmove and memset: with -nostdlib, bring your own;
  *   - at most LINTELRYE_CODE_AT_MOST bytes of code and LINTELRYE_CONSTANTS_AT_MOST of constants, which can lie in read-only memory;
  *   - any x86-64 processor (SSE2, no AVX), any aarch64 processor (ARMv8-A with NEON, little-endian). Position-independent code for ELF.
  * tools/check_symbols finds these in the object code, and fails if a limit is passed.

@@ -33,6 +33,13 @@ fn is_newer(path: &Path, time: SystemTime) -> bool {
     }
 }
 
+/// Returns what the archive is made of: the list of crates, and each crate's code, definitions and proofs. What rt keeps beside them in out/ is no source.
+fn sources(root: &Path) -> Vec<PathBuf> {
+    let crates = fs::read_dir(root.join("crates")).into_iter().flatten().flatten().map(|entry| entry.path());
+    let parts = crates.flat_map(|folder| ["src", "specs", "proofs"].map(|part| folder.join(part)));
+    std::iter::once(root.join("crates.txt")).chain(parts.filter(|part| part.is_dir())).collect()
+}
+
 /// Returns the folder that has to have the archive, and what makes it; or why not, where the archive is older than the library's sources.
 fn folder(arch: &str) -> Result<(PathBuf, String), String> {
     let given = said("LINTELRYE_ARCHIVE_DIR");
@@ -52,8 +59,8 @@ fn folder(arch: &str) -> Result<(PathBuf, String), String> {
         return Err(format!("LINTELRYE_ARCHIVE_DIR is not set to the folder of {}, and {} is not there to make one", ARCHIVE, script.display()));
     }
     let folder = root.join("target").join("archive").join(arch);
-    let hint = format!("run {} --target {} (15 to 25 minutes where nothing is proved yet), or set LINTELRYE_ARCHIVE_DIR", script.display(), arch);
-    let sources = ["crates", "crates.txt"].map(|name| root.join(name));
+    let hint = format!("run {} --target {} (long where nothing is proved yet), or set LINTELRYE_ARCHIVE_DIR", script.display(), arch);
+    let sources = sources(&root);
     for source in &sources {
         println!("cargo:rerun-if-changed={}", source.display());
     }

@@ -3,7 +3,10 @@
 #   stop WHY [STATUS]        prints why the script cannot go on, and ends it with status 2
 #   install WHAT PACKAGE...  installs Debian packages; WHAT says what they are for
 #   need COMMAND PACKAGE...  installs the packages where the command is missing
-#   shown LOG COMMAND...     runs a command with its output in LOG, tells which crates it proved, and every ten seconds that it still runs
+#   shown LOG COMMAND...     runs a command with its output in LOG, tells which crates rt comes to, and every ten seconds that it still runs
+#   rt_in FOLDER WORDS...    runs rt in a folder, as that of a crate; a command for `shown`, which gives it a shell of its own, as is the next one
+#   rt_run FOLDER OUT        has rt prove and build the program of a crate's folder and run it on its stored input, with what it prints in OUT
+#   (`shown` sets log, began, said, told, before, now, job and job_status: name yours otherwise)
 #   target                   the processor to build for: --target of the script where it has one, else LINTELRYE_TARGET, else this machine's
 me=${0#"$root"/}
 case $me in /* | ./*) me=$(basename "$(cd "$(dirname "$0")" && pwd)")/$(basename "$0") ;; esac
@@ -58,11 +61,24 @@ need() {
     command -v "$needed" >/dev/null || install "$needed" "$@"
 }
 
-# Prints the crates that a log says are proved and that were not printed yet.
+rt_in() {
+    cd "$1"
+    shift
+    exec rt "$@"
+}
+
+rt_run() {
+    cd "$1"
+    stored=/dev/null
+    [ ! -f stdin ] || stored=stdin
+    exec rt run <"$stored" >"$2"
+}
+
+# Prints the crates that a log says are being proved, or are proved, and that were not printed yet.
 told=0
 tell() {
-    sed -n 's/^rt: \(.* proved ([0-9]* s)\)$/  \1/p' "$1" | tail -n "+$((told + 1))" >&2
-    told=$(grep -c '^rt: .* proved ([0-9]* s)$' "$1" || true)
+    sed -n 's/^rt: chose --jobs [0-9]* for \([a-z_0-9]*\)$/  proving \1/p; s/^rt: \([a-z_0-9]* proved\)$/  \1/p' "$1" | tail -n "+$((told + 1))" >&2
+    told=$(grep -c -e '^rt: chose --jobs [0-9]* for [a-z_0-9]*$' -e '^rt: [a-z_0-9]* proved$' "$1" || true)
 }
 
 shown() {

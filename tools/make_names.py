@@ -36,30 +36,29 @@ SPANS = {
 HEAD = """\
 // Made by tools/make_names.py from the entries of crates/rules/specs/Names.antt; not to be edited.
 // The names that begin with {letters}, a function for each letter, and in it groups by the second byte, or by the second and the fourth. Each group
-// is three tables: the names one after the other without their first letter, the length of each, and the numbers of their values (`codeBytes` in
+// is three tables: the names one after the other without their first letter, the length of each, and the numbers of their values (`code_bytes` in
 // crates/names_search/specs/Lent.antt).
-ghost use mathlib.Core.Path.{{_≡_}};
-ghost use mathlib.Core.List.{{_∷_}};
-ghost use Prim.Native.Nat.{{_≤_}};
-ghost use lib.ListN.{{getD}};
-ghost use Rattle·rules.specs.Names.{{{lists}}};
-ghost use Rattle·rules.specs.References.{{lookup}};
-ghost use Rattle·rules.specs.Answers.{{meaningBytes}};
-ghost use Rattle·names_search.specs.Having.{{having}};
+#![tactic(auto)]
+
+ghost use Rattle.std.specs.Prelude.{{◌≡◌, ◌∷◌, ◌≤◌, get_or}};
+ghost use Rattle.rules.specs.Names.{{{lists}}};
+ghost use Rattle.rules.specs.References.{{lookup}};
+ghost use Rattle.rules.specs.Answers.{{meaning_bytes}};
+ghost use Rattle.names_search.specs.Having.{{having}};
+
 use rules::Meaning;
 """
 
 BARE_CODE = """\
 // Made by tools/make_names.py from crates/rules/specs/Bare.antt and Names.antt; not to be edited.
 // The names without `;` as numbers: a name's bytes, the first highest, and behind them three bits that say how many they are.
-ghost use mathlib.Core.Bool.{{false}};
-ghost use mathlib.Core.Path.{{_≡_}};
-ghost use Rattle·rules.specs.Bytes.{{In}};
-ghost use Rattle·names_bare·specs.specs.Words.{{words, charFor, heads}};
+ghost use Rattle.std.specs.Prelude.{{false, ◌≡◌}};
+ghost use Rattle.rules.specs.Bytes.{{In}};
+ghost use Rattle.names_bare.specs.Words.{{words, char_for, heads}};
 
 // Reports whether the first two bytes of a text may begin such a name. Most references that stay end here.
 pub fn begins(head: u64) -> bool
-    ensures {{ λ r. ⌜ (r ≡ false → In head heads → ⊥) ⌝ }}
+    ensures {{ result ≡ false → In head heads → ⊥ }}
 {{
     match head {{
 {heads}
@@ -69,7 +68,7 @@ pub fn begins(head: u64) -> bool
 
 // Returns the number of the character that such a name stands for, 0 for any other number.
 pub fn character(word: u64) -> u32
-    ensures {{ λ r. ⌜ r ≡ charFor words word ⌝ }}
+    ensures {{ result ≡ char_for words word }}
 {{
     match word {{
 {arms}
@@ -82,13 +81,12 @@ BARE_WORDS = """\
 -- Made by tools/make_names.py from crates/rules/specs/Bare.antt and Names.antt; not to be edited.
 -- The names without `;` as numbers, each with the number of the character that it stands for, and the first two bytes of each. That they are those of the
 -- tables is computed (proofs/Words.antt). Assumes nothing.
-use mathlib.Core.List.{{List, [], _∷_}}
-use Prim.Native.Nat.{{ℕ}}
-use Rattle·names_search.specs.Pairs.{{beside}}
+use Rattle.std.specs.Prelude.{{List, [], ◌∷◌, ℕ}}
+use Rattle.names_search.specs.Pairs.{{beside}}
 
 -- The number beside n in a table of pairs, or 0 where it is in none.
-abbrev pub charFor : List (ℕ × ℕ) → ℕ → ℕ
-charFor pairs n = beside 0 pairs n
+abbrev pub char_for : List (ℕ × ℕ) → ℕ → ℕ
+char_for pairs n = beside 0 pairs n
 
 -- The names.
 unfoldable pub words : List (ℕ × ℕ)
@@ -110,20 +108,13 @@ use mathlib.Core.Path.{{sym}}
 use mathlib.Core.List.{{map}}
 use Prim.Native.Nat.{{ℕ}}
 use {specs}.{{{table}}}
-use {arms_of}.{{rest-none, beside-out}}
-use {proofs}.Statement.{{statement}}
-use {proofs}.Tie as tie
+use Rattle.names_search.proofs.Arms.{{rest-none, beside-out}}
+use {proofs}.Goals as goal
 
 {arms}
-{rest} : tie.Need-{rest}
+pub {rest} : goal.{rest}
 unfolding {table}
-{rest} c = let n = c .before .args .{argument} in sym (beside-out 0 {table} n (rest-none n _ (map (λ (pair : ℕ × ℕ). pair .0) {table}) (c .match .rest)))
-
-pub {spec}-spec : {{M : Type 1}} → statement M
-{spec}-spec =
-    tie.close
-    (tie.spec
-{names})
+{rest} c = let n = c.args.{argument} in sym (beside-out 0 {table} n (rest-none n _ (map (λ (pair : ℕ × ℕ). pair.0) {table}) c.in_default.in_default-own.rest))
 """
 
 HEADS_PROOF = """\
@@ -131,21 +122,14 @@ HEADS_PROOF = """\
 -- Made by tools/make_names.py. Assumes nothing.
 use mathlib.Core.Path.{{subst}}
 use lib.Dec.{{T}}
-use Rattle·names_bare·specs.specs.Words.{{heads}}
-use Rattle·names_search.proofs.Arms.{{rest-none}}
-use Rattle·names_bare·proofs.proofs.table.begins.Statement.{{statement}}
-use Rattle·names_bare·proofs.proofs.table.begins.Tie as tie
+use Rattle.names_bare.specs.Words.{{heads}}
+use Rattle.names_search.proofs.Arms.{{rest-none}}
+use Rattle.names_bare.proofs.table.begins.Goals as goal
 
 {arms}
-{rest} : tie.Need-{rest}
+pub {rest} : goal.{rest}
 unfolding heads
-{rest} c = λ e. rest-none (c .before .args .head) _ heads (c .match .rest)
-
-pub begins-spec : {{M : Type 1}} → statement M
-begins-spec =
-    tie.close
-    (tie.spec
-{names})
+{rest} c = λ e. rest-none c.args.head _ heads c.in_default.in_default-own.rest
 """
 
 GROUP = """
@@ -160,7 +144,7 @@ const {const}_VALUES: [u16; {count}] = [
 
 // What `{letter}` and `rest` stand for{among}.
 {public}fn {function}(rest: &[u8]) -> Meaning
-    ensures {{ λ r. ⌜ meaningBytes r ≡ lookup {rows} (0x{first:X} ∷ now (rest .entry)) ⌝ }}
+    ensures {{ meaning_bytes result ≡ lookup {rows} (0x{first:X} ∷ rest.now) }}
 {{
     names_search::find({arguments})
 }}
@@ -170,13 +154,12 @@ WRITTEN_HEAD = """\
 // Made by tools/make_names.py from the entries of crates/rules/specs/Names.antt; not to be edited.
 // The names that are written for characters, in ranges. Each range is two number tables: the names' bytes one after the other, and where the name of each
 // character begins and the last one ends; a character without a name has no bytes.
-ghost use mathlib.Core.Path.{_≡_};
-ghost use Prim.Native.Nat.{_≤_};
-ghost use lib.ListN.{length};
-ghost use Rattle·rules.specs.Utf8.{utf8};
-ghost use Rattle·rules.specs.Ascii.{nameOf};
-ghost use Rattle·rules.specs.Browsing.{given};
-ghost use Rattle·names_written·specs.specs.Ties.{Puts};
+ghost use Rattle.std.specs.Prelude.{◌≡◌, ◌≤◌, length};
+ghost use Rattle.rules.specs.Utf8.{utf8};
+ghost use Rattle.rules.specs.Ascii.{name_of};
+ghost use Rattle.rules.specs.Browsing.{given};
+ghost use Rattle.names_written.specs.Ties.{Puts};
+
 use crate::place;
 """
 
@@ -184,33 +167,32 @@ WRITTEN_GROUP = """
 const {const}_NAMES: [u8; {size}] = *b"\\
 {names}";
 
-const {const}_OFFSETS: [u16; {places}] = [{offsets}];
+{offsets}
 
 // Copies the name of a character from U+{low:04X} to U+{high:04X} to the start of `room` and returns its length, 0 if it has none.
 pub fn {function}(code: u32, room: &mut [u8]) -> usize
-    requires {{ ⌜ (0x{low:X} ≤ code) × (code ≤ 0x{high:X}) × (20 ≤ length (now room)) ⌝ }}
-    ensures {{ λ r. ⌜ Puts (given (nameOf (utf8 code))) r (now (room .entry)) (now (room .exit)) × (r ≤ 20) ⌝ }}
+    requires {{ (0x{low:X} ≤ code) × (code ≤ 0x{high:X}) × (20 ≤ length room.old) }}
+    ensures {{ Puts (given (name_of (utf8 code))) result room.old room.new × (result ≤ 20) }}
 {{
-    place::put_named(code, 0x{low:X}, &{const}_NAMES, &{const}_OFFSETS, room)
+    place::put_named({arguments})
 }}
 """
 
 SPAN_HEAD = """\
 // Made by tools/make_names.py from the entries of crates/rules/specs/Names.antt; not to be edited.
 // The choice of a table by the range that a character is in.
-ghost use mathlib.Core.Path.{_≡_};
-ghost use Prim.Native.Nat.{_≤_};
-ghost use lib.ListN.{length};
-ghost use Rattle·rules.specs.Bytes.{inside};
-ghost use Rattle·rules.specs.Utf8.{utf8};
-ghost use Rattle·rules.specs.Ascii.{nameOf};
-ghost use Rattle·rules.specs.Browsing.{given};
-ghost use Rattle·names_written·specs.specs.Ties.{Puts};
+ghost use Rattle.std.specs.Prelude.{◌≡◌, ◌≤◌, length};
+ghost use Rattle.rules.specs.Bytes.{inside};
+ghost use Rattle.rules.specs.Utf8.{utf8};
+ghost use Rattle.rules.specs.Ascii.{name_of};
+ghost use Rattle.rules.specs.Browsing.{given};
+ghost use Rattle.names_written.specs.Ties.{Puts};
+
 use crate::table;
 
 // Reports whether a character is from `low` to `high`.
 fn is_among(low: u32, high: u32, code: u32) -> bool
-    ensures { λ r. ⌜ r ≡ inside (low, high) code ⌝ }
+    ensures { result ≡ inside (low, high) code }
 {
     (low <= code) & (code <= high)
 }
@@ -219,8 +201,8 @@ fn is_among(low: u32, high: u32, code: u32) -> bool
 SPAN_CODE = """
 // Copies the name of a character from U+{low:04X} to U+{high:04X}, as `put_name` does.
 pub fn {function}(code: u32, room: &mut [u8]) -> usize
-    requires {{ ⌜ (0x{low:X} ≤ code) × (code ≤ 0x{high:X}) × (20 ≤ length (now room)) ⌝ }}
-    ensures {{ λ r. ⌜ Puts (given (nameOf (utf8 code))) r (now (room .entry)) (now (room .exit)) × (r ≤ 20) ⌝ }}
+    requires {{ (0x{low:X} ≤ code) × (code ≤ 0x{high:X}) × (20 ≤ length room.old) }}
+    ensures {{ Puts (given (name_of (utf8 code))) result room.old room.new × (result ≤ 20) }}
 {{
 {tests}
     0
@@ -236,89 +218,57 @@ SPAN_PROOF = """\
 -- `names_written::choice::{function}` meets its contract: the name is in the table of the range that the character is in, and there is none outside of
 -- all ranges.
 -- Made by tools/make_names.py. Assumes nothing.
-use borrow.Author.Needs.{{needs}}
 use mathlib.Core.Bool.{{false}}
-use mathlib.Core.Path.{{_≡_, refl, sym, _∙_}}
-use mathlib.Core.List.{{[], _∷_}}
+use mathlib.Core.Path.{{◌≡◌, refl, sym, ◌∙◌}}
+use mathlib.Core.List.{{[], ◌∷◌}}
 use native.Mathlib.Omega.{{arith}}
-use Rattle·rules.specs.Bytes.{{inside}}
-use Rattle·rules.specs.Names.{{names}}
-use Rattle·names_written·proofs.proofs.Named.{{among, none-outside}}
-use Rattle·names_written·proofs.proofs.choice.{function}.Statement.{{statement}}
-use Rattle·names_written·proofs.proofs.choice.{function}.Tie as tie
+use Rattle.rules.specs.Bytes.{{inside}}
+use Rattle.rules.specs.Names.{{names}}
+use Rattle.names_written.proofs.Named.{{among, none-outside}}
+use Rattle.names_written.proofs.choice.{function}.Goals as goal
 
 {needs}
-{rest} : tie.Need-{rest}
+pub returns : goal.returns
 unfolding names
-{rest} c =
-    let code = c {back} .args .code in
-    let h = c {back} .pre in
+returns c =
+    let code = c.args.code in
+    let h = c.requires in
 {tests}
-    let none = none-outside (0x{low:X}, 0x{high:X}) ({ranges} ∷ []) tt code (h .0) (h .1) (omega (arith, h)) (rw ({facts}) refl) in
+    let none = none-outside (0x{low:X}, 0x{high:X}) ({ranges} ∷ []) tt code h.0 h.1 (omega (arith, h)) (rw ({facts}) refl) in
     (rw none (refl, refl), omega arith)
-
-pub {spec}-spec : {{M : Type 1}} → statement M
-{spec}-spec =
-    tie.close
-    (tie.spec
-{names})
 """
 
 SPAN_NEEDS = """\
-is-among-requires{dash} : tie.Need-is-among-requires{dash}
-is-among-requires{dash} c κs = search needs
-
-from-{low:x}-requires : tie.Need-from-{low:x}-requires
-from-{low:x}-requires c κs =
-    let (l, h) = among (c .before .before .is-among{digit} .result) 0x{low:X} 0x{high:X} (c {back} .args .code) (c .before .before .is-among{digit} .ensures) (c .before .if{k} .taken) in
-    (l, h, c {back} .pre .2)
-
-same-length{dash} : tie.Need-same-length{dash}
-same-length{dash} c = search needs
-
-{name} : tie.Need-{name}
-{name} c = search needs
+pub from_{low:x}-requires : goal.from_{low:x}-requires
+from_{low:x}-requires c =
+    let (l, h) = among c.is_among{dash}.result 0x{low:X} 0x{high:X} c.args.code c.is_among{dash}.ensures c.if-is_among{dash}.true in
+    (l, h, c.requires.2)
 """
 
 WRITTEN_PROOF = """\
 -- `names_written::table::{function}` meets its contract: computed, its numbers are the names of the rule.
 -- Made by tools/make_names.py. Assumes nothing.
-use borrow.Author.Needs.{{needs}}
-use mathlib.Core.Path.{{refl}}
 use native.Mathlib.Omega.{{arith}}
-use Rattle·rules.specs.Names.{{names}}
-use Rattle·names_written·specs.specs.Ties.{{isTied}}
-use Rattle·names_written·proofs.proofs.Named.{{in-table, in-unicode}}
-use Rattle·names_written·proofs.proofs.table.{function}.Statement.{{statement}}
-use Rattle·names_written·proofs.proofs.table.{function}.Tie as tie
+use Rattle.rules.specs.Names.{{names}}
+use Rattle.names_written.specs.Ties.{{is_tied}}
+use Rattle.names_written.proofs.Named.{{in_table, in-unicode}}
+use Rattle.names_written.proofs.table.{function}.Goals as goal
 
-slice-aggregate-put-named : tie.Need-slice-aggregate-put-named
-slice-aggregate-put-named c = refl
+pub put_named-requires : goal.put_named-requires
+unfolding is_tied names
+put_named-requires c =
+    let h = c.requires in
+    (h.0, in_table c.args.code 0x{low:X} 0x{high:X} {places} h.0 h.1 (omega arith), in-unicode c.args.code 0x{high:X} h.1 (omega arith), h.2, tt)
 
-slice-aggregate-put-named-2 : tie.Need-slice-aggregate-put-named-2
-slice-aggregate-put-named-2 c = refl
-
-put-named-requires : tie.Need-put-named-requires
-unfolding isTied names
-put-named-requires c κs =
-    let h = c .before .before .before .before .pre in
-    (h .0, in-table (c .before .before .before .before .args .code) 0x{low:X} 0x{high:X} {places} (h .0) (h .1) (omega arith), in-unicode (c .before .before .before .before .args .code) 0x{high:X} (h .1) (omega arith), h .2, tt)
-
-same-length : tie.Need-same-length
-same-length c = search needs
-
-returns : tie.Need-returns
-returns c = c .before .before .put-named .ensures
-
-pub {spec}-spec : {{M : Type 1}} → statement M
-{spec}-spec = tie.close (tie.spec slice-aggregate-put-named slice-aggregate-put-named-2 put-named-requires same-length returns)
+pub returns : goal.returns
+returns c = c.put_named.ensures
 """
 
 LETTER = """
 // What `{letter}` and `rest` stand for. `second` is the first byte of `rest`, 0 if it has none.
 pub fn {function}(second: u8, rest: &[u8]) -> Meaning
-    requires {{ ⌜ (getD (now rest) 0 0 ≡ second) × (second ≤ 255) ⌝ }}
-    ensures {{ λ r. ⌜ meaningBytes r ≡ lookup {rows} (0x{first:X} ∷ now (rest .entry)) ⌝ }}
+    requires {{ (get_or rest.now 0 0 ≡ second) × (second ≤ 255) }}
+    ensures {{ meaning_bytes result ≡ lookup {rows} (0x{first:X} ∷ rest.now) }}
 {{
 {tests}
     {last}(rest)
@@ -328,7 +278,7 @@ pub fn {function}(second: u8, rest: &[u8]) -> Meaning
 BY_FOURTH = """
 // What `{letter}` and `rest` stand for{among}.
 fn {function}(rest: &[u8]) -> Meaning
-    ensures {{ λ r. ⌜ meaningBytes r ≡ lookup {rows} (0x{first:X} ∷ now (rest .entry)) ⌝ }}
+    ensures {{ meaning_bytes result ≡ lookup {rows} (0x{first:X} ∷ rest.now) }}
 {{
     let fourth = names_search::fourth(rest);
 {tests}
@@ -339,82 +289,49 @@ fn {function}(rest: &[u8]) -> Meaning
 GROUP_PROOF = """\
 -- `{crate}::{function}` meets its contract: computed, its numbers are those rows of the table.
 -- Made by tools/make_names.py. Assumes nothing.
-use mathlib.Core.Path.{{refl}}
-use Rattle·rules.specs.Names.{{{list}}}
-use Rattle·names_search.specs.Listed.{{listed}}
-use Rattle·{crate}·proofs.proofs.{function}.Statement.{{statement}}
-use Rattle·{crate}·proofs.proofs.{function}.Tie as tie
+use Rattle.rules.specs.Names.{{{list}}}
+use Rattle.names_search.specs.Listed.{{listed}}
+use Rattle.{crate}.proofs.{function}.Goals as goal
 
-slice-aggregate-find : tie.Need-slice-aggregate-find
-slice-aggregate-find c = refl
+pub find-requires : goal.find-requires
+find-requires c = tt
 
-slice-aggregate-find-2 : tie.Need-slice-aggregate-find-2
-slice-aggregate-find-2 c = refl
-
-slice-aggregate-find-3 : tie.Need-slice-aggregate-find-3
-slice-aggregate-find-3 c = refl
-
-find-requires : tie.Need-find-requires
-find-requires c κs = tt
-
-returns : tie.Need-returns
+pub returns : goal.returns
 unfolding {list} listed
-returns c = c .find .ensures 0x{first:X}
-
-pub {spec}-spec : {{M : Type 1}} → statement M
-{spec}-spec = tie.close (tie.spec slice-aggregate-find slice-aggregate-find-2 slice-aggregate-find-3 find-requires returns)
+returns c = c.find.ensures 0x{first:X}
 """
 
 PARTS_PROOF = """\
 -- `{crate}::{function}` meets its contract: a name is looked up in the group of its {which} byte as it is in all of them.
 -- Made by tools/make_names.py. Assumes nothing.
-use mathlib.Core.Path.{{_∙_}}
-use mathlib.Core.List.{{_∷_}}
+use mathlib.Core.Path.{{◌∙◌}}
+use mathlib.Core.List.{{◌∷◌}}
 use native.Mathlib.Omega.{{arith}}
-use borrow.Author.Needs.{{needs}}
-use Rattle·rules.specs.Names.{{{list}}}
-{uses}use Rattle·names_search.proofs.Lookups.{{in-part}}
-use Rattle·{crate}·proofs.proofs.{function}.Statement.{{statement}}
-use Rattle·{crate}·proofs.proofs.{function}.Tie as tie
+use Rattle.rules.specs.Names.{{{list}}}
+{uses}use Rattle.names_search.proofs.Lookups.{{in-part}}
+use Rattle.{crate}.proofs.{function}.Goals as goal
 
-{needs}
-pub {spec}-spec : {{M : Type 1}} → statement M
-{spec}-spec =
-    tie.close
-    (tie.spec
-{names})
-"""
+{needs}"""
 
 PARTS_NEEDS = """\
-{called}-requires : tie.Need-{called}-requires
-{called}-requires c κs = search needs
-
-{name} : tie.Need-{name}
-{name} c = c .{called} .ensures ∙ in-part {place} 0x{low:02X} 0x{high:02X} (0x{first:X} ∷ c {before} .args .rest .now) (omega {facts}) (omega {facts}) {rows}
-"""
-
-FOURTH_NEEDS = """\
-fourth-requires : tie.Need-fourth-requires
-fourth-requires c κs = search needs
-
+pub {name} : goal.{name}
+{name} c = c.{called}.ensures ∙ in-part {place} 0x{low:02X} 0x{high:02X} (0x{first:X} ∷ c.args.rest.now) (omega {facts}) (omega {facts}) {rows}
 """
 
 CHOICE_CODE = """\
 // Made by tools/make_names.py from crates/rules/specs/Names.antt; not to be edited.
 // The choice of a table by the first letter of a name.
-ghost use mathlib.Core.Path.{{_≡_}};
-ghost use mathlib.Core.List.{{_∷_}};
-ghost use Prim.Native.Nat.{{_≤_}};
-ghost use lib.ListN.{{getD}};
-ghost use Rattle·rules.specs.Names.{{names}};
-ghost use Rattle·rules.specs.References.{{lookup}};
-ghost use Rattle·rules.specs.Answers.{{meaningBytes}};
+ghost use Rattle.std.specs.Prelude.{{◌≡◌, ◌∷◌, ◌≤◌, get_or}};
+ghost use Rattle.rules.specs.Names.{{names}};
+ghost use Rattle.rules.specs.References.{{lookup}};
+ghost use Rattle.rules.specs.Answers.{{meaning_bytes}};
+
 use rules::Meaning;
 
 // Returns the value of the name that is the byte `first` and then `rest`, or nothing. `second` is the first byte of `rest`, 0 if it has none.
 pub fn find_by_letter(first: u8, second: u8, rest: &[u8]) -> Meaning
-    requires {{ ⌜ (getD (now rest) 0 0 ≡ second) × (second ≤ 255) ⌝ }}
-    ensures {{ λ r. ⌜ meaningBytes r ≡ lookup names (first ∷ now (rest .entry)) ⌝ }}
+    requires {{ (get_or rest.now 0 0 ≡ second) × (second ≤ 255) }}
+    ensures {{ meaning_bytes result ≡ lookup names (first ∷ rest.now) }}
 {{
     match first {{
 {arms}
@@ -426,49 +343,40 @@ pub fn find_by_letter(first: u8, second: u8, rest: &[u8]) -> Meaning
 CHOICE_PROOF = """\
 -- `names::by_letter::find_by_letter` meets its contract: a name is looked up among those of its first letter, and no name begins with another byte.
 -- Made by tools/make_names.py. Assumes nothing.
-use mathlib.Core.Path.{{_∙_}}
+use mathlib.Core.Path.{{◌∙◌}}
 use mathlib.Core.List.{{List, map}}
 use Prim.Native.Nat.{{ℕ}}
-use borrow.Author.Needs.{{needs}}
-use Rattle·rules.specs.Tables.{{Row}}
-use Rattle·names_search.proofs.Arms.{{rest-none}}
-use Rattle·names·proofs.proofs.Letters.{{letters, at-letter, no-letter}}
-use Rattle·names·proofs.proofs.by_letter.find_by_letter.Statement.{{statement}}
-use Rattle·names·proofs.proofs.by_letter.find_by_letter.Tie as tie
+use Rattle.rules.specs.Tables.{{Row}}
+use Rattle.names_search.proofs.Arms.{{rest-none}}
+use Rattle.names.proofs.Letters.{{letters, at-letter, no-letter}}
+use Rattle.names.proofs.by_letter.find_by_letter.Goals as goal
 
-{requires}
 {arms}
-{rest} : tie.Need-{rest}
+pub {rest} : goal.{rest}
 unfolding letters
 {rest} c =
-    let a = c .before .before .args in
-    no-letter (a .first) (a .rest .now) (rest-none (a .first) _ (map (λ (pair : ℕ × List Row). pair .0) letters) (c .match .rest))
-
-pub find-by-letter-spec : {{M : Type 1}} → statement M
-find-by-letter-spec =
-    tie.close
-    (tie.spec
-{names})
+    let a = c.args in
+    no-letter a.first a.rest.now (rest-none a.first _ (map (λ (pair : ℕ × List Row). pair.0) letters) c.in_default.in_default-own.rest)
 """
 
 CHOICE_ARM = """\
-{name} : tie.Need-{name}
+pub {name} : goal.{name}
 unfolding letters
 {name} c =
-    let a = c .before .before .before .args in
-    c .{called} .ensures ∙ at-letter 0x{first:X} (a .first) (a .rest .now) (c .before .match .keys{k})
+    let a = c.args in
+    c.{called}.ensures ∙ at-letter 0x{first:X} a.first a.rest.now c.in-{first}.is
 """
 
 LISTED_CODE = """\
 // Made by tools/make_names.py from crates/rules/specs/Names.antt; not to be edited.
 // The values that are no character below E000 hex or from 1D400 to 1D7FF hex, most of them two characters, by the numbers that the tables have for them.
-ghost use mathlib.Core.Path.{{_≡_}};
-ghost use Rattle·names_search·specs.specs.Pairs.{{beside}};
-ghost use Rattle·names_search·specs.specs.Listed.{{listed}};
+ghost use Rattle.std.specs.Prelude.{{◌≡◌}};
+ghost use Rattle.names_search.specs.Pairs.{{beside}};
+ghost use Rattle.names_search.specs.Listed.{{listed}};
 
 // Returns the value of such a number, packed, the first byte lowest; 0 for any other number.
 pub fn listed_value(code: u16) -> u64
-    ensures {{ λ r. ⌜ r ≡ beside 0 listed code ⌝ }}
+    ensures {{ result ≡ beside 0 listed code }}
 {{
     match code {{
 {arms}
@@ -481,8 +389,7 @@ LISTED_SPECS = """\
 -- Made by tools/make_names.py from crates/rules/specs/Names.antt; not to be edited.
 -- The values that are no character below E000 hex or from 1D400 to 1D7FF hex: the number that the tables have for each, and its bytes packed, the first lowest.
 -- Assumes nothing.
-use mathlib.Core.List.{{List, [], _∷_}}
-use Prim.Native.Nat.{{ℕ}}
+use Rattle.std.specs.Prelude.{{List, [], ◌∷◌, ℕ}}
 
 unfoldable pub listed : List (ℕ × ℕ)
 listed =
@@ -512,26 +419,23 @@ def lines_of(words, width):
     return "\\\n".join("    " + line for line in lines)
 
 
-def returns(count):
-    """What the returns of a function are called in its proof."""
-    return ["returns" + (f"-{k}" if k > 1 else "") for k in range(1, count + 1)]
+def arms(keys):
+    """What the goals of a match are called: one for each number of an arm, and the last for every other number."""
+    return [f"returns-in-{key}" for key in keys] + ["returns-in_default"]
 
 
-def match_proof(crate, module, function, specs, table, argument, count):
+def match_proof(crate, module, function, specs, table, argument, keys):
     """The proof of a function that is one match with an arm for each pair of a table."""
-    names = returns(count + 1)
-    arms = [f"{name} : tie.Need-{name}\nunfolding {table}\n{name} c = rw (c .match .keys{k + 1})\n" for k, name in enumerate(names[:-1])]
+    names = arms(keys)
+    proofs = [f"pub {name} : goal.{name}\nunfolding {table}\n{name} c = rw c.in-{key}.is\n" for key, name in zip(keys, names)]
     return MATCH_PROOF.format(
         path=f"{crate}::{module}::{function}",
-        specs=f"Rattle·{crate}·specs.specs.{specs}",
-        proofs=f"Rattle·{crate}·proofs.proofs.{module}.{function}",
-        arms_of="Rattle·names_search·proofs.proofs.Arms" if crate == "names_search" else "Rattle·names_search.proofs.Arms",
+        specs=f"Rattle.{crate}.specs.{specs}",
+        proofs=f"Rattle.{crate}.proofs.{module}.{function}",
         table=table,
         argument=argument,
-        spec=function.replace("_", "-"),
-        arms="\n".join(arms),
+        arms="\n".join(proofs),
         rest=names[-1],
-        names="\n".join("    " + name for name in names),
     )
 
 
@@ -539,18 +443,17 @@ def bare_of(rows):
     """The names without `;`: the code, the definitions that it is held to, and the proofs of the two functions with an arm for each."""
     words = [(int.from_bytes(name.encode(), "big") * 8 + len(name), ord(value.decode()), name) for name, value in rows]
     heads = sorted({word >> 8 * (len(name) - 2) + 3 for word, _, name in words})
-    begins = returns(len(heads) + 1)
+    begins = arms(heads)
     code = BARE_CODE.format(heads="\n".join(f"        0x{head:X} => true," for head in heads), arms="\n".join(f"        0x{word:X} => 0x{value:X}, // {name}" for word, value, name in words))
     specs = BARE_WORDS.format(
         words="\n    ∷ ".join(f"(0x{word:X}, 0x{value:X})" for word, value, _ in words),
         heads="\n    ∷ ".join(f"0x{head:X}" for head in heads),
     )
     proofs = {
-        "character": match_proof("names_bare", "table", "character", "Words", "words", "word", len(words)),
+        "character": match_proof("names_bare", "table", "character", "Words", "words", "word", [word for word, _, _ in words]),
         "begins": HEADS_PROOF.format(
-            arms="\n".join(f"{name} : tie.Need-{name}\n{name} c = λ e. absurd (subst T e tt)\n" for name in begins[:-1]),
+            arms="\n".join(f"pub {name} : goal.{name}\n{name} c = λ e. absurd (subst T e tt)\n" for name in begins[:-1]),
             rest=begins[-1],
-            names="\n".join("    " + name for name in begins),
         ),
     }
     return code, specs, proofs
@@ -587,46 +490,30 @@ def range_code(best, low, high):
         low=low,
         high=high,
         size=places[-1],
-        places=len(places),
         names=lines_of([name for name in names if name], 110),
-        offsets=", ".join(map(str, places)) if len(places) < 10 else "\n" + "".join(f"    {place},\n" for place in places),
+        offsets=numbers_of(f"const {function.upper()}_OFFSETS: [u16; {len(places)}]", places),
+        arguments=arguments_of(["code", f"0x{low:X}", f"&{function.upper()}_NAMES", f"&{function.upper()}_OFFSETS", "room"]),
     )
-    return code, WRITTEN_PROOF.format(function=function, spec=function.replace("_", "-"), low=low, high=high, places=len(places))
-
-
-def back(count):
-    """So many steps back in a proof."""
-    return " ".join([".before"] * count)
+    return code, WRITTEN_PROOF.format(function=function, low=low, high=high, places=len(places))
 
 
 def span_code(function, span, ranges):
     """The function that chooses among the ranges of a span; and its proof."""
-    count, names = len(ranges), returns(len(ranges) + 1)
-    digits = [""] + [str(k) for k in range(2, count + 1)]
-    dashes = ["-" + digit if digit else "" for digit in digits]
+    dashes = [""] + [f"-{k}" for k in range(2, len(ranges) + 1)]
     code = SPAN_CODE.format(function=function, low=span[0], high=span[1], tests="\n".join(SPAN_TEST.format(low=low, high=high) for low, high in ranges))
-    needs = [
-        SPAN_NEEDS.format(low=low, high=high, dash=dashes[k], digit=digits[k], k=k + 1, back=back(4 + 2 * k), name=names[k])
-        for k, (low, high) in enumerate(ranges)
-    ]
+    needs = [SPAN_NEEDS.format(low=low, high=high, dash=dash) for dash, (low, high) in zip(dashes, ranges)]
     tests = [
-        f"    let e{k + 1} : inside (0x{low:X}, 0x{high:X}) code ≡ false = "
-        f"sym (c {back(2 * (count - k) - 1)} .is-among{digits[k]} .ensures) ∙ c {back(2 * (count - k) - 2)} .if{k + 1} .left in".replace("c  .", "c .")
-        for k, (low, high) in enumerate(ranges)
+        f"    let e{k} : inside (0x{low:X}, 0x{high:X}) code ≡ false = sym c.is_among{dash}.ensures ∙ c.if-is_among{dash}.false in"
+        for k, (dash, (low, high)) in enumerate(zip(dashes, ranges), 1)
     ]
-    order = [f"is-among-requires{dashes[k]}\n    from-{low:x}-requires\n    same-length{dashes[k]}\n    {names[k]}" for k, (low, _) in enumerate(ranges)]
     proof = SPAN_PROOF.format(
         function=function,
-        spec=function.replace("_", "-"),
         needs="\n".join(needs),
-        rest=names[-1],
-        back=back(2 * count + 1),
         tests="\n".join(tests),
         low=span[0],
         high=span[1],
         ranges=" ∷ ".join(f"(0x{low:X}, 0x{high:X})" for low, high in ranges),
-        facts=", ".join(f"e{k + 1}" for k in range(count)),
-        names="\n".join("    " + line for line in order + [names[-1]]),
+        facts=", ".join(f"e{k}" for k in range(1, len(ranges) + 1)),
     )
     return code, proof
 
@@ -638,10 +525,10 @@ def written_files(table):
     for function, (span, parts) in SPANS.items():
         ranges = list(ranges_of(best, parts))
         for low, high in ranges:
-            code, made[folder / f"proofs/table/from_{low:x}/Proof.antt"] = range_code(best, low, high)
+            code, made[folder / f"proofs/table/from_{low:x}/Answers.antt"] = range_code(best, low, high)
             tables += code
             covered.update(range(low, high + 1))
-        code, made[folder / f"proofs/choice/{function}/Proof.antt"] = span_code(function, span, ranges)
+        code, made[folder / f"proofs/choice/{function}/Answers.antt"] = span_code(function, span, ranges)
         choice += code
     if not set(best) <= covered:
         sys.exit("a character that has a name is in no range")
@@ -673,7 +560,7 @@ def listed_files(listed):
     return {
         folder / "src/listed.rt": LISTED_CODE.format(arms="\n".join(f"        0x{code:X} => 0x{pack(value):X}," for value, code in listed.items())),
         folder / "specs/Listed.antt": LISTED_SPECS.format(pairs="\n    ∷ ".join(f"(0x{code:X}, 0x{pack(value):X})" for value, code in listed.items())),
-        folder / "proofs/listed/listed_value/Proof.antt": match_proof("names_search", "listed", "listed_value", "Listed", "listed", "code", len(listed)),
+        folder / "proofs/listed/listed_value/Answers.antt": match_proof("names_search", "listed", "listed_value", "Listed", "listed", "code", list(listed.values())),
     }
 
 
@@ -698,16 +585,21 @@ def function_of(letter):
     return list_of(letter).replace("-", "_").lower()
 
 
-def lengths_of(const, names):
-    """The table of the lengths of names: in one line where it fits, as the formatter has it."""
-    head, numbers = f"const {const}_LENGTHS: [u8; {len(names)}] = [", [str(len(name)) for name in names]
-    line = head + ", ".join(numbers) + "];"
-    return line if len(line) <= 100 else head + "\n" + "\n".join(f"    {number}," for number in numbers) + "\n];"
+def numbers_of(head, numbers):
+    """A table of numbers: in one line where it fits, and otherwise in lines that are as full as they can be, as the formatter has it."""
+    line = f"{head} = [{', '.join(map(str, numbers))}];"
+    if len(line) <= 100:
+        return line
+    lines = ["   "]
+    for k, number in enumerate(numbers, 1):
+        if len(lines[-1]) + len(f" {number},") > (100 if k == len(numbers) else 99):
+            lines.append("   ")
+        lines[-1] += f" {number},"
+    return f"{head} = [\n" + "\n".join(lines) + "\n];"
 
 
-def arguments_of(const):
-    """The arguments of the search: in one line where they fit, as the formatter has it."""
-    words = ["rest"] + [f"&{const}_{table}" for table in ("NAMES", "LENGTHS", "VALUES")]
+def arguments_of(words):
+    """The arguments of a call: in one line where they fit, as the formatter has it."""
     line = ", ".join(words)
     return line if len(line) <= 60 else "\n" + "".join(f"        {word},\n" for word in words) + "    "
 
@@ -723,7 +615,6 @@ class Group:
             "crate": self.crate,
             "letter": self.letter,
             "function": self.function,
-            "spec": self.function.replace("_", "-"),
             "list": list_of(self.letter),
             "first": ord(self.letter),
             "among": self.among,
@@ -750,8 +641,8 @@ def table_code(group, listed, public):
         size=sum(map(len, rest)),
         count=len(rest),
         names=lines_of(rest, 110),
-        lengths=lengths_of(group.function.upper(), rest),
-        arguments=arguments_of(group.function.upper()),
+        lengths=numbers_of(f"const {group.function.upper()}_LENGTHS: [u8; {len(rest)}]", [len(name) for name in rest]),
+        arguments=arguments_of(["rest"] + [f"&{group.function.upper()}_{table}" for table in ("NAMES", "LENGTHS", "VALUES")]),
         values="\n".join(f"    0x{code_of(value, listed):04X}, // {name}" for name, value in group.rows),
         **group.facts(),
     )
@@ -763,24 +654,22 @@ def choice_code(group, place, parts):
     byte, template = ("second", LETTER) if place == 1 else ("fourth", BY_FOURTH)
     tests = "\n".join(f"    if {byte} < b'{chr(low)}' {{\n        return {called.function}(rest);\n    }}" for (called, _), (_, (low, _)) in zip(parts, parts[1:]))
     code = template.format(tests=tests, last=parts[-1][0].function, **group.facts())
-    names = returns(len(parts))
-    needs = "" if place == 1 else FOURTH_NEEDS
-    for k, ((called, (low, high)), name) in enumerate(zip(parts, names)):
-        back = 3 + min(k, len(parts) - 2)
-        needs += PARTS_NEEDS.format(
-            called=called.function.replace("_", "-"),
+    names = [f"returns-then-{byte}-lt{low}" for _, (low, _) in parts[1:]] + ["returns"]
+    needs = [
+        PARTS_NEEDS.format(
+            called=called.function,
             name=name,
             place=place,
             low=low,
             high=high,
-            before=" ".join([".before"] * (back if place == 1 else back + 1)),
-            facts="arith" if place == 1 else f"(arith, c {' '.join(['.before'] * (back - 1))} .fourth .ensures)",
+            facts="arith" if place == 1 else "(arith, c.fourth-fourth.ensures)",
             first=ord(group.letter),
             rows=group.said,
-        ) + ("\n" if k + 1 < len(parts) else "")
-    order = "\n".join(["    fourth-requires"] * (place == 3) + [f"    {called.function.replace('_', '-')}-requires\n    {name}" for (called, _), name in zip(parts, names)])
-    uses = "" if place == 1 else "use Rattle·names_search.specs.Having.{having}\n"
-    return code, {group.function: PARTS_PROOF.format(which=byte, uses=uses, needs=needs, names=order, **group.facts())}
+        )
+        for (called, (low, high)), name in zip(parts, names)
+    ]
+    uses = "" if place == 1 else "use Rattle.names_search.specs.Having.{having}\n"
+    return code, {group.function: PARTS_PROOF.format(which=byte, uses=uses, needs="\n".join(needs), **group.facts())}
 
 
 def group_files(group, listed):
@@ -816,17 +705,14 @@ def choice_files(table):
     many = {letter: len(groups_of([row for row in table if row[0][0] == letter], 1, LARGEST)) > 1 for letter in letters}
     crate_of = {letter: crate for crate, own in CRATES.items() for letter in own}
     calls = {letter: f"{crate_of[letter]}::{function_of(letter)}({'second, ' if many[letter] else ''}rest)" for letter in letters}
-    called = [function_of(letter).replace("_", "-") for letter in letters]
-    names = returns(len(letters) + 1)
-    arms = [CHOICE_ARM.format(name=name, called=call, first=ord(letter), k=k + 1) for k, (name, call, letter) in enumerate(zip(names, called, letters))]
+    names = arms([ord(letter) for letter in letters])
+    proofs = [CHOICE_ARM.format(name=name, called=function_of(letter), first=ord(letter)) for name, letter in zip(names, letters)]
     folder = ROOT / "crates/names"
     return {
         folder / "src/by_letter.rt": CHOICE_CODE.format(arms="\n".join(f"        b'{letter}' => {calls[letter]}," for letter in letters)),
-        folder / "proofs/by_letter/find_by_letter/Proof.antt": CHOICE_PROOF.format(
-            requires="\n".join(f"{call}-requires : tie.Need-{call}-requires\n{call}-requires c κs = search needs\n" for call in called),
-            arms="\n".join(arms),
+        folder / "proofs/by_letter/find_by_letter/Answers.antt": CHOICE_PROOF.format(
+            arms="\n".join(proofs),
             rest=names[-1],
-            names="\n".join([f"    {call}-requires" for call in called] + ["    " + name for name in names]),
         ),
     }
 
@@ -840,7 +726,7 @@ def table_files(table, listed):
         for letter in letters:
             text, proofs = letter_files(crate, letter, [row for row in table if row[0][0] == letter], listed)
             code += text
-            made |= {folder / "proofs" / function / "Proof.antt": proof for function, proof in proofs.items()}
+            made |= {folder / "proofs" / function / "Answers.antt": proof for function, proof in proofs.items()}
         made[folder / "src/lib.rt"] = code
     return made
 
@@ -856,7 +742,7 @@ def files():
     made[folder / "src/table.rt"] = code
     made[folder / "specs/Words.antt"] = specs
     for function, proof in proofs.items():
-        made[folder / "proofs/table" / function / "Proof.antt"] = proof
+        made[folder / "proofs/table" / function / "Answers.antt"] = proof
     return made | written_files(table)
 
 

@@ -15,7 +15,7 @@ PLACES = {
     'ScriptDouble': 'JS string "', 'OldScriptSingle': "JS string ' before 2019", 'OldScriptDouble': 'JS string " before 2019', 'ScriptTemplate': 'JS template',
     'StyleSingle': "CSS string '", 'StyleDouble': 'CSS string "', 'JsonText': 'JSON string'}
 # A character that is listed as an exception, by the name of the list.
-EXCEPTIONS = {'[]': '', 'nul': 'N', 'nulAndCr': 'NC', 'nulCrAndMoved': 'NC27'}
+EXCEPTIONS = {'[]': '', 'nul': 'N', 'nul_and_cr': 'NC', 'nul_cr_and_moved': 'NC27'}
 SHORT = {'text_minimal': 'minimal', 'double_quoted': 'double', 'single_quoted': 'single', 'script_single': "js '", 'script_double': 'js "',
          'script_quoted': 'js both', 'style_single': "css '", 'style_double': 'css "', 'style_quoted': 'css both', 'script_raw': 'raw', 'ascii_quoted': 'ascii'}
 

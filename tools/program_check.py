@@ -1,4 +1,4 @@
-"""What tools/check_entity, check_reasons and check_repair share: a program of target/bin is run on fixed and on random inputs, through pipes, in pieces and
+"""What tools/check_entity, check_reasons and check_repair share: a program of crates/ is run on fixed and on random inputs, through pipes, in pieces and
 from files, and what it prints is compared, byte for byte, with a model."""
 import argparse
 import os
@@ -27,10 +27,10 @@ def options(tool, doc):
 
 
 def command(tool, program):
-    """Returns the words that run a program of target/bin; ends the run with status 2 where it cannot be run."""
-    path = os.path.join(ROOT, 'target', 'bin', program)
+    """Returns the words that run a program that rt has built; ends the run with status 2 where it cannot be run."""
+    path = os.path.join(ROOT, 'crates', program, 'out', program)
     if not os.path.exists(path):
-        print('%s: target/bin/%s is not there: `rt check %s` proves and builds it' % (tool, program, program), file=sys.stderr)
+        print('%s: crates/%s/out/%s is not there: `tools/run --prove %s` proves and builds it' % (tool, program, program, program), file=sys.stderr)
         sys.exit(2)
     ran = subprocess.run([os.path.join(ROOT, 'tools', 'run'), '--words'], stdout=subprocess.PIPE)
     if ran.returncode != 0:
@@ -39,7 +39,12 @@ def command(tool, program):
 
 
 def through_a_pipe(command, data):
-    return subprocess.run(command, input=data, stdout=subprocess.PIPE).stdout
+    return ended(subprocess.run(command, input=data, stdout=subprocess.PIPE))
+
+
+def ended(ran):
+    """Returns what a run wrote, or its exit status, which is to be 0."""
+    return ran.stdout if ran.returncode == 0 else b'exit status %d' % ran.returncode
 
 
 def in_pieces(command, pieces):
@@ -51,15 +56,14 @@ def in_pieces(command, pieces):
         time.sleep(0.02)
     p.stdin.close()
     out = p.stdout.read()
-    p.wait()
-    return out
+    return out if p.wait() == 0 else b'exit status %d' % p.returncode
 
 
 def from_a_file(command, data):
     with tempfile.TemporaryFile() as f:
         f.write(data)
         f.seek(0)
-        return subprocess.run(command, stdin=f, stdout=subprocess.PIPE).stdout
+        return ended(subprocess.run(command, stdin=f, stdout=subprocess.PIPE))
 
 
 class Tally:
@@ -99,7 +103,7 @@ def run(program, doc, fixed, at_random, model, starts=(), limit=0):
             got = (from_a_file if n % 10 == 1 else through_a_pipe)(words, data)
         tally.compare('random', data, got, model(data))
     if starts:
-        print('32 MB through a pipe and from a file; an input that cannot be read', flush=True)
+        print('32 MB through a pipe and from a file; an input that cannot be read, and an output that cannot be written', flush=True)
     for start in starts:
         huge, expected = [start] + [bytes(1 << 20)] * 32, model(start + bytes(limit + 1))
         try:
@@ -110,5 +114,8 @@ def run(program, doc, fixed, at_random, model, starts=(), limit=0):
     if starts:
         folder = os.open(ROOT, os.O_RDONLY)
         p = subprocess.run(words, stdin=folder, stdout=subprocess.PIPE, stderr=subprocess.PIPE)
-        tally.compare('a folder', b'', (p.stdout, b'standard input' in p.stderr), (b'', True))
+        tally.compare('a folder', b'', (p.stdout, p.returncode, p.stderr.startswith(b'Error: ')), (b'', 1, True))
+        with open('/dev/full', 'wb') as full:
+            p = subprocess.run(words, input=starts[0], stdout=full, stderr=subprocess.PIPE)
+        tally.compare('a full disk', starts[0], (p.returncode, p.stderr.startswith(b'Error: ')), (1, True))
     tally.finish()

@@ -121,7 +121,8 @@
 //! | `std`, on by default | `std::error::Error` for the errors, so that `?` works in a function that returns `Box<dyn Error>`; and `alloc` |
 //! | `alloc` | texts in `String`, `Vec`, `Cow`, `Box`, `Rc` and `Arc`; results turned into `String` and `Cow` |
 //!
-//! Firmware without an allocator takes the crate with `default-features = false`. The calls themselves never allocate, nor do they need anything but `memcpy`.
+//! Firmware without an allocator takes the crate with `default-features = false`. The calls themselves never allocate, nor do they need anything but
+//! `memcpy`, `memmove` and `memset`.
 //!
 //! # Building
 //!

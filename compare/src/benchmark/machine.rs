@@ -6,13 +6,15 @@ use std::process::Command;
 /// measured.
 pub fn facts(root: &str, counted: bool) -> Vec<(&'static str, String)> {
     let emulator = || format!("none: {} executes the x86-64 code, on {}", first_line(said("qemu-x86_64", &["--version"])), machine());
-    let size = size(&format!("{}/target/staticlib/liblintelrye_c.a", root));
+    // tools/check_symbols has the archive written where it is not there, so it comes before the size.
+    let stack = stack(root);
+    let size = size(&format!("{}/target/staticlib/x86_64/liblintelrye_c.a", root));
     let mut facts = vec![
         ("processor", if counted { emulator() } else { format!("{} ({})", processor(), machine()) }),
         ("date", said("date", &["-u", "+%Y-%m-%d"])),
         ("the crate", format!("html-escape 0.3.0, compiled by {} in cargo's release profile with opt-level 3", rustc())),
         ("the library", library(counted || machine() == "x86_64")),
-        ("the archive", format!("x86-64 code, which `rt staticlib lintelrye_c` writes, by {}; {}; {}", said("rt", &["version"]), size, stack(root))),
+        ("the archive", format!("x86-64 code, which `rt lib` writes in crates/lintelrye_c, by {}; {}; {}", said("rt", &["version"]), size, stack)),
     ];
     if !counted {
         let (go, node) = (said("go", &["version"]), said("node", &["--version"]));
@@ -36,8 +38,7 @@ fn library(x86_64: bool) -> String {
     if x86_64 {
         return "the archive for x86-64".to_string();
     }
-    let how = "the LLVM module of the x86-64 archive, by the same compiler with the same options (-O3), and the calls of tools/aarch64_calls.c around it";
-    format!("the archive for {} (`tools/archive`): {}", machine(), how)
+    format!("the archive for {} (`tools/archive`): `rt lib` for that target, by the same compiler", machine())
 }
 
 /// Returns the model name of the first processor, from /proc/cpuinfo or from `lscpu`.
