@@ -252,7 +252,9 @@ fn case_line(
         contexts,
         kinds,
     };
-    let right = each_case(rt, list, state.line, first, expected, text, res, output, tally)?;
+    let right = each_case(
+        rt, list, state.line, first, expected, text, res, output, tally,
+    )?;
     if right {
         return Ok(next);
     }
@@ -338,6 +340,13 @@ fn main(rt: HostRuntime) -> io::Result<()> {
     let mut output = room();
     let mut tally: [u64; 258] = [0; 258];
     let n = pipes::read_into(&rt, &mut list)?;
-    let state = replay(&rt, &list[..n], &mut text, &mut result, &mut output, &mut tally)?;
+    let state = replay(
+        &rt,
+        &list[..n],
+        &mut text,
+        &mut result,
+        &mut output,
+        &mut tally,
+    )?;
     report::all(&rt, state, &tally)
 }

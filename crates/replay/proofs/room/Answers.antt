@@ -2,11 +2,7 @@
 -- Assumes nothing.
 use Rattle.std.proofs.Common.{ℕ, sym}
 use lib.ListN.{length-replicate}
-use Rattle.replay.proofs.room.Statement.{statement}
-use Rattle.replay.proofs.room.Tie as tie
+use Rattle.replay.proofs.room.Goals as goal
 
-returns : tie.Need-returns
+pub returns : goal.returns
 returns c = sym (length-replicate {0} {A = ℕ} 1048576 0)
-
-pub room-spec : {M : Type 1} → statement M
-room-spec = tie.close (tie.spec returns)
