@@ -33,7 +33,7 @@ fn wide(b: u8) -> u64 {
 fn print_bytes(rt: &HostRuntime, bytes: &[u8]) -> io::Result<()> {
     let mut i = 0;
     while i < bytes.len() {
-        print!(rt; "{:02x}", bytes[i])?;
+        print!(rt; "{:02x}", wide(bytes[i]))?;
         i += 1;
     }
     print!(rt; "\n")?;
