@@ -1,4 +1,4 @@
-// Lintelrye for C and Rust: the calls of crates/lintelrye, exported under names of C. `rt staticlib lintelrye_c` writes the archive, and
+// Lintelrye for C and Rust: the calls of crates/lintelrye, exported under names of C. `rt lib` in this crate writes the archive, and
 // include/lintelrye.h documents each function for a C caller. A text or an output is a pointer and a length. The names end in how many numbers an
 // answer has, so that a program which expects another record does not link.
 #![tactic(auto)]
