@@ -13,8 +13,8 @@ ROOT = Path(__file__).resolve().parent.parent
 ENTRIES = ROOT / "crates/rules/specs/Names.antt"
 BARE = ROOT / "crates/rules/specs/Bare.antt"
 
-# A group has at most so many names, since it is laid out anew at each look-up, and searched name by name. Where more have the same first two letters, they
-# are groups by the fourth, which have at most so many.
+# A group has at most so many names, since it is searched name by name. Where more have the same first two letters, they are groups by the fourth, which have
+# at most so many.
 LARGEST = 32
 LARGEST_BY_FOURTH = 20
 
@@ -36,23 +36,25 @@ SPANS = {
 HEAD = """\
 // Made by tools/make_names.py from the entries of crates/rules/specs/Names.antt; not to be edited.
 // The names that begin with {letters}, a function for each letter, and in it groups by the second byte, or by the second and the fourth. Each group
-// is three tables: the names one after the other without their first letter, the length of each, and the numbers of their values (`code_bytes` in
+// is a table: the names one after the other without their first letter, the length of each, and the numbers of their values (`code_bytes` in
 // crates/names_search/specs/Lent.antt).
+// A function for each group, as each has a contract of its own, proved by computing; the work of all is `Table::find`.
 #![tactic(auto)]
 
-ghost use Rattle.std.specs.Prelude.{{◌≡◌, ◌∷◌, ◌≤◌, get_or}};
+ghost use Rattle.std.specs.Prelude.{{◌≡◌, ◌∷◌}};
 ghost use Rattle.rules.specs.Names.{{{lists}}};
 ghost use Rattle.rules.specs.References.{{lookup}};
 ghost use Rattle.rules.specs.Answers.{{meaning_bytes}};
 ghost use Rattle.names_search.specs.Having.{{having}};
 
-use rules::Meaning;
+use names_search::Table;
+use rules::DecodedEntityValue;
 """
 
 BARE_CODE = """\
 // Made by tools/make_names.py from crates/rules/specs/Bare.antt and Names.antt; not to be edited.
 // The names without `;` as numbers: a name's bytes, the first highest, and behind them three bits that say how many they are.
-ghost use Rattle.std.specs.Prelude.{{false, ◌≡◌}};
+ghost use Rattle.std.specs.Prelude.{{false, ◌≡◌, ◌<◌, MatchOption}};
 ghost use Rattle.rules.specs.Bytes.{{In}};
 ghost use Rattle.names_bare.specs.Words.{{words, char_for, heads}};
 
@@ -66,13 +68,13 @@ pub fn begins(head: u64) -> bool
     }}
 }}
 
-// Returns the number of the character that such a name stands for, 0 for any other number.
-pub fn character(word: u64) -> u32
-    ensures {{ result ≡ char_for words word }}
+// Returns the number of the character that such a name stands for.
+pub fn character(word: u64) -> Option<u32>
+    ensures {{ MatchOption result (char_for words word ≡ 0) (λ number. (number ≡ char_for words word) × (0 < number)) }}
 {{
     match word {{
 {arms}
-        _ => 0,
+        _ => None,
     }}
 }}
 """
@@ -104,8 +106,7 @@ heads =
 MATCH_PROOF = """\
 -- `{path}` meets its contract: each number of the table is one arm, and a number of none of them stands for none.
 -- Made by tools/make_names.py. Assumes nothing.
-use mathlib.Core.Path.{{sym}}
-use mathlib.Core.List.{{map}}
+{uses}use mathlib.Core.List.{{map}}
 use Prim.Native.Nat.{{ℕ}}
 use {specs}.{{{table}}}
 use Rattle.names_search.proofs.Arms.{{rest-none, beside-out}}
@@ -114,7 +115,11 @@ use {proofs}.Goals as goal
 {arms}
 pub {rest} : goal.{rest}
 unfolding {table}
-{rest} c = let n = c.args.{argument} in sym (beside-out 0 {table} n (rest-none n _ (map (λ (pair : ℕ × ℕ). pair.0) {table}) c.in_default.in_default-own.rest))
+{rest} c = let n = c.args.{argument} in {turn}(beside-out 0 {table} n (rest-none n _ (map (λ (pair : ℕ × ℕ). pair.0) {table}) c.in_default.in_default-own.rest))
+"""
+
+BARE_USES = """\
+use Rattle.std.proofs.Common.{refl, lit<}
 """
 
 HEADS_PROOF = """\
@@ -133,20 +138,20 @@ unfolding heads
 """
 
 GROUP = """
-const {const}_NAMES: [u8; {size}] = *b"\\
-{names}";
-
+const {const}: Table<'static> = Table {{
+    names: b"\\
+{names}",
 {lengths}
-
-const {const}_VALUES: [u16; {count}] = [
+    values: &[
 {values}
-];
+    ],
+}};
 
 // What `{letter}` and `rest` stand for{among}.
-{public}fn {function}(rest: &[u8]) -> Meaning
+{public}fn {function}(rest: &[u8]) -> Option<DecodedEntityValue>
     ensures {{ meaning_bytes result ≡ lookup {rows} (0x{first:X} ∷ rest.now) }}
 {{
-    names_search::find({arguments})
+    {const}.find(rest)
 }}
 """
 
@@ -154,6 +159,7 @@ WRITTEN_HEAD = """\
 // Made by tools/make_names.py from the entries of crates/rules/specs/Names.antt; not to be edited.
 // The names that are written for characters, in ranges. Each range is two number tables: the names' bytes one after the other, and where the name of each
 // character begins and the last one ends; a character without a name has no bytes.
+// A function for each range, as each has a contract of its own, proved by computing; the work of all is `put_named`, and 0 is the length of no bytes.
 ghost use Rattle.std.specs.Prelude.{◌≡◌, ◌≤◌, length};
 ghost use Rattle.rules.specs.Utf8.{utf8};
 ghost use Rattle.rules.specs.Ascii.{name_of};
@@ -265,11 +271,11 @@ returns c = c.put_named.ensures
 """
 
 LETTER = """
-// What `{letter}` and `rest` stand for. `second` is the first byte of `rest`, 0 if it has none.
-pub fn {function}(second: u8, rest: &[u8]) -> Meaning
-    requires {{ (get_or rest.now 0 0 ≡ second) × (second ≤ 255) }}
+// What `{letter}` and `rest` stand for.
+pub fn {function}(rest: &[u8]) -> Option<DecodedEntityValue>
     ensures {{ meaning_bytes result ≡ lookup {rows} (0x{first:X} ∷ rest.now) }}
 {{
+    let second = names_search::byte_at(rest, 0);
 {tests}
     {last}(rest)
 }}
@@ -277,10 +283,10 @@ pub fn {function}(second: u8, rest: &[u8]) -> Meaning
 
 BY_FOURTH = """
 // What `{letter}` and `rest` stand for{among}.
-fn {function}(rest: &[u8]) -> Meaning
+fn {function}(rest: &[u8]) -> Option<DecodedEntityValue>
     ensures {{ meaning_bytes result ≡ lookup {rows} (0x{first:X} ∷ rest.now) }}
 {{
-    let fourth = names_search::fourth(rest);
+    let fourth = names_search::byte_at(rest, 2);
 {tests}
     {last}(rest)
 }}
@@ -292,9 +298,6 @@ GROUP_PROOF = """\
 use Rattle.rules.specs.Names.{{{list}}}
 use Rattle.names_search.specs.Listed.{{listed}}
 use Rattle.{crate}.proofs.{function}.Goals as goal
-
-pub find-requires : goal.find-requires
-find-requires c = tt
 
 pub returns : goal.returns
 unfolding {list} listed
@@ -321,21 +324,20 @@ pub {name} : goal.{name}
 CHOICE_CODE = """\
 // Made by tools/make_names.py from crates/rules/specs/Names.antt; not to be edited.
 // The choice of a table by the first letter of a name.
-ghost use Rattle.std.specs.Prelude.{{◌≡◌, ◌∷◌, ◌≤◌, get_or}};
+ghost use Rattle.std.specs.Prelude.{{◌≡◌, ◌∷◌}};
 ghost use Rattle.rules.specs.Names.{{names}};
 ghost use Rattle.rules.specs.References.{{lookup}};
 ghost use Rattle.rules.specs.Answers.{{meaning_bytes}};
 
-use rules::Meaning;
+use rules::DecodedEntityValue;
 
-// Returns the value of the name that is the byte `first` and then `rest`, or nothing. `second` is the first byte of `rest`, 0 if it has none.
-pub fn find_by_letter(first: u8, second: u8, rest: &[u8]) -> Meaning
-    requires {{ (get_or rest.now 0 0 ≡ second) × (second ≤ 255) }}
+// Returns the value of the name that is the byte `first` and then `rest`, or nothing.
+pub fn find_by_letter(first: u8, rest: &[u8]) -> Option<DecodedEntityValue>
     ensures {{ meaning_bytes result ≡ lookup names (first ∷ rest.now) }}
 {{
     match first {{
 {arms}
-        _ => Meaning::Nothing,
+        _ => None,
     }}
 }}
 """
@@ -370,6 +372,7 @@ unfolding letters
 LISTED_CODE = """\
 // Made by tools/make_names.py from crates/rules/specs/Names.antt; not to be edited.
 // The values that are no character below E000 hex or from 1D400 to 1D7FF hex, most of them two characters, by the numbers that the tables have for them.
+// A number that no table has gives 0, which packs no bytes: no table asks for one.
 ghost use Rattle.std.specs.Prelude.{{◌≡◌}};
 ghost use Rattle.names_search.specs.Pairs.{{beside}};
 ghost use Rattle.names_search.specs.Listed.{{listed}};
@@ -409,14 +412,14 @@ def entries():
     return found
 
 
-def lines_of(words, width):
+def lines_of(words, width, indent=4):
     """The words one after the other, in lines of at most that width, each but the last ended by a backslash."""
     lines = [""]
     for word in words:
         if len(lines[-1]) + len(word) > width:
             lines.append("")
         lines[-1] += word
-    return "\\\n".join("    " + line for line in lines)
+    return "\\\n".join(" " * indent + line for line in lines)
 
 
 def arms(keys):
@@ -424,11 +427,14 @@ def arms(keys):
     return [f"returns-in-{key}" for key in keys] + ["returns-in_default"]
 
 
-def match_proof(crate, module, function, specs, table, argument, keys):
-    """The proof of a function that is one match with an arm for each pair of a table."""
+def match_proof(crate, module, function, specs, table, argument, keys, uses="use mathlib.Core.Path.{sym}\n", rest="", turn="sym "):
+    """The proof of a function that is one match with an arm for each pair of a table; `rest` proves what an arm says beside its value, and
+    `turn` turns the equation of the last arm."""
     names = arms(keys)
-    proofs = [f"pub {name} : goal.{name}\nunfolding {table}\n{name} c = rw c.in-{key}.is\n" for key, name in zip(keys, names)]
+    proofs = [f"pub {name} : goal.{name}\nunfolding {table}\n{name} c = rw c.in-{key}.is{rest}\n" for key, name in zip(keys, names)]
     return MATCH_PROOF.format(
+        uses=uses,
+        turn=turn,
         path=f"{crate}::{module}::{function}",
         specs=f"Rattle.{crate}.specs.{specs}",
         proofs=f"Rattle.{crate}.proofs.{module}.{function}",
@@ -444,13 +450,13 @@ def bare_of(rows):
     words = [(int.from_bytes(name.encode(), "big") * 8 + len(name), ord(value.decode()), name) for name, value in rows]
     heads = sorted({word >> 8 * (len(name) - 2) + 3 for word, _, name in words})
     begins = arms(heads)
-    code = BARE_CODE.format(heads="\n".join(f"        0x{head:X} => true," for head in heads), arms="\n".join(f"        0x{word:X} => 0x{value:X}, // {name}" for word, value, name in words))
+    code = BARE_CODE.format(heads="\n".join(f"        0x{head:X} => true," for head in heads), arms="\n".join(f"        0x{word:X} => Some(0x{value:X}), // {name}" for word, value, name in words))
     specs = BARE_WORDS.format(
         words="\n    ∷ ".join(f"(0x{word:X}, 0x{value:X})" for word, value, _ in words),
         heads="\n    ∷ ".join(f"0x{head:X}" for head in heads),
     )
     proofs = {
-        "character": match_proof("names_bare", "table", "character", "Words", "words", "word", [word for word, _, _ in words]),
+        "character": match_proof("names_bare", "table", "character", "Words", "words", "word", [word for word, _, _ in words], BARE_USES, " (refl, lit< tt)", ""),
         "begins": HEADS_PROOF.format(
             arms="\n".join(f"pub {name} : goal.{name}\n{name} c = λ e. absurd (subst T e tt)\n" for name in begins[:-1]),
             rest=begins[-1],
@@ -491,7 +497,7 @@ def range_code(best, low, high):
         high=high,
         size=places[-1],
         names=lines_of([name for name in names if name], 110),
-        offsets=numbers_of(f"const {function.upper()}_OFFSETS: [u16; {len(places)}]", places),
+        offsets=numbers_of(f"const {function.upper()}_OFFSETS: [u16; {len(places)}] = ", places),
         arguments=arguments_of(["code", f"0x{low:X}", f"&{function.upper()}_NAMES", f"&{function.upper()}_OFFSETS", "room"]),
     )
     return code, WRITTEN_PROOF.format(function=function, low=low, high=high, places=len(places))
@@ -585,17 +591,18 @@ def function_of(letter):
     return list_of(letter).replace("-", "_").lower()
 
 
-def numbers_of(head, numbers):
-    """A table of numbers: in one line where it fits, and otherwise in lines that are as full as they can be, as the formatter has it."""
-    line = f"{head} = [{', '.join(map(str, numbers))}];"
-    if len(line) <= 100:
-        return line
-    lines = ["   "]
+def numbers_of(head, numbers, end=";", indent=0):
+    """A table of numbers: in one line if it is short, and otherwise in lines that are as full as they can be, as the formatter has it."""
+    words = ", ".join(map(str, numbers))
+    if len(words) <= 60:
+        return f"{' ' * indent}{head}[{words}]{end}"
+    start = " " * (indent + 3)
+    lines = [start]
     for k, number in enumerate(numbers, 1):
         if len(lines[-1]) + len(f" {number},") > (100 if k == len(numbers) else 99):
-            lines.append("   ")
+            lines.append(start)
         lines[-1] += f" {number},"
-    return f"{head} = [\n" + "\n".join(lines) + "\n];"
+    return f"{' ' * indent}{head}[\n" + "\n".join(lines) + f"\n{' ' * indent}]{end}"
 
 
 def arguments_of(words):
@@ -638,12 +645,9 @@ def table_code(group, listed, public):
     code = GROUP.format(
         const=group.function.upper(),
         public="pub " if public else "",
-        size=sum(map(len, rest)),
-        count=len(rest),
-        names=lines_of(rest, 110),
-        lengths=numbers_of(f"const {group.function.upper()}_LENGTHS: [u8; {len(rest)}]", [len(name) for name in rest]),
-        arguments=arguments_of(["rest"] + [f"&{group.function.upper()}_{table}" for table in ("NAMES", "LENGTHS", "VALUES")]),
-        values="\n".join(f"    0x{code_of(value, listed):04X}, // {name}" for name, value in group.rows),
+        names=lines_of(rest, 106, 8),
+        lengths=numbers_of("lengths: &", [len(name) for name in rest], ",", 4),
+        values="\n".join(f"        0x{code_of(value, listed):04X}, // {name}" for name, value in group.rows),
         **group.facts(),
     )
     return code, {group.function: GROUP_PROOF.format(**group.facts())}
@@ -662,7 +666,7 @@ def choice_code(group, place, parts):
             place=place,
             low=low,
             high=high,
-            facts="arith" if place == 1 else "(arith, c.fourth-fourth.ensures)",
+            facts=f"(arith, c.byte_at-{byte}.ensures)",
             first=ord(group.letter),
             rows=group.said,
         )
@@ -699,12 +703,11 @@ def letter_files(crate, letter, rows, listed):
     return code + more, proofs | proof
 
 
-def choice_files(table):
+def choice_files():
     """The choice by the first letter: the code, and its proof."""
     letters = [letter for crate in CRATES.values() for letter in crate]
-    many = {letter: len(groups_of([row for row in table if row[0][0] == letter], 1, LARGEST)) > 1 for letter in letters}
     crate_of = {letter: crate for crate, own in CRATES.items() for letter in own}
-    calls = {letter: f"{crate_of[letter]}::{function_of(letter)}({'second, ' if many[letter] else ''}rest)" for letter in letters}
+    calls = {letter: f"{crate_of[letter]}::{function_of(letter)}(rest)" for letter in letters}
     names = arms([ord(letter) for letter in letters])
     proofs = [CHOICE_ARM.format(name=name, called=function_of(letter), first=ord(letter)) for name, letter in zip(names, letters)]
     folder = ROOT / "crates/names"
@@ -735,7 +738,7 @@ def files():
     """Every file that is made, with its text."""
     table = entries()
     listed = listed_of(table)
-    made = listed_files(listed) | table_files(table, listed) | choice_files(table)
+    made = listed_files(listed) | table_files(table, listed) | choice_files()
     values = dict(table)
     folder = ROOT / "crates/names_bare"
     code, specs, proofs = bare_of([(name, values[name]) for name in re.findall(r'ascii "(\w+)"', BARE.read_text(encoding="utf-8"))])

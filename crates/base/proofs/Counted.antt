@@ -1,22 +1,20 @@
 -- What a measuring loop has counted at place i of a text, for any rule: n bytes of the result and k replaced places. With what the moves from i
 -- on have, these are the numbers of the whole.
 -- Assumes nothing.
-use mathlib.Core.Bool.{Bool, true, false, cond}
 use mathlib.Core.Path.{◌≡◌, refl, sym, ap, ◌∙◌, subst}
 use mathlib.Core.List.{List, [], ◌∷◌, ◌++◌}
 use Prim.Native.Nat.{ℕ, zero, suc, ◌+◌, ◌-◌, ◌*◌, ◌≤◌, ◌<◌}
 use native.Mathlib.Omega.{arith}
-use borrow.Author.Tests.{eqb-true, ne_eqb}
-use lib.Dec.{eqb}
 use lib.ListN.{length, take, drop, get_or, length-append, length-drop}
 use lib.Seq.{length-take-le}
 use Rattle.rules.specs.Bytes.{ascii, over}
-use Rattle.rules.specs.Moves.{Move, keep, swap, leave, Rule, taken, result, replaced, lefts_at, first_of, first_left, reason_number, place, through, before, from}
+use Rattle.rules.specs.Moves.{Move, keep, swap, leave, Rule, taken, result, replaced, lefts_at, first_of, first_left, place, through, before, from}
 use Rattle.rules.specs.Encoding.{keep_byte}
 use Rattle.rules.specs.declared.Reason.{Reason}
-use Rattle.rules.specs.Answers.{Measures}
+use Rattle.std.specs.Prelude.{Option as Maybe, Some, None, unwrap_or}
+use Rattle.rules.specs.declared.Left.{Left}
+use Rattle.rules.specs.Answers.{Measures, left_numbers}
 use Rattle.rules.proofs.Loops.{from_next, drop-next}
-use Rattle.rules.proofs.Reasons.{reason-some}
 use Rattle.rules.proofs.Quiet.{Keeps, quiet-result, quiet-place, quiet-replaced, quiet-lefts}
 use Rattle.base.proofs.Filled.{Filled, Next, filled-end}
 use Rattle.base.proofs.Part.{part_length}
@@ -118,65 +116,50 @@ module _ {rule : Rule} {t : List ℕ} {i n k : ℕ} (c : Counted rule t i n k) w
     omega (arith, c.far, ap place e),
   )
 
-  -- So they are what a pass over the text finds, if l and r are place and reason of the first reference that stays.
-  pub counted-measures : (l r : ℕ) → from rule t i ≡ [] → first_left (through rule t) ≡ (l, r)
-      → Measures (record { length = n; place = i; replaced = k; left = l; reason = r }) (through rule t)
-  counted-measures l r e f =
-      let (long, many, far) = counted-end e in
-      record { long = long; reach = far; many = many; first = (ap (λ (p : ℕ × ℕ). p.0) (sym f), ap (λ (p : ℕ × ℕ). p.1) (sym f)) }
+  -- So they are what a pass over the text finds, with the first reference that stays.
+  pub counted-measures : (left : Maybe Left) → from rule t i ≡ [] → first_left (through rule t) ≡ left_numbers left
+      → Measures (record { length = n; place = i; replaced = k; left = left }) (through rule t)
+  counted-measures left e f = let (long, many, far) = counted-end e in record { long = long; reach = far; many = many; first = sym f }
 
 -- ---- the first reference that stays
 
--- What a loop has noted at place i: place l and reason r of the first reference that stays before i, or 0 and 0; then it is still to come.
-pub record Noted (rule : Rule) (t : List ℕ) (i l r : ℕ) : Type 0 where
-  pub none : r ≡ 0 → l ≡ 0
-  pub first : first_left (through rule t) ≡ cond (eqb r 0) (first_of (lefts_at i (from rule t i))) (l, r)
+-- Place and reason of the noted reference, and those of a later one where none is noted.
+abbrev pub noted_or : Maybe Left → ℕ × ℕ → ℕ × ℕ
+noted_or None later = later
+noted_or (Some l) later = left_numbers (Some l)
 
-pub noted-start : (rule : Rule) (t : List ℕ) → Noted rule t 0 0 0
-noted-start rule t = record { none = λ e. refl; first = refl }
+-- What a loop has noted at place i: the first reference that stays before i; where there is none, the first is still to come.
+pub record Noted (rule : Rule) (t : List ℕ) (i : ℕ) (left : Maybe Left) : Type 0 where
+  pub first : first_left (through rule t) ≡ noted_or left (first_of (lefts_at i (from rule t i)))
 
-module _ {rule : Rule} {t : List ℕ} {i l r : ℕ} (c : Noted rule t i l r) where
+pub noted-start : (rule : Rule) (t : List ℕ) → Noted rule t 0 None
+noted-start rule t = record { first = refl }
+
+module _ {rule : Rule} {t : List ℕ} {i : ℕ} {left : Maybe Left} (c : Noted rule t i left) where
   -- The same references stay from place j on.
-  on : (j : ℕ) → lefts_at i (from rule t i) ≡ lefts_at j (from rule t j) → Noted rule t j l r
-  on j e = record { none = c.none; first = c.first ∙ ap (λ (ls : List (ℕ × Reason)). cond (eqb r 0) (first_of ls) (l, r)) e }
+  on : (j : ℕ) → lefts_at i (from rule t i) ≡ lefts_at j (from rule t j) → Noted rule t j left
+  on j e = record { first = c.first ∙ ap (λ (ls : List (ℕ × Reason)). noted_or left (first_of ls)) e }
 
   -- A stretch of kept bytes.
-  pub noted-quiet : (j : ℕ) → i ≤ j → j ≤ length t → Keeps rule t i j → Noted rule t j l r
+  pub noted-quiet : (j : ℕ) → i ≤ j → j ≤ length t → Keeps rule t i j → Noted rule t j left
   noted-quiet j h k q = on j (quiet-lefts rule t i j h k q)
 
   -- Some bytes that give way to others.
-  pub noted-swap : (m : ℕ) (w : List ℕ) → 1 ≤ m → i + m ≤ length t → rule (before t i) (drop i t) ≡ swap (take m (drop i t)) w → Noted rule t (i + m) l r
+  pub noted-swap : (m : ℕ) (w : List ℕ) → 1 ≤ m → i + m ≤ length t → rule (before t i) (drop i t) ≡ swap (take m (drop i t)) w → Noted rule t (i + m) left
   noted-swap m w h k e =
       let z : length (take m (drop i t)) ≡ m = length-take-le m (drop i t) (rw length-drop (omega arith)) in
       on (i + m) (ap (lefts_at i) (step-swap rule t i m w h k e) ∙ ap (λ (n : ℕ). lefts_at (i + n) (from rule t (i + m))) z)
 
-  -- A reference that stays: it is the first, or another was.
-  pub noted-leave : (w : Reason) → i < length t → rule (before t i) (drop i t) ≡ leave w (ascii "&")
-      → Noted rule t (i + 1) (cond (eqb r 0) i l) (cond (eqb r 0) (reason_number w) r)
-  noted-leave w h e = go (eqb r 0) refl
-    where
-      later : ℕ × ℕ
-      later = first_of (lefts_at (i + 1) (from rule t (i + 1)))
+-- A reference that stays: it is the first, or another was.
+pub noted-leave : {rule : Rule} {t : List ℕ} {i : ℕ} (left : Maybe Left) → Noted rule t i left → (w : Reason) → i < length t
+    → rule (before t i) (drop i t) ≡ leave w (ascii "&") → Noted rule t (i + 1) (Some (unwrap_or left (record { place = i; reason = w })))
+noted-leave {rule = rule} {t = t} {i = i} None c w h e = record { first = c.first ∙ ap (λ (ms : List Move). first_of (lefts_at i ms)) (step-leave rule t i w h e) }
+noted-leave (Some l) c w h e = record { first = c.first }
 
-      go : (b : Bool) → eqb r 0 ≡ b → Noted rule t (i + 1) (cond b i l) (cond b (reason_number w) r)
-      go true q = record {
-        none = λ z. absurd (reason-some w z);
-        first = c.first ∙ ap (λ (b : Bool). cond b (first_of (lefts_at i (from rule t i))) (l, r)) q
-            ∙ ap (λ (ms : List Move). first_of (lefts_at i ms)) (step-leave rule t i w h e)
-            ∙ ap (λ (b : Bool). cond b later (i, reason_number w)) (sym (ne_eqb (reason_number w) 0 (reason-some w)));
-      }
-      go false q = record {
-        none = c.none;
-        first = c.first ∙ ap (λ (b : Bool). cond b (first_of (lefts_at i (from rule t i))) (l, r)) q ∙ ap (λ (b : Bool). cond b later (l, r)) (sym q);
-      }
-
-  -- Where no move is left, it is the first of all.
-  pub noted-end : from rule t i ≡ [] → first_left (through rule t) ≡ (l, r)
-  noted-end e = c.first ∙ ap (λ (ms : List Move). cond (eqb r 0) (first_of (lefts_at i ms)) (l, r)) e ∙ go (eqb r 0) refl
-    where
-      go : (b : Bool) → eqb r 0 ≡ b → ◌≡◌ {A = ℕ × ℕ} (cond b (0, 0) (l, r)) (l, r)
-      go true q = let z = eqb-true r 0 q in λ j. (sym (c.none z) j, sym z j)
-      go false q = refl
+-- Where no move is left, it is the first of all.
+pub noted-end : {rule : Rule} {t : List ℕ} {i : ℕ} (left : Maybe Left) → Noted rule t i left → from rule t i ≡ [] → first_left (through rule t) ≡ left_numbers left
+noted-end {i = i} None c e = c.first ∙ ap (λ (ms : List Move). first_of (lefts_at i ms)) e
+noted-end (Some l) c e = c.first
 
 -- ---- the same for a writing loop: what stands next in the result
 

@@ -4,7 +4,7 @@ use mathlib.Core.Path.{◌≡◌, refl, sym, ap, ◌∙◌}
 use mathlib.Core.List.{List, [], ◌∷◌, ◌++◌, append_assoc, append-nil}
 use Prim.Native.Nat.{ℕ, ◌+◌, ◌-◌, ◌≤◌}
 use native.Mathlib.Omega.{arith}
-use lib.ListN.{length, take, drop, get_or, length-append, length-drop, drop_of_length-le}
+use lib.ListN.{get_or, length, take, drop, length-drop, drop_of_length-le}
 use lib.Seq.{drop-drop, take-add, take-take, take-append-le, drop-append-add, length-take-le, take-length}
 use Rattle.rules.specs.Bytes.{over}
 use Rattle.base.proofs.Filled.{lent-rest}
@@ -25,12 +25,6 @@ eight-first (a ∷ b ∷ c ∷ d ∷ e ∷ f ∷ g ∷ []) l = absurd (omega ari
 -- The text over the output, up to place n.
 abbrev pub copied : List ℕ → List ℕ → ℕ → List ℕ
 copied t out n = take n t ++ drop n out
-
-pub copied-length : (t out : List ℕ) (n : ℕ) → n ≤ length t → length t ≤ length out → length (copied t out n) ≡ length out
-copied-length t out n h k =
-    let a = length-take-le n t h in
-    let b = length-drop n out in
-    length-append (take n t) (drop n out) ∙ omega (arith, a, b)
 
 pub copied-whole : (t out : List ℕ) → copied t out (length t) ≡ over t out
 copied-whole t out = ap (λ (w : List ℕ). w ++ drop (length t) out) (take-length t)

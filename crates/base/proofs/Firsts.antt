@@ -1,11 +1,14 @@
 -- How a search goes on: stretches where the test passes nowhere are joined, a place or a stretch at a time.
 -- Assumes nothing.
-use mathlib.Core.Bool.{Bool, true, false, ◌||◌}
-use mathlib.Core.Path.{◌≡◌, refl, ap, ◌∙◌}
-use Prim.Native.Nat.{ℕ, ◌+◌}
+use mathlib.Core.Bool.{Bool, true, false}
+use mathlib.Core.Path.{◌≡◌, refl, sym, ap, ◌∙◌}
+use Prim.Native.Nat.{ℕ, ◌+◌, ◌-◌, ◌≤◌, ◌<◌}
 use native.Mathlib.Omega.{arith}
 use borrow.Author.Tests.{ltb-true, ltb-false}
 use lib.Dec.{ltb}
+use lib.ListN.{length, take, drop, get_or}
+use mathlib.Core.List.{List}
+use Rattle.base.proofs.Part.{part_length, part_at}
 use Rattle.base.specs.First.{Free}
 
 module _ (test : ℕ → Bool) where
@@ -24,7 +27,16 @@ module _ (test : ℕ → Bool) where
   pub free_step : (a e : ℕ) → Free test a e → test e ≡ false → Free test a (e + 1)
   free_step a e f n = free-join a e (e + 1) f (λ k h l. ap test (let same : k ≡ e = omega arith in same) ∙ n)
 
-  -- An answer that is false only where the test passed nowhere, and the test of one place more.
-  pub free_more : (a e : ℕ) (hit : Bool) → (hit ≡ false → Free test a e) → hit || test e ≡ false → Free test a (e + 1)
-  free_more a e true f z = let never : ◌≡◌ {A = ℕ} 0 1 = cc in absurd (omega arith)
-  free_more a e false f z = free_step a e (f refl) z
+-- Before the first byte in what is left from i on that passes a test, which std's search gives, the test passes nowhere.
+module _ (p : ℕ → Bool) (t : List ℕ) (i : ℕ) where
+  abbrev rest : List ℕ
+  rest = take (length t - i) (drop i t)
+
+  pub free-found : (k : ℕ) → k ≤ length rest → ((j d : ℕ) → 0 ≤ j → j < k → p (get_or rest j d) ≡ false) → i ≤ length t → Free (λ k. p (get_or t k 0)) i (i + k)
+  free-found k h f l j a b =
+      let le : length t ≤ length t = omega arith in
+      let s : i + (j - i) ≡ j = omega arith in
+      ap p (sym (part_at t i (length t) (j - i) (omega (arith, h, part_length t i (length t) l le)) ∙ ap (λ (n : ℕ). get_or t n 0) s)) ∙ f (j - i) 0 (omega arith) (omega arith)
+
+  pub rest-size : i ≤ length t → i + length rest ≡ length t
+  rest-size l = let le : length t ≤ length t = omega arith in omega (arith, part_length t i (length t) l le)

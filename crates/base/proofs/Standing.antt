@@ -1,4 +1,4 @@
--- What the loops that compare a text with a pattern, item by item, need; the name of a closing tag; and the terminators by their ranges.
+-- What a test of a pattern at the start of a text says, and the name of a closing tag.
 -- Assumes nothing.
 use mathlib.Core.Bool.{Bool, true, false, ◌&&◌, ◌||◌, cond, and-true, and-false}
 use mathlib.Core.Path.{◌≡◌, refl, sym, ap, ◌∙◌}
@@ -9,31 +9,16 @@ use borrow.Author.Tests.{eq-eqb}
 use lib.Dec.{eqb, eqb-suc-zero, eqb-suc-suc}
 use lib.ListN.{length, drop, get_or, drop_of_length-le}
 use lib.Seq.{drop-cons}
-use Rattle.rules.specs.Bytes.{fits, inside, one_of}
+use Rattle.std.specs.List.{starts_with}
+use Rattle.rules.specs.Bytes.{fits, stands, inside, one_of}
 use Rattle.rules.specs.Encoding.{any_case, terminators, closes, closes_at_end}
-use Rattle.rules.proofs.Below.{agree, agrees}
-use Rattle.rules.proofs.EveryByte.{every_byte_lem}
 use Rattle.base.specs.Closing.{named}
 
-module _ {B : Type 0} (m : B → ℕ → Bool) (d : B) (p : List B) (s : List ℕ) (i : ℕ) where
-  unrolled : i < length p → i < length s → fits m (drop i p) (drop i s) ≡ (m (get_or p i d) (get_or s i 0) && fits m (drop (i + 1) p) (drop (i + 1) s))
-  unrolled h k = rw (add-one, drop-cons p i d h, drop-cons s i 0 k)
-
-  -- An item that fits is passed.
-  pub fits_on : i < length p → i < length s → m (get_or p i d) (get_or s i 0) ≡ true → fits m (drop i p) (drop i s) ≡ fits m (drop (i + 1) p) (drop (i + 1) s)
-  fits_on h k e = unrolled h k ∙ ap (λ (b : Bool). b && fits m (drop (i + 1) p) (drop (i + 1) s)) e
-
-  -- One that does not ends it.
-  pub fits-off : i < length p → i < length s → m (get_or p i d) (get_or s i 0) ≡ false → fits m (drop i p) (drop i s) ≡ false
-  fits-off h k e = unrolled h k ∙ ap (λ (b : Bool). b && fits m (drop (i + 1) p) (drop (i + 1) s)) e
-
-  -- So does the end of the text.
-  pub fits-short : i < length p → length s ≤ i → fits m (drop i p) (drop i s) ≡ false
-  fits-short h k = rw (drop-cons p i d h, drop_of_length-le s k)
-
-  -- All of the pattern stands there.
-  pub fits_all : length p ≤ i → fits m (drop i p) (drop i s) ≡ true
-  fits_all h = rw (drop_of_length-le p h)
+-- What a slice's `starts_with` says is that the pattern stands there.
+pub starts-stands : (p s : List ℕ) → starts_with eqb s p ≡ stands p s
+starts-stands [] s = refl
+starts-stands (x ∷ p) [] = refl
+starts-stands (x ∷ p) (y ∷ s) = ap (λ (b : Bool). eqb x y && b) (starts-stands p s)
 
 -- ---- a name in any letter case, and what ends it
 
@@ -69,9 +54,6 @@ module _ (last : Bool) (name s : List ℕ) (i : ℕ) where
   unfold-named : i < length name → i < length s → named last (drop i name) (drop i s) ≡ (one_of (any_case (get_or name i 0)) (get_or s i 0) && named last (drop (i + 1) name) (drop (i + 1) s))
   unfold-named h k = rw (add-one, drop-cons name i 0 h, drop-cons s i 0 k)
 
-  pub named-on : i < length name → i < length s → one_of (any_case (get_or name i 0)) (get_or s i 0) ≡ true → named last (drop i name) (drop i s) ≡ named last (drop (i + 1) name) (drop (i + 1) s)
-  named-on h k e = unfold-named h k ∙ ap (λ (b : Bool). b && named last (drop (i + 1) name) (drop (i + 1) s)) e
-
   pub named-off : i < length name → i < length s → one_of (any_case (get_or name i 0)) (get_or s i 0) ≡ false → named last (drop i name) (drop i s) ≡ false
   named-off h k e = unfold-named h k ∙ ap (λ (b : Bool). b && named last (drop (i + 1) name) (drop (i + 1) s)) e
 
@@ -83,12 +65,3 @@ module _ (last : Bool) (name s : List ℕ) (i : ℕ) where
 
   pub named-last : length name ≤ i → i < length s → named last (drop i name) (drop i s) ≡ one_of terminators (get_or s i 0)
   named-last h k = rw (drop_of_length-le name h, drop-cons s i 0 k)
-
--- ---- terminators
-
-abbrev ranges : ℕ → Bool
-ranges b = eqb b 47 || (eqb b 62 || (inside (9, 13) b || inside (28, 32) b))
-
--- `/`, `>`, a byte 9 to 13 or 28 to 32.
-pub terminator-ranges : (b : ℕ) → b < 256 → one_of terminators b ≡ (eqb b 47 || (eqb b 62 || (inside (9, 13) b || inside (28, 32) b)))
-terminator-ranges b h = agrees (one_of terminators b) (ranges b) (every_byte_lem (λ (b : ℕ). agree (one_of terminators b) (ranges b)) tt b h)

@@ -1,4 +1,5 @@
 // What many crates share: copying into an output, splitting a text into parts, and tests of a byte or a number.
+// The lengths of text and output stand in each contract: both are slices, cut anew for each call, and no type is longer lived than one call.
 #![tactic(auto)]
 
 pub mod chars;
@@ -6,11 +7,11 @@ pub mod find;
 pub mod prefix;
 pub mod words;
 
-ghost use Rattle.std.specs.Prelude.{cond, ◌≡◌, ℕ, ◌+◌, ◌≤◌, ◌<◌, eqb, leb, length, take};
+ghost use Rattle.std.specs.Prelude.{IfSome, cond, ◌≡◌, ℕ, ◌+◌, ◌≤◌, ◌<◌, eqb, leb, length, take};
 ghost use Rattle.rules.specs.Bytes.{over, inside};
 ghost use Rattle.rules.specs.Tables.{letter_or_digit, hex_digit};
 ghost use Rattle.rules.specs.References.{digit, hex_digit_at};
-ghost use Rattle.base.specs.Digits.{below, upper_digit, upper_of, letter_of};
+ghost use Rattle.base.specs.Digits.{found_as, upper_digit, under};
 
 // Copies `bytes` to the start of `output`, leaves the bytes after them as they were, and returns how many they are.
 pub fn put(bytes: &[u8], output: &mut [u8]) -> usize
@@ -22,14 +23,8 @@ pub fn put(bytes: &[u8], output: &mut [u8]) -> usize
     n
 }
 
-// Returns the smaller of two offsets.
-pub fn min(a: usize, b: usize) -> usize
-    ensures { (result ≤ a) × (result ≤ b) × ((n : ℕ) → 0 < n → a < b + n → a < result + n) }
-{
-    if a < b { a } else { b }
-}
-
-// Copies the first eight bytes of a text to the start of `output`. All are read before the first is written: one load and one store.
+// Copies the first eight bytes of a text to the start of `output`. All are read before the first is written: one load and one store. A copy of the slice
+// takes three instructions more, which test that the two do not overlap: 4.6 instead of 3.6 a byte for a long plain string of a script.
 fn put_eight(text: &[u8], output: &mut [u8])
     requires { (8 ≤ length text.now) × (8 ≤ length output.old) }
     ensures { output.new ≡ over (take 8 text.now) output.old }
@@ -58,13 +53,11 @@ fn put_eights(text: &[u8], output: &mut [u8]) -> usize
     ensures { (result ≡ length text.now) × (output.new ≡ over text.now output.old) }
 {
     let last = text.len() - 8;
-    let mut done: usize = 0;
-    while done < text.len() {
-        let at = min(done, last);
-        put_eight(&text[at..], &mut output[at..]);
-        done = at + 8;
+    for k in 0..last.div_ceil(8) {
+        put_eight(&text[8 * k..], &mut output[8 * k..]);
     }
-    done
+    put_eight(&text[last..], &mut output[last..]);
+    text.len()
 }
 
 // Copies a text of eight bytes or more as `put` does, but quicker if it has at most 64.
@@ -94,10 +87,7 @@ pub fn clip(at: usize, end: usize, step: usize) -> usize
     requires { (at < end) × (0 < step) }
     ensures { (at < result) × (result ≤ end) × (result ≤ at + step) }
 {
-    if step < end - at {
-        return at + step;
-    }
-    end
+    at + step.min(end - at)
 }
 
 // Reports whether a byte is from `lo` to `hi`. It has no branch, so that a loop over it compiles to vector code.
@@ -129,50 +119,36 @@ pub fn hex_digit(n: u8) -> u8
     if n < 10 { b'0' + n } else { b'A' + (n - 10) }
 }
 
-// Returns a byte 32 lower if it is `a` or above, so that lower-case letters become upper-case ones.
-fn to_upper(byte: u8) -> u8
-    ensures { result ≡ upper_of byte }
+// Returns the value of an upper-case hex digit, None for any other byte.
+#[tactic(auto, unfolding(crate::specs::Digits::upper_digit))]
+pub fn upper_digit_value(byte: u8) -> Option<u8>
+    ensures value { result ≡ upper_digit byte }
+    ensures small { IfSome result (λ n. n < 16) }
 {
-    if b'a' <= byte { byte - 32 } else { byte }
+    match byte {
+        b'0'..=b'9' => Some(byte - b'0'),
+        b'A'..=b'F' => Some(byte - b'A' + 10),
+        _ => None,
+    }
 }
 
-// Returns the value of an upper-case letter that is a hex digit, 255 for any other byte. `A` is 55 + 10.
-fn letter_value(byte: u8) -> u8
-    ensures { result ≡ letter_of byte }
+// Returns the value of a hex digit of either letter case, None for any other byte.
+pub fn digit_value(byte: u8) -> Option<u8>
+    ensures value { result ≡ found_as (hex_digit_at byte) }
+    ensures decimal { under 10 result ≡ digit byte }
+    ensures small { IfSome result (λ n. n < 16) }
 {
-    if is_within(b'A', b'F', byte) {
-        return byte - 55;
+    match byte {
+        b'0'..=b'9' => Some(byte - b'0'),
+        b'A'..=b'F' => Some(byte - b'A' + 10),
+        b'a'..=b'f' => Some(byte - b'a' + 10),
+        _ => None,
     }
-    255
-}
-
-// Returns the value of an upper-case hex digit, 255 for any other byte. It looks for a letter in any case, so that no branch has to guess.
-pub fn upper_digit_value(byte: u8) -> u8
-    ensures { below 16 result ≡ upper_digit byte }
-{
-    let letter = letter_value(byte);
-    if is_within(b'0', b'9', byte) {
-        return byte - b'0';
-    }
-    letter
-}
-
-// Returns the value of a hex digit of either letter case, 255 for any other byte.
-pub fn digit_value(byte: u8) -> u8
-    ensures { (below 10 result ≡ digit byte) × (below 16 result ≡ hex_digit_at byte) }
-{
-    if is_within(b'0', b'9', byte) {
-        return byte - b'0';
-    }
-    letter_value(to_upper(byte))
 }
 
 // Returns 1 if a number is at least `least`, else 0.
 pub fn reaches(number: u64, least: u64) -> usize
     ensures { (result ≡ cond (leb least number) 1 0) × (result ≤ 1) }
 {
-    if least <= number {
-        return 1;
-    }
-    0
+    usize::from(least <= number)
 }

@@ -15,13 +15,6 @@ pub fn store(x: u64, output: &mut [u8]) -> usize
     requires { 8 ≤ length output.old }
     ensures { (result ≡ x / 0x100000000000000) × (output.new ≡ over (eight x) output.old) }
 {
-    output[0] = (x % 0x100) as u8;
-    output[1] = (x / 0x100 % 0x100) as u8;
-    output[2] = (x / 0x1_0000 % 0x100) as u8;
-    output[3] = (x / 0x100_0000 % 0x100) as u8;
-    output[4] = (x / 0x1_0000_0000 % 0x100) as u8;
-    output[5] = (x / 0x100_0000_0000 % 0x100) as u8;
-    output[6] = (x / 0x1_0000_0000_0000 % 0x100) as u8;
-    output[7] = (x / 0x100_0000_0000_0000 % 0x100) as u8;
+    output[..8].copy_from_slice(&x.to_le_bytes());
     (x / 0x100_0000_0000_0000) as usize
 }

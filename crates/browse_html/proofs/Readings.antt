@@ -23,9 +23,7 @@ use Rattle.rules.specs.declared.Kind.{Kind}
 use Rattle.rules.specs.declared.DecodedEntity.{DecodedEntity}
 use Rattle.rules.specs.declared.DecodedEntityValue.{DecodedEntityValue}
 use Rattle.rules.specs.declared.DecodedEntityValue.TheVariants.{Character}
-use Rattle.rules.specs.declared.Meaning.TheVariants.{Value}
-use Rattle.rules.specs.declared.Reference.{Reference}
-use Rattle.rules.specs.declared.Reference.TheVariants.{Found, Left, Nothing}
+use Rattle.rules.specs.declared.Reason.{Reason}
 use Rattle.rules.proofs.Loops.{drop-next}
 use Rattle.rules.proofs.Tests.{all_in, and_left}
 use Rattle.rules.proofs.Names.{looked-up, empty-unnamed}
@@ -33,11 +31,10 @@ use Rattle.rules.proofs.Whole.{body-split}
 use Rattle.rules.proofs.Identifiers.{bare-named, names-wordy}
 use Rattle.rules.proofs.Browsing.{reference-here, named-alike, decode-takes, decode-stays}
 use Rattle.names_bare.specs.Heads.{Heads}
-use Rattle.names_bare.specs.declared.BareName.TheVariants.{Found as BareFound}
-use Rattle.decode_html.specs.Taking.{Real, Reads}
-use Rattle.decode_html.proofs.Readings.{not-number, name-real, never-kept}
-use Rattle.decode_html.proofs.Turns.{Unfound}
-use Rattle.browse_html.specs.Finding.{blocked_in, Named, found_at}
+use Rattle.names_bare.specs.declared.BareName.{BareName}
+use Rattle.decode_html.specs.Taking.{Real, Gives, Stays}
+use Rattle.decode_html.proofs.Readings.{not-number, name-real}
+use Rattle.browse_html.specs.Finding.{blocked_in, Named, Keeps}
 use Rattle.browse_html.proofs.Names.{finds-bare}
 
 -- A name without `;` is in the table, and its value is no character above 10FFFF.
@@ -49,7 +46,7 @@ bare-lookup n i = go (lookup names n) (all_in (λ (n : List ℕ). ltb 0 (length 
     go (some v) t = refl
 
 bare-real : (n : List ℕ) (c : ℕ) → In n bare → utf8 c ≡ given (lookup names n) → c ≤ 0x10FFFF
-bare-real n c i e = name-real n (Value (Character c)) (ap some e ∙ sym (bare-lookup n i))
+bare-real n c i e = name-real n (Character c) (ap some e ∙ sym (bare-lookup n i))
 
 no-mark : (s : List ℕ) → (get_or s 0 0 ≡ 35 → ⊥) → stands (ascii "#") s ≡ false
 no-mark [] h = refl
@@ -67,13 +64,13 @@ module _ (kind : Kind) (t : List ℕ) (i : ℕ) (inside : i < length t) (amp : g
   at-amp p o e = rw starts (ap at_amp e)
 
   -- There is no reference.
-  pub reads_none : reference_at kind after ≡ none → Reads (browse_step kind) t i Nothing
-  reads_none e = record { move = λ p. sym (at-amp p none e); lies = tt }
+  pub keeps_none : reference_at kind after ≡ none → Keeps kind t i
+  keeps_none e = λ p. sym (at-amp p none e)
 
   -- There is one: it ends behind its bytes.
-  pub reads-row : (row : Row) → reference_at kind after ≡ some row → (v : DecodedEntityValue) → value_bytes v ≡ value row → Real v
-      → (e : ℕ) → e ≡ i + 1 + length (key row) → Reads (browse_step kind) t i (found_at i e v)
-  reads-row row f v g real e h =
+  pub gives-row : (row : Row) → reference_at kind after ≡ some row → (v : DecodedEntityValue) → value_bytes v ≡ value row → Real v
+      → (e : ℕ) → e ≡ i + 1 + length (key row) → Gives (browse_step kind) t i (record { start = i; end = e; value = v })
+  gives-row row f v g real e h =
       let (r, w) = reference-here kind after row f in
       let long : length (key row) + length r ≡ length t - (i + 1) = sym (length-append (key row) r) ∙ ap length (sym w) ∙ rw length-drop in
       let n : e - i ≡ suc (length (key row)) = omega arith in
@@ -85,7 +82,13 @@ module _ (kind : Kind) (t : List ℕ) (i : ℕ) (inside : i < length t) (amp : g
 
   -- ---- a name without `;`
 
-  module _ (named : Named after) (n c : ℕ) (heads : Heads after (BareFound n c)) where
+  module _ (named : Named after) (name : BareName) (heads : Heads after name) where
+    abbrev n : ℕ
+    n = name.length
+
+    abbrev c : ℕ
+    c = name.character
+
     pub bare-within : i + 1 + n ≤ length t
     bare-within =
         let long : length after ≡ length t - (i + 1) = rw length-drop in
@@ -101,13 +104,13 @@ module _ (kind : Kind) (t : List ℕ) (i : ℕ) (inside : i < length t) (amp : g
     at_bare b e = finds-bare kind after named n heads.0 heads.1 ∙ ap (λ (b : Bool). cond {A = Option Row} b none (some row)) (ap (blocked_in kind) behind ∙ e)
 
     -- It is blocked.
-    pub bare-stays : blocked_in kind (drop (i + 1 + n) t) ≡ true → Reads (browse_step kind) t i Nothing
-    bare-stays e = reads_none (at_bare true e)
+    pub bare-stays : blocked_in kind (drop (i + 1 + n) t) ≡ true → Keeps kind t i
+    bare-stays e = keeps_none (at_bare true e)
 
     -- It is not.
-    pub bare-passes : blocked_in kind (drop (i + 1 + n) t) ≡ false → Reads (browse_step kind) t i (found_at i (i + 1 + n) (Character c))
+    pub bare-passes : blocked_in kind (drop (i + 1 + n) t) ≡ false → Gives (browse_step kind) t i (record { start = i; end = i + 1 + n; value = Character c })
     bare-passes e =
-        reads-row row (at_bare false e) (Character c) heads.2 (bare-real (take n after) c heads.1 heads.2) (i + 1 + n)
+        gives-row row (at_bare false e) (Character c) heads.2 (bare-real (take n after) c heads.1 heads.2) (i + 1 + n)
         (ap (λ (k : ℕ). i + 1 + k) (sym (length-take-le n after heads.0)))
 
   -- ---- a name that decode takes, or leaves
@@ -140,21 +143,19 @@ module _ (kind : Kind) (t : List ℕ) (i : ℕ) (inside : i < length t) (amp : g
         first (b ∷ body) e z = let (r, w) = body-split after (b ∷ body) e in other (ap (λ (s : List ℕ). get_or s 0 0) w ∙ z)
 
     -- decode takes it: so does browse.
-    pub reads-decoded : (e : DecodedEntity) → Reads reference_step t i (Found e) → Reads (browse_step kind) t i (found_at i e.end e.value)
-    reads-decoded e reads =
+    pub gives-decoded : (e : DecodedEntity) → Gives reference_step t i e → Gives (browse_step kind) t i (record { start = i; end = e.end; value = e.value })
+    gives-decoded e gives =
         let bytes = take (e.end - e.start) (drop e.start t) in
-        let step : reference_step 0 (38 ∷ after) ≡ swap bytes (value_bytes e.value) = sym (reads.move 0 ∙ ap (reference_step 0) starts) in
+        let step : reference_step 0 (38 ∷ after) ≡ swap bytes (value_bytes e.value) = sym (gives.move 0 ∙ ap (reference_step 0) starts) in
         let (body, f, same, g) = decode-takes 0 after bytes (value_bytes e.value) step in
         let row = named-alike kind after body (value_bytes e.value) f (sym (whole body f) ∙ g) in
-        let here : Reads (browse_step kind) t i (Found e) =
-        record { move = λ p. (λ j. swap (same j) (value_bytes e.value)) ∙ sym (at-amp p (some (body ++ ascii ";", value_bytes e.value)) row); lies = reads.lies } in
-        subst (λ (k : ℕ). Reads (browse_step kind) t i (found_at k e.end e.value)) reads.lies.0 here
+        let here : Gives (browse_step kind) t i e =
+        record { move = λ p. (λ j. swap (same j) (value_bytes e.value)) ∙ sym (at-amp p (some (body ++ ascii ";", value_bytes e.value)) row); lies = gives.lies } in
+        subst (λ (k : ℕ). Gives (browse_step kind) t i (record { start = k; end = e.end; value = e.value })) gives.lies.0 here
 
     -- decode leaves it, and tells why: then no name with its `;` stands here.
-    pub left-named : (r : Reference) → Unfound r → Reads reference_step t i r → Named after
-    left-named (Found e) u reads = absurd (u e refl)
-    left-named Nothing u reads = absurd (never-kept t i inside amp reads)
-    left-named (Left w) u reads = (
+    pub left-named : (w : Reason) → Stays t i w → Named after
+    left-named w stays = (
       no-mark after other,
-      λ body v f g. decode-stays 0 after w (ap (reference_step 0) (sym starts) ∙ sym (reads.move 0)) body v f (whole body f ∙ g),
+      λ body v f g. decode-stays 0 after w (ap (reference_step 0) (sym starts) ∙ sym (stays 0)) body v f (whole body f ∙ g),
     )

@@ -9,27 +9,26 @@ use lib.ListN.{length, take, drop, get_or}
 use Rattle.rules.specs.Moves.{result, before, from}
 use Rattle.rules.specs.Browsing.{browse_step}
 use Rattle.rules.specs.declared.Kind.{Kind}
-use Rattle.rules.specs.declared.Reference.TheVariants.{Nothing}
 use Rattle.rules.proofs.Browsing.{browse-fair, browse-quiet}
 use Rattle.rules.proofs.Loops.{drop-next}
-use Rattle.rules.proofs.Quiet.{Keeps}
+use Rattle.rules.proofs.Quiet.{Keeps as Quiet}
 use Rattle.base.proofs.Filled.{Next}
 use Rattle.base.proofs.Counted.{Counted, counted-quiet, next-quiet}
-use Rattle.decode_html.specs.Taking.{Reads}
+use Rattle.browse_html.specs.Finding.{Keeps}
 use Rattle.decode_html.proofs.Turns.{Turning}
 
 pub browsing : (kind : Kind) → Turning (browse_step kind)
 browsing kind = record { fair = browse-fair kind; keeps = λ p x s h. browse-quiet kind p x s (λ t. h (eqb→eq x 38 t)) }
 
 -- There is no reference at the `&`, which is kept.
-module _ (kind : Kind) (t : List ℕ) (p : ℕ) (inside : p < length t) (amp : get_or t p 0 ≡ 38) (reads : Reads (browse_step kind) t p Nothing) where
+module _ (kind : Kind) (t : List ℕ) (p : ℕ) (inside : p < length t) (amp : get_or t p 0 ≡ 38) (keeps : Keeps kind t p) where
   one : p + 1 - p ≡ 1
   one = omega arith
 
-  alone : Keeps (browse_step kind) t p (p + 1)
+  alone : Quiet (browse_step kind) t p (p + 1)
   alone k h l =
       let z : k ≡ p = omega arith in
-      rw (z, amp) (sym (reads.move (before t p)))
+      rw (z, amp) (sym (keeps (before t p)))
 
   pub stays-next : Next (result (from (browse_step kind) t p)) (38 ∷ []) (result (from (browse_step kind) t (p + 1)))
   stays-next =

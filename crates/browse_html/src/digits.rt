@@ -1,14 +1,13 @@
 // Numbers in browse: the digits up to the first other byte, the `;` that may follow them, and the character that they stand for.
-ghost use Rattle.std.specs.Prelude.{cond, ◌⊎◌, ◌≡◌, ◌+◌, ◌≤◌, ◌<◌, length, drop, get_or};
+ghost use Rattle.std.specs.Prelude.{◌⊎◌, ◌≡◌, ◌+◌, ◌≤◌, ◌<◌, length, drop, get_or};
 ghost use Rattle.std.proofs.Math.Option.{some};
 ghost use Rattle.rules.specs.Utf8.{utf8};
 ghost use Rattle.rules.specs.References.{renumbering, stands_for, browse_char};
-ghost use Rattle.rules.specs.Browsing.{end_at, browse_step};
-ghost use Rattle.decode_html.specs.Taking.{Reads};
+ghost use Rattle.rules.specs.Browsing.{end_at};
 ghost use Rattle.rules.specs.declared.Kind.{Kind};
-ghost use Rattle.browse_html.specs.Finding.{Runs, Counts, single_at};
+ghost use Rattle.browse_html.specs.Finding.{Finds, Counts};
 
-use crate::Single;
+use rules::{DecodedEntity, DecodedEntityValue};
 
 // Returns the number of the character that browse gives for a numeric reference. The two tests come first, since nearly every number ends there.
 fn stands_for(number: u32) -> u32
@@ -65,82 +64,41 @@ fn browsed(number: u32) -> u32
     0xFFFD
 }
 
-// The digits at an offset: their number, which stays at the ceiling once it is above the last character, and where they end.
-#[derive(Clone, Copy)]
-struct Run {
-    number: u32,
-    end: usize,
-}
-
-// Reads the digits at an offset up to the first other byte. Leading zeros are free, and a number of any length is read to its end.
-fn read_run(base: u32, text: &[u8], from: usize) -> Run
-    requires { ((base ≡ 10) ⊎ (base ≡ 16)) × (from ≤ length text.now) }
-    ensures { Runs base text.now from result.number result.end }
-{
-    let mut number: u32 = 0;
-    let mut i: usize = from;
-    while i < text.len() {
-        let value = decode_html::digits::value_of(text[i]);
-        if base <= value {
-            return Run { number, end: i };
-        }
-        number = decode_html::digits::ceiling(number * base + value);
-        i += 1;
-    }
-    Run { number, end: i }
-}
-
 // Returns the offset past the `;` at an offset if one stands there, else the offset.
 fn past_end(text: &[u8], at: usize) -> usize
     requires { at ≤ length text.now }
     ensures { result ≡ at + length (end_at (drop at text.now)) }
 {
-    if at == text.len() {
-        return at;
+    match text.get(at) {
+        Some(b';') => at + 1,
+        _ => at,
     }
-    if text[at] == b';' {
-        return at + 1;
-    }
-    at
 }
 
 // Reads the number whose digits begin at `from`, behind the `&` at `start` and the mark of its base.
-fn find_digits(base: u32, text: &[u8], start: usize, from: usize) -> Single
+fn find_digits(base: u32, text: &[u8], start: usize, from: usize) -> Option<DecodedEntity>
     requires { (get_or text.now start 0 ≡ 38) × ((base ≡ 10) ⊎ (base ≡ 16)) × (start < from) × (from ≤ length text.now) × ((kind : Kind) → Counts kind base text.now start from) }
-    ensures { (kind : Kind) → Reads (browse_step kind) text.now start (single_at start result) }
+    ensures { (kind : Kind) → Finds kind text.now start result }
 {
-    let run = read_run(base, text, from);
-    let end = run.end;
-    if end == from {
-        return Single::Nothing;
+    let run = decode_html::digits::read_run(base, &text[from..]);
+    if run.length == 0 {
+        return None;
     }
     let character = browsed(run.number);
-    Single::Found(past_end(text, end), character)
-}
-
-// Returns the base of a number, by whether it has the mark of hex digits.
-fn base_of(hex: bool) -> u32
-    ensures { result ≡ cond hex 16 10 }
-{
-    if hex { 16 } else { 10 }
-}
-
-// Returns the length of that mark, 0 if there is none.
-fn mark_length(hex: bool) -> usize
-    ensures { (result ≡ cond hex 1 0) × (result ≤ 1) }
-{
-    if hex { 1 } else { 0 }
+    Some(DecodedEntity {
+        start,
+        end: past_end(text, from + run.length),
+        value: DecodedEntityValue::Character(character),
+    })
 }
 
 // Reads the number behind the `&#` at `start`: hex digits after `x` or `X`, else decimal digits. One call reads both, so that it is compiled in line.
-pub fn find_number(text: &[u8], start: usize) -> Single
+pub fn find_number(text: &[u8], start: usize) -> Option<DecodedEntity>
     requires { (start + 1 < length text.now) × (get_or text.now start 0 ≡ 38) × (get_or text.now (start + 1) 0 ≡ 35) }
-    ensures { (kind : Kind) → Reads (browse_step kind) text.now start (single_at start result) }
+    ensures { (kind : Kind) → Finds kind text.now start result }
 {
     let at = start + 2;
-    if at == text.len() {
-        return Single::Nothing;
-    }
-    let hex = decode_html::digits::is_hex_mark(text[at]);
-    find_digits(base_of(hex), text, start, at + mark_length(hex))
+    let hex = decode_html::digits::is_hex_mark(*text.get(at)?);
+    let (base, mark) = if hex { (16, 1) } else { (10, 0) };
+    find_digits(base, text, start, at + mark)
 }

@@ -1,46 +1,30 @@
 // browse in the HTML contexts: references by the HTML Standard's character reference states, in text and in the value of an attribute.
+// Text and the offset of the `&` stand in each contract: a type around them would be taken apart where decode's reader is asked first.
 #![tactic(auto)]
 
-ghost use Rattle.std.specs.Prelude.{true, false, ◌≡◌, ◌+◌, ◌≤◌, ◌<◌, length, drop, get_or};
+ghost use Rattle.std.specs.Prelude.{◌≡◌, ◌+◌, ◌≤◌, ◌<◌, MatchOption, length, drop, get_or};
 ghost use Rattle.rules.specs.Bytes.{over};
 ghost use Rattle.rules.specs.Moves.{through, result as result_of};
-ghost use Rattle.rules.specs.Tables.{letter_or_digit};
 ghost use Rattle.rules.specs.Browsing.{goes_on, browse_step};
 ghost use Rattle.rules.specs.Answers.{Measures};
-ghost use Rattle.decode_html.specs.Taking.{Reads};
-ghost use Rattle.browse_html.specs.Finding.{Named, Unended, Ends, single_at, blocked_in};
+ghost use Rattle.rules.specs.declared.Kind.{Kind};
+ghost use Rattle.decode_html.specs.Taking.{Gives};
+ghost use Rattle.browse_html.specs.Finding.{Named, Unended, Finds, blocked_in};
 
 mod digits;
 
-use names_bare::BareName;
-use rules::{DecodedEntityValue, Kind, Measured, Reference};
-
-// A name with its `;`: where it ends, and its value.
-#[derive(Clone, Copy)]
-enum Ended {
-    Found(usize, DecodedEntityValue),
-    Nothing,
-}
-
-// A number or a name without `;`, which stand for one character: where it ends, and the number of the character.
-#[derive(Clone, Copy)]
-pub enum Single {
-    Found(usize, u32),
-    Nothing,
-}
+use rules::{DecodedEntity, DecodedEntityValue, Kind, Measured};
 
 // Reports whether `=` or an ASCII letter or digit stands at an offset.
 fn goes_on(text: &[u8], at: usize) -> bool
     requires { at ≤ length text.now }
     ensures { result ≡ goes_on (drop at text.now) }
 {
-    if at == text.len() {
-        return false;
+    match text.get(at) {
+        None => false,
+        Some(b'=') => true,
+        Some(byte) => base::is_letter_or_digit(*byte),
     }
-    if text[at] == b'=' {
-        return true;
-    }
-    base::is_letter_or_digit(text[at])
 }
 
 // Reports whether a name without `;` that ends at an offset is left as it is: in an attribute, before `=` or an ASCII letter or digit.
@@ -54,73 +38,64 @@ fn is_blocked(kind: Kind, text: &[u8], at: usize) -> bool
     }
 }
 
-// Reports whether a number begins with the `&` at `start`: whether `#` follows.
-fn is_number(text: &[u8], start: usize) -> bool
-    requires { start < length text.now }
-    ensures { (result ≡ true → (start + 1 < length text.now) × (get_or text.now (start + 1) 0 ≡ 35)) × (result ≡ false → get_or text.now (start + 1) 0 ≡ 35 → ⊥) }
-{
-    let first = start + 1;
-    if first == text.len() {
-        return false;
-    }
-    if text[first] == b'#' {
-        return true;
-    }
-    false
-}
-
-// Reports whether a name may begin behind the `&` at `start`: whether a letter or digit follows.
-fn is_name(text: &[u8], start: usize) -> bool
-    requires { start < length text.now }
-    ensures { result ≡ letter_or_digit (get_or text.now (start + 1) 0) }
-{
-    let first = start + 1;
-    if first == text.len() {
-        return false;
-    }
-    base::is_letter_or_digit(text[first])
-}
-
 // Reads the name with its `;` behind the `&` at `start`, as decode's reader does. It is longer than any without, so that it goes first.
-fn find_ended(text: &[u8], start: usize) -> Ended
+fn find_ended(text: &[u8], start: usize) -> Option<DecodedEntity>
     requires { (start < length text.now) × (get_or text.now start 0 ≡ 38) }
-    ensures { Ends text.now start result }
+    ensures { MatchOption result (Unended text.now start) (λ found. (kind : Kind) → Gives (browse_step kind) text.now start found) }
 {
-    if !is_name(text, start) {
-        return Ended::Nothing;
+    if !base::is_letter_or_digit(*text.get(start + 1)?) {
+        return None;
     }
-    let Reference::Found(found) = decode_html::entity::find_decoded_entity(text, start) else {
-        return Ended::Nothing;
+    let Ok(found) = decode_html::entity::find_decoded_entity(text, start) else {
+        return None;
     };
     let value = found.value;
-    Ended::Found(found.end, value)
+    Some(DecodedEntity {
+        start,
+        end: found.end,
+        value,
+    })
 }
 
 // Reads the name without `;` behind the `&` at `start`, where no name with its `;` stands.
-fn find_bare(kind: Kind, text: &[u8], start: usize) -> Single
+fn find_bare(kind: Kind, text: &[u8], start: usize) -> Option<DecodedEntity>
     requires { (start < length text.now) × (get_or text.now start 0 ≡ 38) × Named (drop (start + 1) text.now) }
-    ensures { Reads (browse_step kind) text.now start (single_at start result) }
+    ensures { Finds kind text.now start result }
 {
     let first = start + 1;
-    let BareName::Found(n, character) = names_bare::find(&text[first..]) else {
-        return Single::Nothing;
-    };
-    let end = first + n;
+    let name = names_bare::find(&text[first..])?;
+    let end = first + name.length;
     if is_blocked(kind, text, end) {
-        return Single::Nothing;
+        return None;
     }
-    Single::Found(end, character)
+    Some(DecodedEntity {
+        start,
+        end,
+        value: DecodedEntityValue::Character(name.character),
+    })
 }
 
-// Reads the number or the name without `;` behind the `&` at `start`, where no name with its `;` stands; or tells that there is no reference.
-fn find_single(kind: Kind, text: &[u8], start: usize) -> Single
+// Reads the number or the name without `;` behind the `&` at `start`, where no name with its `;` stands.
+fn find_single(kind: Kind, text: &[u8], start: usize) -> Option<DecodedEntity>
     requires { (start < length text.now) × (get_or text.now start 0 ≡ 38) × Unended text.now start }
-    ensures { Reads (browse_step kind) text.now start (single_at start result) }
+    ensures { Finds kind text.now start result }
 {
-    if is_number(text, start) {
-        return digits::find_number(text, start);
+    match text.get(start + 1) {
+        Some(b'#') => digits::find_number(text, start),
+        _ => find_bare(kind, text, start),
     }
-    find_bare(kind, text, start)
+}
+
+// Reads the reference that begins with the `&` at `start`, if there is one. In line in the loops that call it, where a call costs about a sixth more instructions.
+#[inline(always)]
+fn find_reference(kind: Kind, text: &[u8], start: usize) -> Option<DecodedEntity>
+    requires { (start < length text.now) × (get_or text.now start 0 ≡ 38) }
+    ensures { Finds kind text.now start result }
+{
+    match find_ended(text, start) {
+        Some(found) => Some(found),
+        None => find_single(kind, text, start),
+    }
 }
 
 // Measures the result of browse without writing it. Bytes before the next `&` are skipped together; a reference counts as the bytes of its value, the `&`
@@ -132,6 +107,7 @@ pub fn measure(kind: Kind, text: &[u8]) -> Measured
     let mut length: usize = 0;
     let mut references: usize = 0;
     let mut i: usize = 0;
+    // A cursor: each turn moves by the length of what it read.
     while i < text.len() {
         if text[i] != b'&' {
             let next = base::find::find_byte(text, i, b'&');
@@ -139,28 +115,19 @@ pub fn measure(kind: Kind, text: &[u8]) -> Measured
             i = next;
             continue;
         }
-        let Ended::Found(end, value) = find_ended(text, i) else {
-            let Single::Found(end, character) = find_single(kind, text, i) else {
+        match find_reference(kind, text, i) {
+            Some(found) => {
+                length += decode_html::characters::value_length(found.value);
+                references += 1;
+                i = found.end;
+            }
+            None => {
                 length += 1;
                 i += 1;
-                continue;
-            };
-            length += base::chars::char_length(character);
-            references += 1;
-            i = end;
-            continue;
-        };
-        length += decode_html::characters::value_length(value);
-        references += 1;
-        i = end;
+            }
+        }
     }
-    Measured {
-        length,
-        place: i,
-        replaced: references,
-        left: 0,
-        reason: 0,
-    }
+    Measured::whole(length, i, references)
 }
 
 // Writes the result of browse to the start of `output` and returns what `measure` does; the bytes after it keep their values.
@@ -172,6 +139,7 @@ pub fn write(kind: Kind, text: &[u8], output: &mut [u8]) -> Measured
     let mut at: usize = 0;
     let mut references: usize = 0;
     let mut i: usize = 0;
+    // A cursor: each turn moves by the length of what it read.
     while i < text.len() {
         if text[i] != b'&' {
             let next = base::find::put_until(text, i, b'&', &mut output[at..]);
@@ -179,26 +147,17 @@ pub fn write(kind: Kind, text: &[u8], output: &mut [u8]) -> Measured
             i = next;
             continue;
         }
-        let Ended::Found(end, value) = find_ended(text, i) else {
-            let Single::Found(end, character) = find_single(kind, text, i) else {
+        match find_reference(kind, text, i) {
+            Some(found) => {
+                at += decode_html::characters::put_value(found.value, &mut output[at..]);
+                references += 1;
+                i = found.end;
+            }
+            None => {
                 at += base::put(b"&", &mut output[at..]);
                 i += 1;
-                continue;
-            };
-            at += base::chars::put_char(character, &mut output[at..]);
-            references += 1;
-            i = end;
-            continue;
-        };
-        at += decode_html::characters::put_value(value, &mut output[at..]);
-        references += 1;
-        i = end;
+            }
+        }
     }
-    Measured {
-        length: at,
-        place: i,
-        replaced: references,
-        left: 0,
-        reason: 0,
-    }
+    Measured::whole(at, i, references)
 }

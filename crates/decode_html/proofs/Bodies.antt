@@ -20,7 +20,8 @@ use Rattle.base.specs.Places.{Absent, Nearest}
 use Rattle.base.proofs.Part.{part_length}
 use Rattle.base.proofs.Places.{near-absent, near-part}
 use Rattle.decode_html.specs.Taking.{char_of}
-use Rattle.decode_html.specs.Bodies.{Ends}
+use Rattle.std.specs.Prelude.{Option as Maybe, Some, None}
+use Rattle.decode_html.specs.Bodies.{Ends, EndsAt}
 
 -- ---- where a body ends
 
@@ -58,32 +59,28 @@ module _ (t : List ℕ) where
 
     -- At a `;` the body ends.
     pub ends-here : r < length t → get_or t r 0 ≡ 59 → Ends t a r
-    ends-here k e = record {
-      after = h;
-      within = l;
-      body = λ m. (e, up_to ∙ rw (drop-next t r k, e) (ap some (append-nil (take (r - a) (drop a t)))));
-      nobody = λ m. absurd (omega arith);
-    }
+    ends-here k e = record { after = h; within = k; end = e; body = up_to ∙ rw (drop-next t r k, e) (ap some (append-nil (take (r - a) (drop a t)))) }
 
     -- At an `&` there is none.
-    pub ends-amp : r < length t → get_or t r 0 ≡ 38 → Ends t a (length t)
-    ends-amp k e = record { after = omega arith; within = omega arith; body = λ m. absurd (omega arith); nobody = λ m. up_to ∙ rw (drop-next t r k, e) }
+    pub ends-amp : r < length t → get_or t r 0 ≡ 38 → body_of (drop a t) ≡ none
+    ends-amp k e = up_to ∙ rw (drop-next t r k, e)
 
     -- Nor at the end of the text.
-    pub ends-none : length t ≤ r → Ends t a r
-    ends-none k = record { after = h; within = l; body = λ m. absurd (omega arith); nobody = λ m. up_to ∙ rw (drop_of_length-le t k) }
+    ends-none : length t ≤ r → body_of (drop a t) ≡ none
+    ends-none k = up_to ∙ rw (drop_of_length-le t k)
 
     -- Where a body ends from place r on, there it ends from place a on.
-    pub ends-after : (e : ℕ) → Ends t r e → Ends t a e
-    ends-after e end =
+    pub ends-after : (o : Maybe ℕ) → EndsAt t r o → EndsAt t a o
+    ends-after None e = up_to ∙ rw e
+    ends-after (Some e) end =
         let n : e - a ≡ r - a + (e - r) = omega (arith, end.after) in
         let s : a + (r - a) ≡ r = omega arith in
         let d : drop (r - a) (drop a t) ≡ drop r t = drop-drop (r - a) a t ∙ ap (λ (m : ℕ). drop m t) s in
         record {
           after = omega (arith, end.after);
           within = end.within;
-          body = λ m. ((end.body m).0, up_to ∙ rw ((end.body m).1, n) (ap some (sym (take-add (r - a) (e - r) (drop a t) ∙ rw d))));
-          nobody = λ m. up_to ∙ rw (end.nobody m);
+          end = end.end;
+          body = up_to ∙ rw (end.body, n) (ap some (sym (take-add (r - a) (e - r) (drop a t) ∙ rw d)));
         }
 
   -- The next `&` is at place e, and in the part before it the first `;` at its place n, if it has one.
@@ -95,17 +92,15 @@ module _ (t : List ℕ) where
     free = near-absent t 59 a e n amp.after amp.within end
 
     -- It has none, so there is no body.
-    pub far_none : a + n ≡ e → Ends t a (length t)
+    pub far_none : a + n ≡ e → body_of (drop a t) ≡ none
     far_none z = go (ltb e (length t)) refl
       where
         f : Absent t a e 59
         f = rw z at free
 
-        go : (b : Bool) → ltb e (length t) ≡ b → Ends t a (length t)
+        go : (b : Bool) → ltb e (length t) ≡ b → body_of (drop a t) ≡ none
         go true q = let l = ltb-true e (length t) q in ends-amp a e amp.after amp.within f amp.none l (amp.here l)
-        go false q =
-            let same : e ≡ length t = omega (arith, amp.within, ltb-false e (length t) q) in
-            rw same at (ends-none a e amp.after amp.within f amp.none (ltb-false e (length t) q))
+        go false q = ends-none a e amp.after amp.within f amp.none (ltb-false e (length t) q)
 
     -- It has one, and the body ends there.
     pub far_some : (a + n ≡ e → ⊥) → Ends t a (a + n)

@@ -3,25 +3,22 @@
 -- Assumes nothing.
 use mathlib.Core.Bool.{Bool, true, false, not, cond}
 use mathlib.Core.Logic.{◌⊎◌, inl, inr}
-use mathlib.Core.Option.{Option, none, some, none-ne-some, some-ne-none}
+use mathlib.Core.Option.{Option, none, some, some-ne-none}
 use mathlib.Core.Path.{◌≡◌, refl, sym, ap, ◌∙◌}
 use mathlib.Core.List.{List, [], ◌∷◌}
 use Prim.Native.Nat.{ℕ, ◌+◌, ◌*◌, ◌≤◌, ◌<◌}
 use native.Mathlib.Nat.{le-mul_of_pos_right}
 use native.Mathlib.Omega.{arith}
-use borrow.Author.Tests.{leb-true, leb-false, lt-ltb, le-ltb, lt-leb}
+use borrow.Author.Tests.{leb-true, leb-false, lt-leb}
 use lib.Dec.{T, leb, leb→le}
-use lib.ListN.{length, drop, get_or, drop_of_length-le}
+use lib.ListN.{length}
 use Rattle.rules.specs.Bytes.{inside}
-use Rattle.rules.specs.References.{digit, hex_digit_at, digits, number, number_of, scalar, decode_char, why_digits, why}
+use Rattle.rules.specs.References.{digits, number, number_of, scalar, decode_char, why_digits, why}
 use Rattle.rules.specs.declared.Reason.TheVariants.{Empty, NoDigit, NotAllowed}
 use Rattle.rules.proofs.Reasons.{number-body}
 use Rattle.rules.proofs.Tests.{and_left}
-use Rattle.rules.proofs.Loops.{drop-next}
-use Rattle.decode_html.specs.declared.digits.Number.{Number}
 use Rattle.decode_html.specs.Taking.{char_of}
-use Rattle.base.specs.Digits.{below}
-use Rattle.decode_html.specs.Digits.{digit_by, ceiling_of, capped, found}
+use Rattle.decode_html.specs.Digits.{ceiling_of, capped}
 
 -- ---- the ceiling
 
@@ -62,10 +59,6 @@ ceiling-same n h = go (leb n 0x10FFFF) refl
 
 -- ---- digits
 
-pub digit-by : (base byte value : ℕ) → (base ≡ 10) ⊎ (base ≡ 16) → below 10 value ≡ digit byte → below 16 value ≡ hex_digit_at byte → below base value ≡ digit_by base byte
-digit-by base byte value (inl e) h l = rw e h
-digit-by base byte value (inr e) h l = rw e l
-
 -- Either base is a number from 1 to 16.
 pub base-some : (base : ℕ) → (base ≡ 10) ⊎ (base ≡ 16) → 1 ≤ base
 base-some base (inl e) = omega arith
@@ -78,26 +71,6 @@ base-small base (inr e) = omega arith
 pub base-most : (base n : ℕ) → (base ≡ 10) ⊎ (base ≡ 16) → n ≤ 0x110000 → n * base ≤ 0x1100000
 base-most base n (inl e) h = rw e (omega arith)
 base-most base n (inr e) h = rw e (omega arith)
-
--- The byte at place i is looked at.
-digits-at : (d : ℕ → Option ℕ) (base n i : ℕ) (s : List ℕ) (o : Option ℕ) → i < length s → d (get_or s i 0) ≡ o
-    → digits d base n (drop i s) ≡ elim o [ none ↦ none | some k ↦ digits d base (n * base + k) (drop (i + 1) s) ]
-digits-at d base n i s o l e = rw (drop-next s i l) (ap (λ (p : Option ℕ). elim p [ none ↦ none | some k ↦ digits d base (n * base + k) (drop (i + 1) s) ]) e)
-
--- It is the digit v: the number so far takes it up.
-pub digits_more : (base n i v : ℕ) (s : List ℕ) → 1 ≤ base → i < length s → below base v ≡ digit_by base (get_or s i 0) → v < base
-    → capped (digits (digit_by base) base (ceiling_of (n * base + v)) (drop (i + 1) s)) ≡ capped (digits (digit_by base) base n (drop i s))
-digits_more base n i v s h l e m =
-    capped-digits (digit_by base) base (n * base + v) (drop (i + 1) s) h
-    ∙ ap capped (sym (digits-at (digit_by base) base n i s (some v) l (sym e ∙ rw (lt-ltb v base m))))
-
--- It is none: then there is no number.
-pub digits-none : (base n i v : ℕ) (s : List ℕ) → i < length s → below base v ≡ digit_by base (get_or s i 0) → base ≤ v → capped (digits (digit_by base) base n (drop i s)) ≡ none
-digits-none base n i v s l e m = ap capped (digits-at (digit_by base) base n i s none l (sym e ∙ rw (le-ltb v base m)))
-
--- Nothing is left of the digits.
-pub digits-end : (base n i : ℕ) (s : List ℕ) → length s ≤ i → n ≤ 0x110000 → capped (digits (digit_by base) base n (drop i s)) ≡ some n
-digits-end base n i s h l = rw (drop_of_length-le s h) (ap some (ceiling-same n l))
 
 pub number-none : (d : ℕ → Option ℕ) (base : ℕ) (s : List ℕ) → length s ≡ 0 → number d base s ≡ none
 number-none d base [] h = refl
@@ -112,13 +85,9 @@ pub why-none : (d : ℕ → Option ℕ) (base : ℕ) (s : List ℕ) → length s
 why-none d base [] h = refl
 why-none d base (b ∷ s) h = absurd (omega arith)
 
-pub why-undigit : (d : ℕ → Option ℕ) (base : ℕ) (s : List ℕ) → (length s ≡ 0 → ⊥) → none ≡ capped (number d base s) → NoDigit ≡ why_digits d base s
+pub why-undigit : (d : ℕ → Option ℕ) (base : ℕ) (s : List ℕ) → (length s ≡ 0 → ⊥) → digits d base 0 s ≡ none → NoDigit ≡ why_digits d base s
 why-undigit d base [] h e = absurd (h refl)
-why-undigit d base (b ∷ s) h e = go (digits d base 0 (b ∷ s)) e
-  where
-    go : (o : Option ℕ) → none ≡ capped o → NoDigit ≡ elim o [ none ↦ NoDigit | some n ↦ NotAllowed ]
-    go none e = refl
-    go (some n) e = absurd (none-ne-some (ceiling_of n) e)
+why-undigit d base (b ∷ s) h e = sym (ap (λ (o : Option ℕ). elim o [ none ↦ NoDigit | some n ↦ NotAllowed ]) e)
 
 -- A body that is a number is one that is not allowed.
 pub why-number : (body : List ℕ) (n : ℕ) → some n ≡ capped (number_of body) → NotAllowed ≡ why body
@@ -143,5 +112,5 @@ char-capped (some n) = go (leb n 0x10FFFF) refl
     go false e = rw e
 
 -- So what the digit reader finds stands for what the digits make.
-pub found-char : (r : Number) (o : Option ℕ) → found r ≡ capped o → char_of decode_char (found r) ≡ char_of decode_char o
-found-char r o e = ap (char_of decode_char) e ∙ char-capped o
+pub found-char : (n : ℕ) (o : Option ℕ) → some n ≡ capped o → decode_char n ≡ char_of decode_char o
+found-char n o e = ap (char_of decode_char) e ∙ char-capped o

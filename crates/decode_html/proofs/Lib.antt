@@ -1,4 +1,5 @@
 pub mod Ceiling
+pub mod Runs
 pub mod Bodies
 pub mod Readings
 pub mod Known

@@ -1,20 +1,18 @@
 -- What decode leaves from a place on: bytes before the next `&` are kept, a reference that gives way leaves nothing, and one that stays comes first.
 -- Assumes nothing.
-use mathlib.Core.Path.{◌≡◌, refl, sym, ap, ◌∙◌}
+use mathlib.Core.Path.{◌≡◌, sym, ap, ◌∙◌}
 use mathlib.Core.List.{List, [], ◌∷◌}
 use Prim.Native.Nat.{ℕ, zero, suc, ◌+◌, ◌-◌, ◌≤◌, ◌<◌}
 use native.Mathlib.Omega.{arith}
 use lib.ListN.{length, drop, get_or, drop_of_length-le}
-use Rattle.rules.specs.Moves.{Move, reason_number}
+use Rattle.rules.specs.Moves.{Move}
 use Rattle.rules.specs.References.{reference_step}
 use Rattle.rules.specs.Reasons.{reason_in, left_here, lefts_in}
 use Rattle.rules.specs.declared.Reason.{Reason}
-use Rattle.rules.specs.declared.Reference.{Reference}
-use Rattle.rules.specs.declared.Reference.TheVariants.{Found, Left, Nothing}
+use Rattle.rules.specs.declared.DecodedEntity.{DecodedEntity}
 use Rattle.rules.proofs.Loops.{drop-next}
-use Rattle.rules.proofs.Reasons.{reason-some}
 use Rattle.base.specs.Places.{Nearest}
-use Rattle.decode_html.specs.Taking.{Reads, left_number}
+use Rattle.decode_html.specs.Taking.{Gives, Stays}
 use Rattle.decode_html.proofs.Readings.{step-quiet}
 
 module _ (t : List ℕ) where
@@ -39,22 +37,12 @@ module _ (t : List ℕ) where
           next i h _ (ap (reference_step 0) (drop-next t i h) ∙ step-quiet 0 (get_or t i 0) (drop (i + 1) t) (f i (omega arith) (omega arith)))
           ∙ go n (i + 1) (omega arith) (λ k a b. f k (omega arith) b)
 
-  module _ (i : ℕ) (h : i < length t) (r : Reference) (reads : Reads reference_step t i r) where
-    pub passed-found : left_number r ≡ 0 → rest i ≡ rest (i + 1)
-    passed-found z = go r reads z
-      where
-        go : (r : Reference) → Reads reference_step t i r → left_number r ≡ 0 → rest i ≡ rest (i + 1)
-        go (Found e) reads z = next i h _ (sym (reads.move 0))
-        go Nothing reads z = next i h _ (sym (reads.move 0))
-        go (Left w) reads z = absurd (reason-some w z)
+  module _ (i : ℕ) (h : i < length t) where
+    pub passed-gives : (e : DecodedEntity) → Gives reference_step t i e → rest i ≡ rest (i + 1)
+    passed-gives e gives = next i h _ (sym (gives.move 0))
 
-    pub passed-left : (left_number r ≡ 0 → ⊥) → (w : Reason) × (left_number r ≡ reason_number w) × (rest i ≡ (i, w) ∷ rest (i + 1))
-    passed-left n = go r reads n
-      where
-        go : (r : Reference) → Reads reference_step t i r → (left_number r ≡ 0 → ⊥) → (w : Reason) × (left_number r ≡ reason_number w) × (rest i ≡ (i, w) ∷ rest (i + 1))
-        go (Found e) reads n = absurd (n refl)
-        go Nothing reads n = absurd (n refl)
-        go (Left w) reads n = (w, refl, next i h _ (sym (reads.move 0)))
+    pub passed-stays : (w : Reason) → Stays t i w → rest i ≡ (i, w) ∷ rest (i + 1)
+    passed-stays w stays = next i h _ (sym (stays 0))
 
   pub passed-end : (i : ℕ) → length t ≤ i → rest i ≡ []
   passed-end i h = rw (drop_of_length-le t h)

@@ -2,7 +2,7 @@
 -- Assumes nothing.
 use mathlib.Core.Bool.{Bool, true, false}
 use mathlib.Core.Option.{Option, none, some}
-use mathlib.Core.Path.{◌≡◌, refl, sym, ap, ◌∙◌, subst}
+use mathlib.Core.Path.{◌≡◌, refl, sym, ap, ◌∙◌}
 use mathlib.Core.List.{List, [], ◌∷◌, ◌++◌}
 use Prim.Native.Nat.{ℕ, suc, ◌+◌, ◌-◌, ◌/◌, ◌≤◌, ◌<◌}
 use native.Mathlib.Nat.{div-add-mod'}
@@ -11,30 +11,30 @@ use borrow.Author.Tests.{leb-true, leb-false, le-ltb, ne_eqb}
 use lib.Dec.{T, leb, eqb→eq, leb→le}
 use lib.ListN.{length, take, drop, get_or, length-drop}
 use lib.Seq.{take-suc, get_or-drop}
+use Rattle.std.specs.Prelude.{Option as Maybe, Some, None, Result, Ok, Err, ok_or}
 use Rattle.rules.specs.Bytes.{ascii, all}
-use Rattle.rules.specs.Moves.{Move, keep, swap, leave, stop}
+use Rattle.rules.specs.Moves.{keep, leave}
 use Rattle.rules.specs.Names.{names}
 use Rattle.rules.specs.References.{onto, body_of, decode_char, number_of, lookup, meaning, why, refer, at_amp, reference_step}
 use Rattle.rules.specs.Utf8.{utf8}
 use Rattle.rules.specs.Tables.{Row, value}
-use Rattle.rules.specs.Answers.{value_bytes, meaning_bytes}
+use Rattle.rules.specs.Answers.{value_bytes}
 use Rattle.rules.specs.declared.DecodedEntityValue.{DecodedEntityValue}
 use Rattle.rules.specs.declared.DecodedEntityValue.TheVariants.{Named, Character}
-use Rattle.rules.specs.declared.Meaning.{Meaning}
-use Rattle.rules.specs.declared.Meaning.TheVariants.{Value, Nothing as NoMeaning}
-use Rattle.rules.specs.declared.Reference.{Reference}
-use Rattle.rules.specs.declared.Reference.TheVariants.{Found, Left, Nothing}
 use Rattle.rules.specs.declared.Reason.{Reason}
 use Rattle.rules.specs.declared.Reason.TheVariants.{NoEnd, Empty, UnknownName}
 use Rattle.rules.proofs.Loops.{drop-next}
 use Rattle.rules.proofs.Search.{reference-quiet}
 use Rattle.rules.proofs.Tests.{all_in}
 use Rattle.rules.proofs.Names.{looked-up, empty-unnamed}
-use Rattle.decode_html.specs.Taking.{Real, RealMeaning, Reads}
+use Rattle.decode_html.specs.Taking.{Real, Gives, Stays}
 use Rattle.decode_html.specs.Digits.{Means}
-use Rattle.decode_html.specs.declared.digits.Numbered.{Numbered}
-use Rattle.decode_html.specs.declared.digits.Numbered.TheVariants.{Is as IsValue, Left as LeftFor}
 use Rattle.decode_html.specs.Bodies.{Begun, Ends}
+
+-- Where there is no value, `ok_or` gives the reason that it was handed.
+pub refused : {A : Type 0} (o : Maybe A) (w d : Reason) → ◌≡◌ {A = Result A Reason} (Err w) (ok_or o d) → o ≡ None → w ≡ d
+refused None w d e f = cc
+refused (Some x) w d e f = cc
 
 -- ---- the rule at a byte
 
@@ -49,74 +49,63 @@ step-quiet p x s h = reference-quiet decode_char p x s (λ e. h (eqb→eq x 38 e
 
 -- ---- by the body
 
--- The reference from place i on that ends at place r, if it is a name of the table.
-abbrev pub named : ℕ → ℕ → Meaning → Reference
-named i r (Value v) = Found (record { start = i; end = r + 1; value = v })
-named i r NoMeaning = Left UnknownName
-
--- The same of a number.
-abbrev pub numbered : ℕ → ℕ → Numbered → Reference
-numbered i r (IsValue v) = Found (record { start = i; end = r + 1; value = v })
-numbered i r (LeftFor w) = Left w
-
 module _ (t : List ℕ) (i : ℕ) (inside : i < length t) (amp : get_or t i 0 ≡ 38) where
   starts : drop i t ≡ 38 ∷ drop (i + 1) t
   starts = drop-next t i inside ∙ rw amp
 
   -- There is no body.
-  pub reads-nobody : body_of (drop (i + 1) t) ≡ none → Reads reference_step t i (Left NoEnd)
-  reads-nobody e = record {
-    move = λ p. rw starts (sym (step-at p (drop (i + 1) t) ∙ ap (at_amp decode_char) e));
-    lies = tt;
-  }
+  pub stays-nobody : body_of (drop (i + 1) t) ≡ none → Stays t i NoEnd
+  stays-nobody e = λ p. rw starts (sym (step-at p (drop (i + 1) t) ∙ ap (at_amp decode_char) e))
 
   -- Another `&` follows, or the `;` at once.
-  pub reads-amp : i + 1 < length t → get_or t (i + 1) 0 ≡ 38 → Reads reference_step t i (Left NoEnd)
-  reads-amp l e = reads-nobody (rw (drop-next t (i + 1) l, e))
+  pub stays-amp : i + 1 < length t → get_or t (i + 1) 0 ≡ 38 → Stays t i NoEnd
+  stays-amp l e = stays-nobody (rw (drop-next t (i + 1) l, e))
 
-  pub reads-empty : i + 1 < length t → get_or t (i + 1) 0 ≡ 59 → Reads reference_step t i (Left Empty)
-  reads-empty l e = record { move = λ p. rw starts (sym (step-at p (drop (i + 1) t) ∙ rw (drop-next t (i + 1) l, e) (ap (refer []) empty-unnamed))); lies = tt }
+  pub stays-empty : i + 1 < length t → get_or t (i + 1) 0 ≡ 59 → Stays t i Empty
+  stays-empty l e = λ p. rw starts (sym (step-at p (drop (i + 1) t) ∙ rw (drop-next t (i + 1) l, e) (ap (refer []) empty-unnamed)))
 
-  module _ (r : ℕ) (end : Ends t (i + 1) r) (before : r < length t) where
-    at-meaning : (p : ℕ) → reference_step p (38 ∷ drop (i + 1) t) ≡ refer (take (r - (i + 1)) (drop (i + 1) t)) (meaning decode_char (take (r - (i + 1)) (drop (i + 1) t)))
-    at-meaning p = step-at p (drop (i + 1) t) ∙ ap (at_amp decode_char) (end.body before).1
+  module _ (r : ℕ) (end : Ends t (i + 1) r) where
+    -- The body's bytes.
+    abbrev body : List ℕ
+    body = take (r - (i + 1)) (drop (i + 1) t)
+
+    at-meaning : (p : ℕ) → reference_step p (38 ∷ drop (i + 1) t) ≡ refer body (meaning decode_char body)
+    at-meaning p = step-at p (drop (i + 1) t) ∙ ap (at_amp decode_char) end.body
 
     -- The bytes from the `&` to the `;`.
     taken : take (r + 1 - i) (drop i t) ≡ 38 ∷ (take (r - (i + 1)) (drop (i + 1) t) ++ (59 ∷ []))
     taken =
         let h : i + 1 ≤ r = end.after in
+        let l : r < length t = end.within in
         let n : r + 1 - i ≡ suc (suc (r - (i + 1))) = omega arith in
         let m : i + 1 + (r - (i + 1)) ≡ r = omega arith in
         rw (n, starts)
         (ap (λ (s : List ℕ). 38 ∷ s)
-        (take-suc (drop (i + 1) t) (r - (i + 1)) 0 (rw length-drop (omega arith)) ∙ rw (get_or-drop (i + 1) t (r - (i + 1)) 0, m, (end.body before).0)))
-
-    -- The body's bytes.
-    abbrev body : List ℕ
-    body = take (r - (i + 1)) (drop (i + 1) t)
+        (take-suc (drop (i + 1) t) (r - (i + 1)) 0 (rw length-drop (omega arith)) ∙ rw (get_or-drop (i + 1) t (r - (i + 1)) 0, m, end.end)))
 
     -- The reference that the body's value makes is the move; where the body stands for nothing, the move is to leave it for its reason.
-    pub reads-value : (v : DecodedEntityValue) → some (value_bytes v) ≡ meaning decode_char body → Real v → Reads reference_step t i (Found (record { start = i; end = r + 1; value = v }))
-    reads-value v e real = record {
+    pub gives-value : (v : DecodedEntityValue) → some (value_bytes v) ≡ meaning decode_char body → Real v → Gives reference_step t i (record { start = i; end = r + 1; value = v })
+    gives-value v e real = record {
       move = λ p. rw taken (rw starts (sym (at-meaning p ∙ ap (refer body) (sym e))));
-      lies = (refl, (let h : i + 1 ≤ r = end.after in omega arith), omega arith, real);
+      lies = (refl, omega (arith, end.after), omega (arith, end.within), real);
     }
 
-    pub reads-left : (w : Reason) → none ≡ meaning decode_char body → w ≡ why body → Reads reference_step t i (Left w)
-    reads-left w e f = record { move = λ p. ap (λ (w : Reason). leave w (ascii "&")) f ∙ rw starts (sym (at-meaning p ∙ ap (refer body) (sym e))); lies = tt }
+    pub stays-body : (w : Reason) → none ≡ meaning decode_char body → w ≡ why body → Stays t i w
+    stays-body w e f = λ p. ap (λ (w : Reason). leave w (ascii "&")) f ∙ rw starts (sym (at-meaning p ∙ ap (refer body) (sym e)))
 
 -- A byte more before a body, if it is neither `;` nor `&`.
-pub ends_more : (t : List ℕ) (a r : ℕ) → a < length t → (get_or t a 0 ≡ 59 → ⊥) → (get_or t a 0 ≡ 38 → ⊥) → Ends t (a + 1) r → Ends t a r
-ends_more t a r l f g end =
-    let h : a + 1 ≤ r = end.after in
-    let n : r - a ≡ suc (r - (a + 1)) = omega arith in
-    let step : body_of (drop a t) ≡ onto (get_or t a 0) (body_of (drop (a + 1) t)) = rw (drop-next t a l, ne_eqb (get_or t a 0) 59 f, ne_eqb (get_or t a 0) 38 g) in
-    record {
-      after = omega arith;
-      within = end.within;
-      body = λ m. ((end.body m).0, step ∙ rw ((end.body m).1, n, drop-next t a l));
-      nobody = λ m. step ∙ rw (end.nobody m);
-    }
+module _ (t : List ℕ) (a : ℕ) (l : a < length t) (f : get_or t a 0 ≡ 59 → ⊥) (g : get_or t a 0 ≡ 38 → ⊥) where
+  step : body_of (drop a t) ≡ onto (get_or t a 0) (body_of (drop (a + 1) t))
+  step = rw (drop-next t a l, ne_eqb (get_or t a 0) 59 f, ne_eqb (get_or t a 0) 38 g)
+
+  nobody-more : body_of (drop (a + 1) t) ≡ none → body_of (drop a t) ≡ none
+  nobody-more e = step ∙ rw e
+
+  ends_more : (r : ℕ) → Ends t (a + 1) r → Ends t a r
+  ends_more r end =
+      let h : a + 1 ≤ r = end.after in
+      let n : r - a ≡ suc (r - (a + 1)) = omega arith in
+      record { after = omega arith; within = end.within; end = end.end; body = step ∙ rw (end.body, n, drop-next t a l) }
 
 -- ---- what a body stands for
 
@@ -141,10 +130,9 @@ unfolding names
 names-low = tt
 
 -- So a looked-up value is no character above 3FFFF.
-pub name-real : (body : List ℕ) (m : Meaning) → meaning_bytes m ≡ lookup names body → RealMeaning m
-name-real body NoMeaning e = tt
-name-real body (Value (Named n)) e = tt
-name-real body (Value (Character n)) e = go (leb n 0x10FFFF) refl
+pub name-real : (body : List ℕ) (v : DecodedEntityValue) → some (value_bytes v) ≡ lookup names body → Real v
+name-real body (Named n) e = tt
+name-real body (Character n) e = go (leb n 0x10FFFF) refl
   where
     go : (x : Bool) → leb n 0x10FFFF ≡ x → n ≤ 0x10FFFF
     go true q = leb-true n 0x10FFFF q
@@ -155,64 +143,52 @@ name-real body (Value (Character n)) e = go (leb n 0x10FFFF) refl
 
 -- ---- a reference whose body begins with neither `;` nor `&`, by the end that is found from its second byte on
 
-module _ (t : List ℕ) (i r : ℕ) (amp : get_or t i 0 ≡ 38) (begun : Begun t i) (end : Ends t (i + 1 + 1) r) where
-  whole : Ends t (i + 1) r
-  whole = ends_more t (i + 1) r begun.within begun.end begun.amp end
-
+module _ (t : List ℕ) (i : ℕ) (amp : get_or t i 0 ≡ 38) (begun : Begun t i) where
   within : i < length t
   within = let h = begun.within in omega arith
 
-  pub begun-nobody : r ≡ length t → Reads reference_step t i (Left NoEnd)
-  begun-nobody e = reads-nobody t i within amp (whole.nobody e)
+  -- The second byte of the body.
+  two : i + 1 + 1 ≡ i + 2
+  two = omega arith
 
-  -- A number is what follows the `#`.
-  pub begun-number : get_or t (i + 1) 0 ≡ 35 → r < length t → (m : Numbered)
-      → Means m (meaning decode_char (35 ∷ take (r - (i + 1 + 1)) (drop (i + 1 + 1) t))) (why (35 ∷ take (r - (i + 1 + 1)) (drop (i + 1 + 1) t)))
-      → Reads reference_step t i (numbered i r m)
-  begun-number hash l m e =
-      let h : i + 1 + 1 ≤ r = end.after in
-      let n : r - (i + 1) ≡ suc (r - (i + 1 + 1)) = omega arith in
-      let body : take (r - (i + 1)) (drop (i + 1) t) ≡ 35 ∷ take (r - (i + 1 + 1)) (drop (i + 1 + 1) t) = rw (n, drop-next t (i + 1) begun.within, hash) in
-      go m (subst (λ (b : List ℕ). Means m (meaning decode_char b) (why b)) (sym body) e)
-    where
-      go : (m : Numbered) → Means m (meaning decode_char (take (r - (i + 1)) (drop (i + 1) t))) (why (take (r - (i + 1)) (drop (i + 1) t))) → Reads reference_step t i (numbered i r m)
-      go (IsValue v) e = reads-value t i within amp r whole l v e.0 e.1
-      go (LeftFor w) e = reads-left t i within amp r whole l w e.0 e.1
+  pub begun-nobody : body_of (drop (i + 2) t) ≡ none → Stays t i NoEnd
+  begun-nobody e = stays-nobody t i within amp (nobody-more t (i + 1) begun.within begun.end begun.amp (rw two e))
 
-  -- Any other body is a name.
-  pub begun-name : (get_or t (i + 1) 0 ≡ 35 → ⊥) → r < length t → (m : Meaning) → meaning_bytes m ≡ lookup names (take (r - (i + 1)) (drop (i + 1) t)) → Reads reference_step t i (named i r m)
-  begun-name plain l m e =
-      let h : i + 1 + 1 ≤ r = end.after in
-      let n : r - (i + 1) ≡ suc (r - (i + 1 + 1)) = omega arith in
-      let first : take (r - (i + 1)) (drop (i + 1) t) ≡ get_or t (i + 1) 0 ∷ take (r - (i + 1 + 1)) (drop (i + 1 + 1) t) = rw (n, drop-next t (i + 1) begun.within) in
-      let hashless : get_or (take (r - (i + 1)) (drop (i + 1) t)) 0 0 ≡ 35 → ⊥ = λ z. plain (sym (ap (λ (s : List ℕ). get_or s 0 0) first) ∙ z) in
-      go m (e ∙ sym (not-number decode_char (take (r - (i + 1)) (drop (i + 1) t)) hashless)) (name-real (take (r - (i + 1)) (drop (i + 1) t)) m e)
-      (ap why first ∙ unknown (get_or t (i + 1) 0) (take (r - (i + 1 + 1)) (drop (i + 1 + 1) t)) plain)
-    where
-      go : (m : Meaning) → meaning_bytes m ≡ meaning decode_char (take (r - (i + 1)) (drop (i + 1) t)) → RealMeaning m → why (take (r - (i + 1)) (drop (i + 1) t)) ≡ UnknownName
-          → Reads reference_step t i (named i r m)
-      go (Value v) e real w = reads-value t i within amp r whole l v e real
-      go NoMeaning e real w = reads-left t i within amp r whole l UnknownName e (sym w)
+  module _ (r : ℕ) (end : Ends t (i + 2) r) where
+    whole : Ends t (i + 1) r
+    whole = ends_more t (i + 1) begun.within begun.end begun.amp r (rw two end)
 
--- ---- a reference that stays has a reason
-abbrev IsKept : Move → Type 0
-IsKept (keep a) = Unit {0}
-IsKept (swap a b) = ⊥
-IsKept (leave r a) = ⊥
-IsKept (stop w) = ⊥
+    -- The body, and its bytes from the second on.
+    abbrev word : List ℕ
+    word = take (r - (i + 1)) (drop (i + 1) t)
 
-never-keeps : (s : List ℕ) → reference_step 0 (38 ∷ s) ≡ keep (ascii "&") → ⊥
-unfolding reference_step
-never-keeps s e = go (body_of s) e
-  where
-    meant : (body : List ℕ) (o : Option (List ℕ)) → refer body o ≡ keep (ascii "&") → ⊥
-    meant body none e = subst IsKept (sym e) tt
-    meant body (some v) e = subst IsKept (sym e) tt
+    abbrev rest : List ℕ
+    rest = take (r - (i + 2)) (drop (i + 2) t)
 
-    go : (o : Option (List ℕ)) → at_amp decode_char o ≡ keep (ascii "&") → ⊥
-    go none e = subst IsKept (sym e) tt
-    go (some body) e = meant body (meaning decode_char body) e
+    first : word ≡ get_or t (i + 1) 0 ∷ rest
+    first =
+        let h : i + 2 ≤ r = end.after in
+        let n : r - (i + 1) ≡ suc (r - (i + 2)) = omega arith in
+        rw (n, drop-next t (i + 1) begun.within, two)
 
--- decode never keeps an `&` without a reason.
-pub never-kept : (t : List ℕ) (i : ℕ) → i < length t → get_or t i 0 ≡ 38 → Reads reference_step t i Nothing → ⊥
-never-kept t i inside amp reads = never-keeps (drop (i + 1) t) (ap (reference_step 0) (sym (starts t i inside amp)) ∙ sym (reads.move 0))
+    -- A number is what follows the `#`.
+    module _ (hash : get_or t (i + 1) 0 ≡ 35) where
+      marked : 35 ∷ rest ≡ word
+      marked = sym (rw hash at first)
+
+      pub number-gives : (v : DecodedEntityValue) → Means (Ok v) (meaning decode_char (35 ∷ rest)) (why (35 ∷ rest)) → Gives reference_step t i (record { start = i; end = r + 1; value = v })
+      number-gives v e = gives-value t i within amp r whole v (e.0 ∙ ap (meaning decode_char) marked) e.1
+
+      pub number-stays : (w : Reason) → Means (Err w) (meaning decode_char (35 ∷ rest)) (why (35 ∷ rest)) → Stays t i w
+      number-stays w e = stays-body t i within amp r whole w (e.0 ∙ ap (meaning decode_char) marked) (e.1 ∙ ap why marked)
+
+    -- Any other body is a name.
+    module _ (plain : get_or t (i + 1) 0 ≡ 35 → ⊥) where
+      looked : lookup names word ≡ meaning decode_char word
+      looked = sym (not-number decode_char word (λ z. plain (sym (ap (λ (s : List ℕ). get_or s 0 0) first) ∙ z)))
+
+      pub name-gives : (v : DecodedEntityValue) → some (value_bytes v) ≡ lookup names word → Gives reference_step t i (record { start = i; end = r + 1; value = v })
+      name-gives v e = gives-value t i within amp r whole v (e ∙ looked) (name-real word v e)
+
+      pub name-stays : none ≡ lookup names word → Stays t i UnknownName
+      name-stays e = stays-body t i within amp r whole UnknownName (e ∙ looked) (sym (ap why first ∙ unknown (get_or t (i + 1) 0) rest plain))

@@ -2,22 +2,20 @@
 -- counts, and what it gives next in the result, follows by the laws of any rule. decode's loops and browse's use the same laws; they differ in what a
 -- reference that stays leaves to note.
 -- Assumes nothing.
-use mathlib.Core.Bool.{cond}
-use mathlib.Core.Path.{◌≡◌, refl, sym, ap, ◌∙◌}
+use mathlib.Core.Path.{◌≡◌, sym, ap, ◌∙◌}
 use mathlib.Core.List.{List, [], ◌∷◌}
 use Prim.Native.Nat.{ℕ, ◌+◌, ◌-◌, ◌*◌, ◌≤◌, ◌<◌}
 use native.Mathlib.Omega.{arith}
-use lib.Dec.{eqb}
 use lib.ListN.{length, take, drop, get_or, length-drop}
 use lib.Seq.{length-take-le}
+use Rattle.std.specs.Prelude.{Option as Maybe, Some, unwrap_or}
 use Rattle.rules.specs.Bytes.{ascii}
 use Rattle.rules.specs.Moves.{Rule, keep, swap, leave, result, before, from}
 use Rattle.rules.specs.References.{reference_step}
 use Rattle.rules.specs.Answers.{value_bytes}
 use Rattle.rules.specs.declared.DecodedEntity.{DecodedEntity}
 use Rattle.rules.specs.declared.Reason.{Reason}
-use Rattle.rules.specs.declared.Reference.{Reference}
-use Rattle.rules.specs.declared.Reference.TheVariants.{Found, Left, Nothing}
+use Rattle.rules.specs.declared.Left.{Left}
 use Rattle.rules.proofs.Machine.{Fair}
 use Rattle.rules.specs.Operations.{decode_step}
 use Rattle.rules.specs.declared.Html.TheVariants.{Text}
@@ -28,8 +26,8 @@ use Rattle.rules.proofs.Quiet.{Keeps}
 use Rattle.base.proofs.Filled.{Next}
 use Rattle.base.proofs.Counted.{Counted, Noted, step-leave, counted-leave, counted-grow, noted-leave, noted-swap, next-quiet, next-swap}
 use Rattle.base.specs.Places.{Nearest}
-use Rattle.decode_html.specs.Taking.{Reads, left_number}
-use Rattle.decode_html.proofs.Readings.{step-quiet, never-kept}
+use Rattle.decode_html.specs.Taking.{Gives, Stays}
+use Rattle.decode_html.proofs.Readings.{step-quiet}
 
 -- What the loops need of a rule: what a move gives is at most a fifth longer than what it takes, and any byte but `&` is kept.
 pub record Turning (rule : Rule) : Type 0 where
@@ -45,18 +43,18 @@ module _ {rule : Rule} (turning : Turning rule) (t : List ℕ) where
   quiet_next i p n = next-quiet rule t i p n.after n.within (quiet i p n)
 
   -- The reference gives way to its value.
-  module _ (p : ℕ) (e : DecodedEntity) (reads : Reads rule t p (Found e)) where
+  module _ (p : ℕ) (e : DecodedEntity) (gives : Gives rule t p e) where
     some : 1 ≤ e.end - p
-    some = omega (arith, reads.lies.1)
+    some = omega (arith, gives.lies.1)
 
     within : p + (e.end - p) ≤ length t
-    within = omega (arith, reads.lies.1, reads.lies.2)
+    within = omega (arith, gives.lies.1, gives.lies.2)
 
     here : p + (e.end - p) ≡ e.end
-    here = omega (arith, reads.lies.1)
+    here = omega (arith, gives.lies.1)
 
     found : rule (before t p) (drop p t) ≡ swap (take (e.end - p) (drop p t)) (value_bytes e.value)
-    found = sym (reads.move (before t p)) ∙ rw reads.lies.0
+    found = sym (gives.move (before t p)) ∙ rw gives.lies.0
 
     fifth : 5 * length (value_bytes e.value) ≤ 6 * (e.end - p)
     fifth =
@@ -66,7 +64,7 @@ module _ {rule : Rule} (turning : Turning rule) (t : List ℕ) where
     pub counted-found : {n k : ℕ} → Counted rule t p n k → Counted rule t e.end (n + length (value_bytes e.value)) (k + 1)
     counted-found c = rw here at (counted-grow c (e.end - p) (value_bytes e.value) some within fifth found)
 
-    pub noted-found : {l r : ℕ} → Noted rule t p l r → Noted rule t e.end l r
+    pub noted-found : {left : Maybe Left} → Noted rule t p left → Noted rule t e.end left
     noted-found c = rw here at (noted-swap c (e.end - p) (value_bytes e.value) some within found)
 
     pub found-next : Next (result (from rule t p)) (value_bytes e.value) (result (from rule t e.end))
@@ -78,31 +76,17 @@ pub decoding : Turning reference_step
 unfolding decode_step
 decoding = record { fair = decode-fair (InHtml Text); keeps = step-quiet }
 
--- It is no reference that gives way.
-abbrev pub Unfound : Reference → Type 0
-Unfound r = (e : DecodedEntity) → r ≡ Found e → ⊥
+-- The reference stays, and its `&` is kept.
+module _ (t : List ℕ) (p : ℕ) (w : Reason) (inside : p < length t) (stays : Stays t p w) where
+  left-here : reference_step (before t p) (drop p t) ≡ leave w (ascii "&")
+  left-here = sym (stays (before t p))
 
-module _ (t : List ℕ) (p : ℕ) (inside : p < length t) (amp : get_or t p 0 ≡ 38) where
-  -- The reference stays, and its `&` is kept.
-  stays : (w : Reason) → Reads reference_step t p (Left w) → reference_step (before t p) (drop p t) ≡ leave w (ascii "&")
-  stays w reads = sym (reads.move (before t p))
+  pub stays-next : Next (result (from reference_step t p)) (38 ∷ []) (result (from reference_step t (p + 1)))
+  stays-next = record { next = ap result (step-leave reference_step t p w inside left-here) }
 
-  reasoned : Reads reference_step t p Nothing → ⊥
-  reasoned reads = never-kept t p inside amp reads
-
-  pub stays-next : (r : Reference) → Unfound r → Reads reference_step t p r → Next (result (from reference_step t p)) (38 ∷ []) (result (from reference_step t (p + 1)))
-  stays-next (Found e) u reads = absurd (u e refl)
-  stays-next (Left w) u reads = record { next = ap result (step-leave reference_step t p w inside (stays w reads)) }
-  stays-next Nothing u reads = absurd (reasoned reads)
-
-  pub counted-stays : (r : Reference) → Unfound r → Reads reference_step t p r → {n k : ℕ} → Counted reference_step t p n k → Counted reference_step t (p + 1) (n + 1) k
-  counted-stays (Found e) u reads c = absurd (u e refl)
-  counted-stays (Left w) u reads c = counted-leave c w inside (stays w reads)
-  counted-stays Nothing u reads c = absurd (reasoned reads)
+  pub counted-stays : {n k : ℕ} → Counted reference_step t p n k → Counted reference_step t (p + 1) (n + 1) k
+  counted-stays c = counted-leave c w inside left-here
 
   -- It is noted where none was.
-  pub noted-stays : (r : Reference) → Unfound r → Reads reference_step t p r → {l w : ℕ} → Noted reference_step t p l w
-      → Noted reference_step t (p + 1) (cond (eqb w 0) p l) (cond (eqb w 0) (left_number r) w)
-  noted-stays (Found e) u reads c = absurd (u e refl)
-  noted-stays (Left v) u reads c = noted-leave c v inside (stays v reads)
-  noted-stays Nothing u reads c = absurd (reasoned reads)
+  pub noted-stays : (left : Maybe Left) → Noted reference_step t p left → (l : Left) → l ≡ unwrap_or left (record { place = p; reason = w }) → Noted reference_step t (p + 1) (Some l)
+  noted-stays left c l e = rw e (noted-leave left c w inside left-here)

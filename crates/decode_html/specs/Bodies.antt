@@ -1,6 +1,6 @@
 -- Bodies of references, by offsets of the text.
 -- Assumes nothing.
-use Rattle.std.specs.Prelude.{cond, ◌⊎◌, ◌≡◌, List, ℕ, ◌+◌, ◌-◌, ◌≤◌, ◌<◌, eqb, length, take, drop, get_or}
+use Rattle.std.specs.Prelude.{Option, MatchOption, cond, ◌⊎◌, ◌≡◌, List, ℕ, ◌+◌, ◌-◌, ◌≤◌, ◌<◌, eqb, length, take, drop, get_or}
 use Rattle.std.proofs.Math.Option.{none, some}
 use Rattle.rules.specs.References.{body_of}
 
@@ -10,19 +10,22 @@ pub record Begun (t : List ℕ) (i : ℕ) : Type 0 where
   pub amp : get_or t (i + 1) 0 ≡ 38 → ⊥
   pub end : get_or t (i + 1) 0 ≡ 59 → ⊥
 
--- The body from place a on ends at the `;` at place r; if r is the length of the text, there is none.
+-- The body from place a on ends at the `;` at place r.
 pub record Ends (t : List ℕ) (a r : ℕ) : Type 0 where
   pub after : a ≤ r
-  pub within : r ≤ length t
-  pub body : r < length t → (get_or t r 0 ≡ 59) × (body_of (drop a t) ≡ some (take (r - a) (drop a t)))
-  pub nobody : r ≡ length t → body_of (drop a t) ≡ none
+  pub within : r < length t
+  pub end : get_or t r 0 ≡ 59
+  pub body : body_of (drop a t) ≡ some (take (r - a) (drop a t))
 
--- The bytes after an `&` are those of `&lt;` or `&gt;`, or of `&amp;`, and n is the length of that reference; 0 says nothing.
+-- It ends there, or nowhere.
+abbrev pub EndsAt : List ℕ → ℕ → Option ℕ → Type 0
+EndsAt t a result = MatchOption result (body_of (drop a t) ≡ none) (Ends t a)
+
+-- The bytes after an `&` are those of `&lt;` or `&gt;`, or of `&amp;`, and n is the length of that reference.
 abbrev pub KnownBytes : ℕ → ℕ → ℕ → ℕ → ℕ → Type 0
 KnownBytes a b c d n =
-    (n ≡ 0)
-    ⊎ (((n ≡ 4) × ((a ≡ 108) ⊎ (a ≡ 103)) × (b ≡ 116) × (c ≡ 59))
-    ⊎ ((n ≡ 5) × (a ≡ 97) × (b ≡ 109) × (c ≡ 112) × (d ≡ 59)))
+    ((n ≡ 4) × ((a ≡ 108) ⊎ (a ≡ 103)) × (b ≡ 116) × (c ≡ 59))
+    ⊎ ((n ≡ 5) × (a ≡ 97) × (b ≡ 109) × (c ≡ 112) × (d ≡ 59))
 
 -- A reference of n bytes from the `&` at place i on is one of these three.
 pub record Known (t : List ℕ) (i n : ℕ) : Type 0 where

@@ -1,15 +1,13 @@
 -- Numbers kept under a ceiling.
 -- Assumes nothing.
-use Rattle.std.specs.Prelude.{cond, ◌≡◌, List, ℕ, leb, eqb}
+use Rattle.std.specs.Prelude.{Result, Ok, Err, cond, ◌≡◌, List, ℕ, ◌≤◌, leb, eqb, length}
 use Rattle.std.proofs.Math.Option.{Option, none, some}
-use Rattle.rules.specs.References.{digit, hex_digit_at}
+use Rattle.rules.specs.References.{digit, hex_digit_at, digits}
+use Rattle.rules.specs.Browsing.{digits_at}
 use Rattle.rules.specs.Answers.{value_bytes}
 use Rattle.rules.specs.declared.Reason.{Reason}
+use Rattle.rules.specs.declared.DecodedEntityValue.{DecodedEntityValue}
 use Rattle.decode_html.specs.Taking.{Real}
-use Rattle.decode_html.specs.declared.digits.Number.{Number}
-use Rattle.decode_html.specs.declared.digits.Number.TheVariants.{Is, Left}
-use Rattle.decode_html.specs.declared.digits.Numbered.{Numbered}
-use Rattle.decode_html.specs.declared.digits.Numbered.TheVariants.{Is as IsValue, Left as LeftFor}
 
 -- The digits of base 16, and of base 10.
 abbrev pub digit_by : ℕ → ℕ → Option ℕ
@@ -24,17 +22,18 @@ abbrev pub capped : Option ℕ → Option ℕ
 capped none = none
 capped (some n) = some (ceiling_of n)
 
--- The number that the digit reader found.
-abbrev pub found : Number → Option ℕ
-found (Is n) = some n
-found (Left r) = none
+-- The digits of a base at the head of s are k, and n is their number under the ceiling, 0 if there is none.
+pub record Runs (base : ℕ) (s : List ℕ) (n k : ℕ) : Type 0 where
+  pub within : k ≤ length s
+  pub size : k ≡ length (digits_at (digit_by base) s)
+  pub number : capped (digits (digit_by base) base 0 (digits_at (digit_by base) s)) ≡ some n
 
--- The reason that it gives, if it gives one.
-abbrev pub Blames : Number → Reason → Type 0
-Blames (Is n) w = Unit {0}
-Blames (Left r) w = r ≡ w
+-- The number o was found, under the ceiling; or there is none, for the reason w.
+abbrev pub Numbers : Result ℕ Reason → Option ℕ → Reason → Type 0
+Numbers (Ok n) o w = some n ≡ capped o
+Numbers (Err r) o w = (none ≡ o) × (r ≡ w)
 
 -- What a number stands for is o; or it is nothing, for the reason w.
-abbrev pub Means : Numbered → Option (List ℕ) → Reason → Type 0
-Means (IsValue v) o w = (some (value_bytes v) ≡ o) × Real v
-Means (LeftFor r) o w = (none ≡ o) × (r ≡ w)
+abbrev pub Means : Result DecodedEntityValue Reason → Option (List ℕ) → Reason → Type 0
+Means (Ok v) o w = (some (value_bytes v) ≡ o) × Real v
+Means (Err r) o w = (none ≡ o) × (r ≡ w)

@@ -16,7 +16,9 @@ pub fn value_length(value: DecodedEntityValue) -> usize
     }
 }
 
-// Writes a value to the start of `output` and returns its length; the bytes after it keep their values.
+// Writes a value to the start of `output` and returns its length; the bytes after it keep their values. In line in the loops that call it, where a call
+// costs a twentieth more instructions.
+#[inline(always)]
 pub fn put_value(value: DecodedEntityValue, output: &mut [u8]) -> usize
     requires { Real value × (length (value_bytes value) ≤ length output.old) }
     ensures { (result ≡ length (value_bytes value)) × (output.new ≡ over (value_bytes value) output.old) }

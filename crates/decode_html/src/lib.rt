@@ -1,10 +1,11 @@
 // The decoder of character references, html-escape's decode/html_entity: decode in the HTML contexts; and the first reference that it leaves.
 #![tactic(auto)]
 
-ghost use Rattle.std.specs.Prelude.{cond, ◌≡◌, ◌≤◌, eqb, length};
+ghost use Rattle.std.specs.Prelude.{◌≡◌, [], ◌≤◌, MatchOption, length, drop};
 ghost use Rattle.rules.specs.Bytes.{over};
 ghost use Rattle.rules.specs.Moves.{through, result as result_of};
 ghost use Rattle.rules.specs.References.{reference_step};
+ghost use Rattle.rules.specs.Reasons.{lefts_in};
 ghost use Rattle.rules.specs.Answers.{Measures};
 ghost use Rattle.decode_html.specs.Taking.{NextLeft};
 
@@ -12,14 +13,7 @@ pub mod characters;
 pub mod digits;
 pub mod entity;
 
-use rules::{Measured, Reference};
-
-// Returns the place or reason of the first reference that is left: `noted` if there is one already, else `new`.
-fn kept(reason: usize, noted: usize, new: usize) -> usize
-    ensures { result ≡ cond (eqb reason 0) new noted }
-{
-    if reason == 0 { new } else { noted }
-}
+use rules::{Left, Measured};
 
 // Measures the result of decode without writing it. Bytes before the next `&` are skipped together; a reference counts as the bytes of its value.
 pub fn measure(text: &[u8]) -> Measured
@@ -28,9 +22,9 @@ pub fn measure(text: &[u8]) -> Measured
 {
     let mut length: usize = 0;
     let mut references: usize = 0;
-    let mut left: usize = 0;
-    let mut reason: usize = 0;
+    let mut left: Option<Left> = None;
     let mut i: usize = 0;
+    // A cursor: each turn moves by the length of what it read.
     while i < text.len() {
         if text[i] != b'&' {
             let next = base::find::find_byte(text, i, b'&');
@@ -38,25 +32,24 @@ pub fn measure(text: &[u8]) -> Measured
             i = next;
             continue;
         }
-        let reference = entity::find_decoded_entity(text, i);
-        let Reference::Found(found) = reference else {
-            left = kept(reason, left, i);
-            reason = kept(reason, reason, entity::number_of(reference));
-            length += 1;
-            i += 1;
-            continue;
-        };
-        let value = found.value;
-        length += characters::value_length(value);
-        references += 1;
-        i = found.end;
+        match entity::find_decoded_entity(text, i) {
+            Ok(found) => {
+                length += characters::value_length(found.value);
+                references += 1;
+                i = found.end;
+            }
+            Err(reason) => {
+                left = Some(left.unwrap_or(Left { place: i, reason }));
+                length += 1;
+                i += 1;
+            }
+        }
     }
     Measured {
         length,
         place: i,
         replaced: references,
         left,
-        reason,
     }
 }
 
@@ -68,9 +61,9 @@ pub fn write(text: &[u8], output: &mut [u8]) -> Measured
 {
     let mut at: usize = 0;
     let mut references: usize = 0;
-    let mut left: usize = 0;
-    let mut reason: usize = 0;
+    let mut left: Option<Left> = None;
     let mut i: usize = 0;
+    // A cursor: each turn moves by the length of what it read.
     while i < text.len() {
         if text[i] != b'&' {
             let next = base::find::put_until(text, i, b'&', &mut output[at..]);
@@ -78,50 +71,39 @@ pub fn write(text: &[u8], output: &mut [u8]) -> Measured
             i = next;
             continue;
         }
-        let reference = entity::find_decoded_entity(text, i);
-        let Reference::Found(found) = reference else {
-            left = kept(reason, left, i);
-            reason = kept(reason, reason, entity::number_of(reference));
-            at += base::put(b"&", &mut output[at..]);
-            i += 1;
-            continue;
-        };
-        let value = found.value;
-        at += characters::put_value(value, &mut output[at..]);
-        references += 1;
-        i = found.end;
+        match entity::find_decoded_entity(text, i) {
+            Ok(found) => {
+                at += characters::put_value(found.value, &mut output[at..]);
+                references += 1;
+                i = found.end;
+            }
+            Err(reason) => {
+                left = Some(left.unwrap_or(Left { place: i, reason }));
+                at += base::put(b"&", &mut output[at..]);
+                i += 1;
+            }
+        }
     }
     Measured {
         length: at,
         place: i,
         replaced: references,
         left,
-        reason,
     }
-}
-
-// A reference that stays: its place and the number of the reason; 0 and 0 where there is none.
-#[derive(Clone, Copy)]
-pub struct Left {
-    pub place: usize,
-    pub reason: usize,
 }
 
 // Finds the first reference from `from` on that decode leaves. Since no body has an `&`, each `&` is looked at.
-pub fn next_left(text: &[u8], from: usize) -> Left
+pub fn next_left(text: &[u8], from: usize) -> Option<Left>
     requires { from ≤ length text.now }
-    ensures { NextLeft text.now from result.place result.reason }
+    ensures { MatchOption result (lefts_in reference_step from (drop from text.now) ≡ []) (NextLeft text.now from) }
 {
     let mut i = base::find::find_byte(text, from, b'&');
+    // A cursor: each turn moves to the next `&`.
     while i < text.len() {
-        let reason = entity::number_of(entity::find_decoded_entity(text, i));
-        if reason != 0 {
-            return Left { place: i, reason };
+        if let Err(reason) = entity::find_decoded_entity(text, i) {
+            return Some(Left { place: i, reason });
         }
         i = base::find::find_byte(text, i + 1, b'&');
     }
-    Left {
-        place: 0,
-        reason: 0,
-    }
+    None
 }

@@ -3,18 +3,18 @@
 use mathlib.Core.Bool.{Bool, true, false, ◌||◌, ◌&&◌, cond}
 use mathlib.Core.Path.{◌≡◌, refl, sym, ap, ◌∙◌, subst}
 use mathlib.Core.List.{List, [], ◌∷◌, ◌++◌, append-nil}
-use Prim.Native.Nat.{ℕ, zero, suc, ◌+◌, ◌-◌, ◌*◌, ◌/◌, ◌≤◌, ◌<◌}
+use Prim.Native.Nat.{ℕ, ◌+◌, ◌-◌, ◌*◌, ◌/◌, ◌≤◌, ◌<◌, min}
 use native.Mathlib.Numerals.{add-one}
 use native.Mathlib.Omega.{arith}
 use borrow.Author.Tests.{ltb-true, ltb-false}
 use lib.Bits.{bit_xor}
 use lib.Dec.{T, eqb, ltb, leb, eqb→eq, leb→le}
 use lib.ListN.{length, take, drop, get_or, set, length-append, length-drop}
-use lib.Seq.{drop-drop, set_split, take-add, get_or-drop}
+use lib.Seq.{drop-drop, set_split, take-add}
 use Rattle.rules.specs.Bytes.{one_of, over}
-use Rattle.rules.specs.Moves.{Move, keep, stop, before, from, result}
+use Rattle.rules.specs.Moves.{keep, stop, before, from, result}
 use Rattle.rules.specs.Reading.{unless}
-use Rattle.rules.specs.Json.{escaped_only, unicode_at, at_escape, json_step}
+use Rattle.rules.specs.Json.{escaped_only, json_step}
 use Rattle.rules.proofs.Tests.{and_left, and_right}
 use Rattle.rules.proofs.EveryByte.{every_byte_lem}
 use Rattle.rules.proofs.Below.{agree, agrees}
@@ -23,25 +23,20 @@ use Rattle.rules.proofs.Quiet.{Keeps}
 use Rattle.rules.proofs.Json.{no-escape, element-keeps}
 use Rattle.rules.specs.Utf8.{utf8}
 use Rattle.rules.specs.declared.Escape.{Escape}
-use Rattle.rules.specs.declared.Escape.TheVariants.{Taken}
+use Rattle.std.specs.Prelude.{Option as Maybe, Some}
 use Rattle.base.specs.First.{Free, First}
 use Rattle.base.proofs.Filled.{Filled, Next, filled_more, filled_put, filled-end, lent-rest}
 use Rattle.base.proofs.Counted.{Counted, counted-swap, next-swap}
-use Rattle.decode_json.specs.Escapes.{short_of, Numbered, single, halt_at, Tells}
-use Rattle.decode_json.proofs.Told.{single-moves, short-tells, short-none-zero, number-moves}
+use Rattle.decode_json.specs.Escapes.{halt_at, Tells}
 
 -- The test of a byte, as the code has it.
 pub halt-test : (b : ℕ) → b < 256 → (ltb b 32 || eqb b 0x22 || eqb b 0x5C) ≡ one_of escaped_only b
 halt-test b h =
     agrees (ltb b 32 || eqb b 0x22 || eqb b 0x5C) (one_of escaped_only b) (every_byte_lem (λ (b : ℕ). agree (ltb b 32 || eqb b 0x22 || eqb b 0x5C) (one_of escaped_only b)) tt b h)
 
--- The lesser of two numbers, as the code has it.
-abbrev pub lesser : ℕ → ℕ → ℕ
-lesser a b = cond (ltb a b) a b
-
 -- The distance of a byte from those, as the code has it: computed for every byte.
 abbrev far : ℕ → ℕ
-far b = lesser (lesser (b / 32) (bit_xor b 34)) (bit_xor b 92)
+far b = min (min (b / 32) (bit_xor b 34)) (bit_xor b 92)
 
 abbrev pub Distant : ℕ → ℕ → Type 0
 Distant b r = (r ≤ 7) × (eqb r 0 ≡ one_of escaped_only b)
@@ -50,12 +45,6 @@ pub distant : (b : ℕ) → b < 256 → Distant b (far b)
 distant b h =
     let t = every_byte_lem (λ (b : ℕ). leb (far b) 7 && agree (eqb (far b) 0) (one_of escaped_only b)) tt b h in
     (leb→le (far b) 7 (and_left (leb (far b) 7) (agree (eqb (far b) 0) (one_of escaped_only b)) t), agrees (eqb (far b) 0) (one_of escaped_only b) (and_right (leb (far b) 7) (agree (eqb (far b) 0) (one_of escaped_only b)) t))
-
--- Past the end of a text there is no byte.
-pub get_d_past : (t : List ℕ) (k : ℕ) → length t ≤ k → get_or t k 0 ≡ 0
-get_d_past [] k h = refl
-get_d_past (x ∷ t) zero h = absurd (omega arith)
-get_d_past (x ∷ t) (suc k) h = get_d_past t k (omega arith)
 
 -- ---- the first of sixteen
 
@@ -78,9 +67,17 @@ sought-end test at n s = record {
   here = λ h. s.here (omega (arith, s.some));
 }
 
+-- The lesser of two numbers, by a test.
+lesser : (m n : ℕ) → cond (ltb m n) m n ≡ min m n
+lesser m n = go (ltb m n) refl
+  where
+    go : (x : Bool) → ltb m n ≡ x → cond x m n ≡ min m n
+    go true z = let l = ltb-true m n z in omega arith
+    go false z = let l = ltb-false m n z in omega arith
+
 -- One place more: d is 0 exactly if the test passes there.
-pub sought-next : (test : ℕ → Bool) (at j n d : ℕ) → Sought test at j n → j < 16 → eqb d 0 ≡ test (at + j) → Sought test at (j + 1) (lesser n (d * 32 + (j + 1)))
-sought-next test at j n d s h e = go (test (at + j)) refl (ltb n (d * 32 + (j + 1))) refl
+pub sought-next : (test : ℕ → Bool) (at j n d : ℕ) → Sought test at j n → j < 16 → eqb d 0 ≡ test (at + j) → Sought test at (j + 1) (min n (d * 32 + (j + 1)))
+sought-next test at j n d s h e = rw (← lesser n (d * 32 + (j + 1))) (go (test (at + j)) refl (ltb n (d * 32 + (j + 1))) refl)
   where
     -- The place is one of those before, or the new one.
     at_new : test (at + j) ≡ false → (k : ℕ) → at ≤ k → k < at + (j + 1) → k + 1 < at + n → test k ≡ false
@@ -179,39 +176,22 @@ module _ (t : List ℕ) where
   pub rest-begins : (i : ℕ) → i < length t → get_or t i 0 ≡ 0x5C → (0 < length (take (length t - i) (drop i t))) × (get_or (take (length t - i) (drop i t)) 0 0 ≡ 0x5C)
   rest-begins i h e = rw (lent-rest i t, drop-next t i h) (omega arith, e)
 
-  -- A number that is a character of its own, read there from the rest that is lent, gives way to its character,
-  pub single-here : (i n : ℕ) → Numbered (unicode_at (take (length t - i) (drop i t))) n → (n < 0x10000 → 6 ≤ length (take (length t - i) (drop i t))) → single n ≡ true
-      → Tells (json_step (before t i) (drop i t)) (drop i t) (Taken 6 n)
-  single-here i n m long one = rw (lent-rest i t) at (single-moves (before t i) (take (length t - i) (drop i t)) n m long one)
-
-  -- and so do two characters.
-  pub short-here : (i s : ℕ) → i < length t → get_or t i 0 ≡ 0x5C → get_or t (i + 1) 0 < 256 → s ≡ short_of (get_or t (i + 1) 0) → (s ≡ 0 → ⊥)
-      → Tells (json_step (before t i) (drop i t)) (drop i t) (Taken 2 s)
-  short-here i s h e b q n =
-      short-tells (drop i t) s (rw length-drop (two (ltb (i + 1) (length t)) refl)) (ap (λ (s : List ℕ). get_or s 0 0) (drop-next t i h) ∙ e) (rw (get_or-drop i t 1 0) b) (q ∙ ap short_of (sym (get_or-drop i t 1 0))) n (before t i)
-    where
-      two : (x : Bool) → ltb (i + 1) (length t) ≡ x → 2 ≤ length t - i
-      two true z = let l = ltb-true (i + 1) (length t) z in omega arith
-      two false z = absurd (n (q ∙ ap short_of (get_d_past t (i + 1) (ltb-false (i + 1) (length t) z)) ∙ short-none-zero))
-
-  -- Where there is neither, what was read of two halves is the move.
-  pub halves-here : (i : ℕ) (r r' : Escape) → i < length t → get_or t i 0 ≡ 0x5C → get_or t (i + 1) 0 < 256 → short_of (get_or t (i + 1) 0) ≡ 0
-      → Tells (at_escape (unicode_at (take (length t - i) (drop i t))) (take (length t - i) (drop i t))) (take (length t - i) (drop i t)) r → r ≡ r'
-      → Tells (json_step (before t i) (drop i t)) (drop i t) r'
-  halves-here i r r' h e b z tells same =
-      rw (← same)
-      (subst (λ (m : Move). Tells m (drop i t) r) (sym (number-moves (drop i t) (rw length-drop (omega arith)) (ap (λ (s : List ℕ). get_or s 0 0) (drop-next t i h) ∙ e) (λ k. (rw (get_or-drop i t 1 0) b, ap short_of (get_or-drop i t 1 0) ∙ z)) (before t i)))
-      (rw (lent-rest i t) at tells))
+  -- What was read there from the rest that is lent is the move there.
+  pub told-here : (i : ℕ) (r : Maybe Escape) → ((p : ℕ) → Tells (json_step p (take (length t - i) (drop i t))) (take (length t - i) (drop i t)) r)
+      → Tells (json_step (before t i) (drop i t)) (drop i t) r
+  told-here i r h = rw (lent-rest i t) at (h (before t i))
 
   -- It lies within the text.
-  pub read-within : (i n c : ℕ) → i < length t → Tells (json_step (before t i) (drop i t)) (drop i t) (Taken n c) → (1 ≤ n) × (i + n ≤ length t) × (length (utf8 c) ≤ n) × (c ≤ 0x10FFFF)
-  read-within i n c h (m, some, ends, shorter, most) = (some, omega (arith, h, rw length-drop at ends), shorter, most)
+  pub read-within : (i : ℕ) (e : Escape) → i < length t → Tells (json_step (before t i) (drop i t)) (drop i t) (Some e)
+      → (1 ≤ e.taken) × (i + e.taken ≤ length t) × (length (utf8 e.character) ≤ e.taken) × (e.character ≤ 0x10FFFF)
+  read-within i e h (m, some, ends, shorter, most) = (some, omega (arith, h, rw length-drop at ends), shorter, most)
 
   -- So the count goes on past it,
-  pub counted-told : {i n k : ℕ} → Counted json_step t i n k → (m x : ℕ) → i < length t → Tells (json_step (before t i) (drop i t)) (drop i t) (Taken m x)
-      → Counted json_step t (i + m) (n + length (utf8 x)) (k + 1)
-  counted-told {i} c m x h tells = let w = read-within i m x h tells in counted-swap c m (utf8 x) w.0 w.1 w.2 tells.0
+  pub counted-told : {i n k : ℕ} → Counted json_step t i n k → (e : Escape) → i < length t → Tells (json_step (before t i) (drop i t)) (drop i t) (Some e)
+      → Counted json_step t (i + e.taken) (n + length (utf8 e.character)) (k + 1)
+  counted-told {i} c e h tells = let w = read-within i e h tells in counted-swap c e.taken (utf8 e.character) w.0 w.1 w.2 tells.0
 
   -- and its character stands next in the result.
-  pub next-told : (i m x : ℕ) → i < length t → Tells (json_step (before t i) (drop i t)) (drop i t) (Taken m x) → Next (result (from json_step t i)) (utf8 x) (result (from json_step t (i + m)))
-  next-told i m x h tells = let w = read-within i m x h tells in next-swap json_step t i m (utf8 x) w.0 w.1 tells.0
+  pub next-told : (i : ℕ) (e : Escape) → i < length t → Tells (json_step (before t i) (drop i t)) (drop i t) (Some e)
+      → Next (result (from json_step t i)) (utf8 e.character) (result (from json_step t (i + e.taken)))
+  next-told i e h tells = let w = read-within i e h tells in next-swap json_step t i e.taken (utf8 e.character) w.0 w.1 tells.0

@@ -1,6 +1,6 @@
 -- The script and style strings: their elements, and which bytes each kind of escape stands for.
 -- Assumes nothing.
-use Rattle.std.specs.Prelude.{Bool, not, ◌&&◌, ◌||◌, cond, List, [], ◌∷◌, ◌++◌, map, ℕ, zero, suc, ◌+◌, ◌*◌, ◌/◌, ◌%◌, ltb, eqb, get_or}
+use Rattle.std.specs.Prelude.{Option, Some, None, Bool, not, ◌&&◌, ◌||◌, cond, List, [], ◌∷◌, ◌++◌, map, ℕ, ltb, eqb}
 use Rattle.rules.specs.Bytes.{ascii, count}
 use Rattle.rules.specs.declared.Quotes.{Quotes}
 use Rattle.rules.specs.declared.Quotes.TheVariants.{Single, Double, Both}
@@ -8,9 +8,7 @@ use Rattle.rules.specs.declared.Language.{Language}
 use Rattle.rules.specs.declared.Language.TheVariants.{Script, Style}
 use Rattle.rules.specs.declared.Notation.{Notation}
 use Rattle.rules.specs.declared.Notation.TheVariants.{Script as ScriptString, Style as StyleString}
-use Rattle.rules.specs.Tables.{Row, hex_row}
-use Rattle.rules.specs.declared.Escape.{Escape}
-use Rattle.rules.specs.declared.Escape.TheVariants.{Taken, Nothing}
+use Rattle.rules.specs.Tables.{Row, slashed, hex_row}
 use Rattle.decode_strings.specs.Hex.{hex_between}
 
 -- The name of the element of a language.
@@ -33,19 +31,18 @@ quotes_of Both = 0x27 ∷ 0x22 ∷ []
 abbrev pub slashed_bytes : Quotes → List ℕ
 slashed_bytes q = 0x5C ∷ quotes_of q
 
--- The quote that it does not escape, 0 where it escapes both.
-abbrev pub plain_quote : Quotes → ℕ
-plain_quote Single = 0x22
-plain_quote Double = 0x27
-plain_quote Both = 0
+-- Their rows.
+abbrev pub slashed_rows : Quotes → List Row
+slashed_rows q = map slashed (slashed_bytes q)
 
--- The byte after a backslash at the head of s, 0 where there is none.
-abbrev pub after_slash : List ℕ → ℕ
-after_slash [] = 0
-after_slash (x ∷ s) = cond (eqb x 0x5C) (get_or s 0 0) 0
+-- The byte after a backslash at the head of s.
+abbrev pub after_slash : List ℕ → Option ℕ
+after_slash [] = None
+after_slash (x ∷ []) = None
+after_slash (x ∷ y ∷ s) = cond (eqb x 0x5C) (Some y) None
 
--- The value of the hex escape at the head of s, `\HH` and a space or `\xHH`; 256 where none stands there.
-abbrev pub hex_escape : Language → List ℕ → ℕ
+-- The value of the hex escape at the head of s, `\HH` and a space or `\xHH`.
+abbrev pub hex_escape : Language → List ℕ → Option ℕ
 hex_escape Style s = hex_between (ascii "\\") (ascii " ") s
 hex_escape Script s = hex_between (ascii "\\x") [] s
 
@@ -79,12 +76,3 @@ hex_rows language = map (hex_row (notation_of language)) (hexed_bytes language)
 -- The rows of the string but those with a backslash before the byte.
 abbrev pub unslashed_rows : Language → List Row
 unslashed_rows language = hex_rows language ++ separators language
-
--- An escape as one number, by how many bytes it takes and the number of its character: the character above the lowest byte, which is the length.
-abbrev pub pack_of : ℕ → ℕ → ℕ
-pack_of taken char = char * 256 + taken
-
--- The escape of such a number; 0 is none.
-abbrev pub escape_of : ℕ → Escape
-escape_of zero = Nothing
-escape_of (suc n) = Taken (suc n % 256) (suc n / 256)

@@ -1,7 +1,7 @@
 -- RULES 17. The rules at their edges, so that a slip in the data above is refused; read off the rules by hand. Two entries are the rules' own words:
 -- the one-bits of a lead byte (`long_by_ones`), and the listing of `entity` (the first of `requests`).
 -- Assumes nothing.
-use Rattle.std.specs.Prelude.{Bool, false, not, ◌&&◌, ◌||◌, cond, List, [], ◌∷◌, ◌++◌, map, ℕ, zero, suc, ◌+◌, ◌*◌, ◌%◌, leb, eqb, length as size}
+use Rattle.std.specs.Prelude.{Some, None, Ok, Err, Bool, false, not, ◌&&◌, ◌||◌, cond, List, [], ◌∷◌, ◌++◌, map, ℕ, zero, suc, ◌+◌, ◌*◌, ◌%◌, leb, eqb, length as size}
 use Prim.Native.String.{String}
 use Rattle.rules.specs.Bytes.{ascii, count, bytes, join, only, Range, inside, one_of, same_bytes}
 use Rattle.rules.specs.Moves.{Move, keep, swap, leave, stop, takes, gives, reason_number}
@@ -9,7 +9,7 @@ use Rattle.rules.specs.Utf8.{valid_to, utf8, substitute}
 use Rattle.rules.specs.Contexts.{context_of}
 use Rattle.rules.specs.Encoding.{closes}
 use Rattle.rules.specs.Refusals.{refusal, check_of}
-use Rattle.rules.specs.Answers.{reference_move, escape_move, replaced_move}
+use Rattle.rules.specs.Answers.{decode_move, browse_move, escape_move, replaced_move}
 use Rattle.rules.specs.Program.{printed, entity_of, reasons_of}
 use Rattle.rules.specs.Examples.{Example, passes_in, example, stays, leaving, refused_in, refused}
 use Rattle.rules.specs.Data.{request}
@@ -23,11 +23,8 @@ use Rattle.rules.specs.declared.Operation.{Operation}
 use Rattle.rules.specs.declared.Operation.TheVariants.{Encode, Decode, Read, Browse}
 use Rattle.rules.specs.declared.DecodedEntityValue.TheVariants.{Named as NamedText, Character}
 use Rattle.rules.specs.declared.Reason.TheVariants.{NoEnd, Empty, UnknownName, NoDigit, NotAllowed}
-use Rattle.rules.specs.declared.Reference.TheVariants.{Found, Left, Nothing as NoReference}
-use Rattle.rules.specs.declared.Escape.TheVariants.{Taken, Nothing as NoEscape}
 use Rattle.rules.specs.declared.Notation.TheVariants.{Script, Style, Json}
 use Rattle.rules.specs.declared.Replacement.TheVariants.{Slashed, Hex, Separator, Substitute}
-use Rattle.rules.specs.declared.Replaced.TheVariants.{By, Nothing as NoReplacement}
 
 -- ---- characters
 
@@ -478,27 +475,28 @@ same_move m n = eqb (kind m) (kind n) && same_bytes (takes m) (takes n) && same_
 -- A case of an enum, read on paper, and the move that it is.
 abbrev pub papers : List (Move × Move)
 papers =
-    (replaced_move Script (ascii "'a") (By Slashed), swap (ascii "'") (ascii "\\'"))
-    ∷ (replaced_move Script (0x1F ∷ []) (By Hex), swap (0x1F ∷ []) (ascii "\\x1F"))
-    ∷ (replaced_move Style (0x1F ∷ []) (By Hex), swap (0x1F ∷ []) (ascii "\\1F "))
-    ∷ (replaced_move Json (0x1F ∷ []) (By Hex), swap (0x1F ∷ []) (ascii "\\u001F"))
-    ∷ (replaced_move Script (0xE2 ∷ 0x80 ∷ 0xA8 ∷ ascii "a") (By Separator), swap (0xE2 ∷ 0x80 ∷ 0xA8 ∷ []) (ascii "\\u2028"))
-    ∷ (replaced_move Script (0xE2 ∷ 0x80 ∷ 0xA9 ∷ ascii "a") (By Separator), swap (0xE2 ∷ 0x80 ∷ 0xA9 ∷ []) (ascii "\\u2029"))
-    ∷ (replaced_move Style (0x00 ∷ ascii "a") (By Substitute), swap (0x00 ∷ []) (0xEF ∷ 0xBF ∷ 0xBD ∷ []))
-    ∷ (replaced_move Style (ascii "ab") NoReplacement, keep (ascii "a"))
-    ∷ (escape_move (ascii "\\u2028a") (Taken 6 0x2028), swap (ascii "\\u2028") (0xE2 ∷ 0x80 ∷ 0xA8 ∷ []))
-    ∷ (escape_move (ascii "\\a") NoEscape, keep (ascii "\\"))
+    (replaced_move Script (ascii "'a") (Some Slashed), swap (ascii "'") (ascii "\\'"))
+    ∷ (replaced_move Script (0x1F ∷ []) (Some Hex), swap (0x1F ∷ []) (ascii "\\x1F"))
+    ∷ (replaced_move Style (0x1F ∷ []) (Some Hex), swap (0x1F ∷ []) (ascii "\\1F "))
+    ∷ (replaced_move Json (0x1F ∷ []) (Some Hex), swap (0x1F ∷ []) (ascii "\\u001F"))
+    ∷ (replaced_move Script (0xE2 ∷ 0x80 ∷ 0xA8 ∷ ascii "a") (Some Separator), swap (0xE2 ∷ 0x80 ∷ 0xA8 ∷ []) (ascii "\\u2028"))
+    ∷ (replaced_move Script (0xE2 ∷ 0x80 ∷ 0xA9 ∷ ascii "a") (Some Separator), swap (0xE2 ∷ 0x80 ∷ 0xA9 ∷ []) (ascii "\\u2029"))
+    ∷ (replaced_move Style (0x00 ∷ ascii "a") (Some Substitute), swap (0x00 ∷ []) (0xEF ∷ 0xBF ∷ 0xBD ∷ []))
+    ∷ (replaced_move Style (ascii "ab") None, keep (ascii "a"))
+    ∷ (escape_move (ascii "\\u2028a") (Some (record { taken = 6; character = 0x2028 })), swap (ascii "\\u2028") (0xE2 ∷ 0x80 ∷ 0xA8 ∷ []))
+    ∷ (escape_move (ascii "\\a") None, keep (ascii "\\"))
     ∷ (
-      reference_move (ascii "a&nGt;b") (Found (record { start = 1; end = 6; value = NamedText 0x9283E2AB89E2 })),
+      decode_move (ascii "a&nGt;b") (Ok (record { start = 1; end = 6; value = NamedText 0x9283E2AB89E2 })),
       swap (ascii "&nGt;") (0xE2 ∷ 0x89 ∷ 0xAB ∷ 0xE2 ∷ 0x83 ∷ 0x92 ∷ []),
     )
-    ∷ (reference_move (ascii "a&#65;b") (Found (record { start = 1; end = 6; value = Character 65 })), swap (ascii "&#65;") (ascii "A"))
-    ∷ (reference_move (ascii "&") (Left NoEnd), leave NoEnd (ascii "&"))
-    ∷ (reference_move (ascii "&;") (Left Empty), leave Empty (ascii "&"))
-    ∷ (reference_move (ascii "&b;") (Left UnknownName), leave UnknownName (ascii "&"))
-    ∷ (reference_move (ascii "&#b;") (Left NoDigit), leave NoDigit (ascii "&"))
-    ∷ (reference_move (ascii "&#0;") (Left NotAllowed), leave NotAllowed (ascii "&"))
-    ∷ (reference_move (ascii "&b;") NoReference, keep (ascii "&"))
+    ∷ (decode_move (ascii "a&#65;b") (Ok (record { start = 1; end = 6; value = Character 65 })), swap (ascii "&#65;") (ascii "A"))
+    ∷ (decode_move (ascii "&") (Err NoEnd), leave NoEnd (ascii "&"))
+    ∷ (decode_move (ascii "&;") (Err Empty), leave Empty (ascii "&"))
+    ∷ (decode_move (ascii "&b;") (Err UnknownName), leave UnknownName (ascii "&"))
+    ∷ (decode_move (ascii "&#b;") (Err NoDigit), leave NoDigit (ascii "&"))
+    ∷ (decode_move (ascii "&#0;") (Err NotAllowed), leave NotAllowed (ascii "&"))
+    ∷ (browse_move (ascii "a&#65;b") (Some (record { start = 1; end = 6; value = Character 65 })), swap (ascii "&#65;") (ascii "A"))
+    ∷ (browse_move (ascii "&b;") None, keep (ascii "&"))
     ∷ []
 
 -- It is.

@@ -13,7 +13,7 @@ use Rattle.rules.specs.Moves.{Move, result, replaced, through, first_left, first
 use Rattle.rules.specs.Utf8.{IsChar, IsText, char_at, valid_to}
 use Rattle.rules.specs.Tables.{table}
 use Rattle.rules.specs.Units.{IsUnit}
-use Rattle.rules.specs.Answers.{Measures}
+use Rattle.rules.specs.Answers.{Measures, whole}
 use Rattle.rules.specs.Encoding.{encode_step}
 use Rattle.rules.specs.Operations.{encode_of}
 use Rattle.rules.specs.declared.Html.TheVariants.{Quoted}
@@ -140,7 +140,7 @@ module _ {t : List ℕ} {i n k : ℕ} (g : Grown t i n k) (l : i < length t) whe
 
 -- Where nothing is left, all is counted.
 pub grown-end : {t : List ℕ} {i n k : ℕ} → Grown t i n k → length t ≤ i
-    → Measures (record { length = n; place = i; replaced = k; left = 0; reason = 0 }) (through (encode_step InAscii) t)
+    → Measures (whole n i k) (through (encode_step InAscii) t)
 grown-end {t} {i} {n} {k} g h =
     let d : drop i t ≡ [] = drop_of_length-le t h in
     let none : first_left (through (encode_step InAscii) t) ≡ (0, 0) = ap first_of (no-lefts (encode_step InAscii) (encode-leaveless InAscii) 0 0 0 t) in
@@ -148,7 +148,7 @@ grown-end {t} {i} {n} {k} g h =
       long = omega (arith, g.long, ap (λ (s : List ℕ). length (encode_of InAscii s)) d);
       reach = let e : i ≡ length t = omega (arith, g.inside, h) in e ∙ sym (ap length (encode-whole InAscii t));
       many = omega (arith, g.many, ap hits_in d);
-      first = (sym (ap (λ (p : ℕ × ℕ). p.0) none), sym (ap (λ (p : ℕ × ℕ). p.1) none));
+      first = sym none;
     }
 
 -- What is written is then the whole.

@@ -1,4 +1,6 @@
 // One character: what is written for it, a reference above 7F, and what `quoted` writes below.
+// The room of 32 bytes stands in each contract: it is an array of its caller, of which the parts of a reference are written one behind the other.
+// So does the limit of a character's number: it is an `u32`, and Rust's char would exclude surrogates, which no caller has to test for.
 ghost use Rattle.std.specs.Prelude.{cond, List, [], ◌∷◌, ◌++◌, ◌≡◌, ℕ, ◌+◌, ◌-◌, ◌/◌, ◌≤◌, ◌<◌, eqb, length, drop, get_or};
 ghost use Rattle.rules.specs.Tables.{hex_digit, numeral};
 ghost use Rattle.rules.specs.Bytes.{ascii, over};
@@ -54,7 +56,7 @@ fn read(text: &[u8], at: usize) -> Character
     }
 }
 
-// Returns the upper-case hex digit of a number below sixteen.
+// Returns the upper-case hex digit of a number below sixteen, by the library's one table of them.
 fn digit(n: u32) -> u8
     requires { n < 16 }
     ensures { result ≡ hex_digit n }
@@ -127,7 +129,7 @@ pub fn put_reference(code: u32, room: &mut [u8]) -> usize
     at + base::put(b";", &mut room[at..])
 }
 
-// Writes what stands for an ASCII character in `quoted` to the start of `room` and returns its length, 0 if it is copied.
+// Writes what stands for an ASCII character in `quoted` to the start of `room` and returns its length, 0 if it is copied: nothing is written then.
 pub fn put_quoted(b: u32, room: &mut [u8]) -> usize
     requires { 32 ≤ length room.old }
     ensures { Puts (quoted_unit b) result room.old room.new × (result ≤ 22) }
@@ -155,7 +157,7 @@ fn put_low(b: u8, room: &mut [u8]) -> usize
     written
 }
 
-// Returns 0 if a character is written as one byte, since it is copied then, else 1.
+// Returns 0 if a character is written as one byte, since it is copied then, else 1: what is added to the count of replaced places.
 fn changed(written: usize) -> usize
     ensures { result ≡ cond (eqb written 1) 0 1 }
 {

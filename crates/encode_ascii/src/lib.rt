@@ -23,19 +23,14 @@ pub fn measure(text: &[u8]) -> Measured
     let mut length: usize = 0;
     let mut hits: usize = 0;
     let mut i: usize = 0;
+    // A cursor: each turn moves by the length of what it read.
     while i < text.len() {
         let put = characters::put_next(text, i, &mut room);
         length += put.written;
         hits += put.replaced;
         i += put.width;
     }
-    Measured {
-        length,
-        place: i,
-        replaced: hits,
-        left: 0,
-        reason: 0,
-    }
+    Measured::whole(length, i, hits)
 }
 
 // Writes the encoding of a valid text to the start of `output`, leaves the bytes after it as they were, and returns what `measure` does.
@@ -47,6 +42,7 @@ pub fn write(text: &[u8], output: &mut [u8]) -> Measured
     let mut at: usize = 0;
     let mut hits: usize = 0;
     let mut i: usize = 0;
+    // A cursor: each turn moves by the length of what it read.
     while i < text.len() {
         let put = characters::put_next(text, i, &mut room);
         let n = put.written;
@@ -54,11 +50,5 @@ pub fn write(text: &[u8], output: &mut [u8]) -> Measured
         hits += put.replaced;
         i += put.width;
     }
-    Measured {
-        length: at,
-        place: i,
-        replaced: hits,
-        left: 0,
-        reason: 0,
-    }
+    Measured::whole(at, i, hits)
 }

@@ -3,11 +3,13 @@
 -- Assumes nothing.
 use mathlib.Core.Bool.{Bool, true, false, not, ◌||◌, cond}
 use mathlib.Core.Path.{◌≡◌, refl, ap, ◌∙◌, subst}
-use mathlib.Core.List.{List, [], ◌∷◌}
-use Prim.Native.Nat.{ℕ, ◌+◌, ◌-◌, ◌*◌, ◌≤◌, ◌<◌}
+use mathlib.Core.List.{List, [], ◌∷◌, ◌++◌}
+use Prim.Native.Nat.{ℕ, ◌+◌, ◌*◌, ◌≤◌, ◌<◌}
 use native.Mathlib.Omega.{arith}
+use borrow.Author.Tests.{leb-false}
+use mir.Val.{bool_byte}
 use lib.Dec.{eqb, ltb, leb, leb→le}
-use lib.ListN.{length, take, drop, get_or, length-append, drop_of_length-le}
+use lib.ListN.{length, drop, get_or, length-append, drop_of_length-le}
 use Rattle.rules.specs.Tables.{letter_or_digit}
 use Rattle.rules.specs.Encoding.{encode_step}
 use Rattle.rules.specs.Operations.{encode_of}
@@ -16,12 +18,10 @@ use Rattle.rules.specs.declared.Html.TheVariants.{Unquoted}
 use Rattle.rules.specs.declared.Context.TheVariants.{InHtml}
 use Rattle.plain.specs.Plain.{unquoted}
 use Rattle.encode_html.specs.Written.{written, only_text}
-use Rattle.encode_html.specs.Gains.{gain_of, grows, grows_by, gains_of, Grows, hits_of, Hits}
+use Rattle.encode_html.specs.Gains.{gain_of, grows, grows_by, Grows, hits_of, Hits}
 use Rattle.base.specs.Words.{word_of}
-use Rattle.encode_html.specs.declared.gains.Gains.{Gains}
 use Rattle.encode_html.proofs.Seven.{seven-bytes, agree}
-use Rattle.base.proofs.Part.{part_length}
-use Rattle.encode_html.proofs.Text.{written-most, next-byte, next-part, next-none, hits-byte, hits-part}
+use Rattle.encode_html.proofs.Text.{written-most, next-byte, next-none, hits-byte, next-cut, hits-cut}
 
 -- ---- a byte
 
@@ -68,8 +68,8 @@ none false = omega arith
 pub few : (h : Html) (n b r : ℕ) → r ≡ grows_by h n b → (r ≡ grows_by h n b) × (r ≤ 1)
 few h n b r e = (e, rw e (one (eqb (gain_of h b) n)))
 
-pub small : (h : Html) (g : Gains) → g ≡ gains_of h → (g.gt ≤ 1) × (g.double ≤ 1) × (g.single ≤ 1) × (g.slash ≤ 1)
-small h g e = rw e (none (eqb (gain_of h 62) 0), none (eqb (gain_of h 34) 0), none (eqb (gain_of h 39) 0), none (eqb (gain_of h 47) 0))
+pub small : (h : Html) (b x : ℕ) → x ≡ grows h b → x ≤ 1
+small h b x e = rw e (none (eqb (gain_of h b) 0))
 
 -- The length of a byte's word tells whether it grows.
 word-grows : (h : Html) (b : ℕ) → b < 256 → cond (ltb (word_of (written h b)) 0x200000000000000) 0 1 ≡ grows h b
@@ -91,6 +91,14 @@ hits-sum h b l = agree (λ h. true) (λ h b. grows_by h 3 b + grows_by h 4 b + g
 hits_few : (h : Html) (b : ℕ) → b < 256 → hits_of h (b ∷ []) ≤ 1
 unfolding written encode_step
 hits_few h b l = leb→le (hits_of h (b ∷ [])) 1 (seven-bytes (λ h b. leb (hits_of h (b ∷ [])) 1) tt h b l)
+
+-- What tells that the greatest byte is ASCII.
+pub low-most : (b : ℕ) → bool_byte (leb 128 b) ≡ 0 → b < 128
+low-most b e = go (leb 128 b) refl e
+  where
+    go : (x : Bool) → leb 128 b ≡ x → bool_byte x ≡ 0 → b < 128
+    go true q z = absurd (omega (arith, z))
+    go false q z = leb-false 128 b q
 
 -- ---- a text
 
@@ -116,15 +124,25 @@ module _ (h : Html) (t : List ℕ) where
       let same : 3 * x + 4 * y + 5 * z + w ≡ 3 * (x + p) + 4 * (y + q) + 5 * (z + r) = omega arith in
       subst (Grown h t (i + 1)) same (grown-byte i (3 * x + 4 * y + 5 * z) w l (s, omega (arith, s, written-most h (get_or t i 0))) g)
 
-  -- One part more.
-  pub grown-part : (i e n w : ℕ) → i ≤ e → e ≤ length t → Grows h (take (e - i) (drop i t)) w → Grown h t i n → Grown h t e (n + w)
-  grown-part i e n w l k p g =
-      let s = part_length t i e l k in
-      (k, omega arith, omega (arith, rw length-append at (ap length (next-part h t i e l).next)))
-
   -- At the end it is the whole.
   pub grown-end : (i n : ℕ) → length t ≤ i → Grown h t i n → Grows h t n
   grown-end i n l g = (omega (arith, ap length (next-none h t i l)), omega arith)
+
+-- The text but for its end r grows by n: with what is left it is the whole.
+abbrev pub GrownTo : Html → List ℕ → List ℕ → ℕ → Type 0
+GrownTo h t r n = (n + 5 * length r ≤ 5 * length t) × (length t + n + length (encode_of (InHtml h) r) ≡ length (encode_of (InHtml h) t) + length r)
+
+-- One part more.
+pub grown-cut : (h : Html) (t r x r' : List ℕ) (n w : ℕ) → r ≡ x ++ r' → Grows h x w → GrownTo h t r n → GrownTo h t r' (n + w)
+grown-cut h t r x r' n w e p g =
+    let s = ap length e ∙ length-append x r' in
+    let q = ap length (next-cut h r x r' e).next ∙ length-append (encode_of (InHtml h) x) (encode_of (InHtml h) r') in
+    (omega (arith, s), omega (arith, s, q))
+
+-- Where nothing is left it is the whole.
+pub grown-all : (h : Html) (t r : List ℕ) (n : ℕ) → length r ≡ 0 → GrownTo h t r n → Grows h t n
+grown-all h t [] n e g = (omega arith, omega arith)
+grown-all h t (b ∷ r) n e g = absurd (omega arith)
 
 -- ---- how many places are replaced
 
@@ -149,10 +167,18 @@ module _ (h : Html) (t : List ℕ) where
       let same : x + y + z + (p + q + r) ≡ x + p + (y + q) + (z + r) = omega arith in
       subst (Hit h t (i + 1)) same (hit-byte i (x + y + z) (p + q + r) l (s, omega (arith, s, hits_few h (get_or t i 0) k)) g)
 
-  -- One part more.
-  pub hit-part : (i e k w : ℕ) → i ≤ e → e ≤ length t → Hits h (take (e - i) (drop i t)) w → Hit h t i k → Hit h t e (k + w)
-  hit-part i e k w l m p g = (omega (arith, p.1, g.0, part_length t i e l m), omega (arith, p.0, g.1, hits-part h t i e l))
-
   -- At the end it is the whole.
   pub hit-end : (i k : ℕ) → i ≤ length t → length t ≤ i → Hit h t i k → Hits h t k
   hit-end i k l m g = (omega (arith, g.1, ap (hits_of h) (drop_of_length-le t {i = i} m)), omega (arith, g.0))
+
+-- Of the text but for its end r so many are replaced: with what is left they are the whole.
+abbrev pub HitTo : Html → List ℕ → List ℕ → ℕ → Type 0
+HitTo h t r k = (k + length r ≤ length t) × (k + hits_of h r ≡ hits_of h t)
+
+-- One part more.
+pub hit-cut : (h : Html) (t r x r' : List ℕ) (k w : ℕ) → r ≡ x ++ r' → Hits h x w → HitTo h t r k → HitTo h t r' (k + w)
+hit-cut h t r x r' k w e p g = (omega (arith, ap length e ∙ length-append x r'), omega (arith, p.0, g.1, hits-cut h r x r' e))
+
+pub hit-all : (h : Html) (t r : List ℕ) (k : ℕ) → length r ≡ 0 → HitTo h t r k → Hits h t k
+hit-all h t [] k e g = (omega arith, omega arith)
+hit-all h t (b ∷ r) k e g = absurd (omega arith)

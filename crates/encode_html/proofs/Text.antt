@@ -16,7 +16,6 @@ use Rattle.rules.proofs.Laws.{encode_same}
 use Rattle.rules.proofs.Bytewise.{of_byte, encode-append, replaced-both}
 use Rattle.rules.proofs.Growth.{encode-six, encode-sum, encode-as-long}
 use Rattle.base.proofs.Filled.{Next, lent-rest}
-use Rattle.base.proofs.Part.{parted}
 use Rattle.encode_html.specs.Written.{written}
 use Rattle.encode_html.specs.Gains.{hits_of, Each, Unchanged}
 use Rattle.encode_html.proofs.Seven.{seven}
@@ -48,23 +47,24 @@ module _ (h : Html) where
   pub next-byte : (t : List ℕ) (i : ℕ) → i < length t → Next (encode_of (InHtml h) (drop i t)) (written h (get_or t i 0)) (encode_of (InHtml h) (drop (i + 1) t))
   next-byte t i l = record { next = rw (drop-next t i l) (cons-written (get_or t i 0) (drop (i + 1) t)) }
 
-  -- What is left is a part, and what is left after it.
-  pub next-part : (t : List ℕ) (i e : ℕ) → i ≤ e
-      → Next (encode_of (InHtml h) (drop i t)) (encode_of (InHtml h) (take (e - i) (drop i t))) (encode_of (InHtml h) (drop e t))
-  next-part t i e l =
-      let whole = ap (encode_of (InHtml h)) (sym (parted t i e l)) in
-      record { next = whole ∙ encode-append (InHtml h) (λ a. refl) (bytewise h) (take (e - i) (drop i t)) (drop e t) }
+  -- A text in two, the first as it is cut off.
+  pub next-cut : (s x r : List ℕ) → s ≡ x ++ r → Next (encode_of (InHtml h) s) (encode_of (InHtml h) x) (encode_of (InHtml h) r)
+  next-cut s x r e = record { next = ap (encode_of (InHtml h)) e ∙ encode-append (InHtml h) (λ a. refl) (bytewise h) x r }
+
+  pub hits-cut : (s x r : List ℕ) → s ≡ x ++ r → hits_of h s ≡ hits_of h x + hits_of h r
+  hits-cut s x r e = ap (hits_of h) e ∙ replaced-both (InHtml h) (λ a. refl) (bytewise h) x r
 
   -- The same of how many places are replaced.
   pub hits-byte : (t : List ℕ) (i : ℕ) → i < length t → hits_of h (drop i t) ≡ hits_of h (get_or t i 0 ∷ []) + hits_of h (drop (i + 1) t)
   hits-byte t i l = ap (hits_of h) (drop-next t i l) ∙ replaced-both (InHtml h) (λ a. refl) (bytewise h) (get_or t i 0 ∷ []) (drop (i + 1) t)
 
-  pub hits-part : (t : List ℕ) (i e : ℕ) → i ≤ e → hits_of h (drop i t) ≡ hits_of h (take (e - i) (drop i t)) + hits_of h (drop e t)
-  hits-part t i e l = ap (hits_of h) (sym (parted t i e l)) ∙ replaced-both (InHtml h) (λ a. refl) (bytewise h) (take (e - i) (drop i t)) (drop e t)
-
   -- At the end nothing is left.
   pub next-none : (t : List ℕ) (i : ℕ) → length t ≤ i → encode_of (InHtml h) (drop i t) ≡ []
   next-none t i l = rw (drop_of_length-le t l)
+
+  pub empty-none : (r : List ℕ) → length r ≡ 0 → encode_of (InHtml h) r ≡ []
+  empty-none [] e = refl
+  empty-none (b ∷ r) e = absurd (omega arith)
 
   -- What does not grow is copied.
   pub copied : (t : List ℕ) → length (encode_of (InHtml h) t) ≡ length t → encode_of (InHtml h) t ≡ t

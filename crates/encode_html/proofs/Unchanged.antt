@@ -13,7 +13,7 @@ use Rattle.rules.specs.declared.Html.{Html}
 use Rattle.rules.proofs.Below.{below}
 use Rattle.plain.specs.Plain.{unquoted}
 use Rattle.encode_html.specs.Written.{written}
-use Rattle.encode_html.specs.Gains.{gains_of, Unchanged}
+use Rattle.encode_html.specs.Gains.{Unchanged}
 use Rattle.encode_html.specs.Keys.{keys_of, special}
 use Rattle.encode_html.specs.declared.look.Keys.{Keys}
 use Rattle.encode_html.proofs.Seven.{seven, differ}
@@ -21,7 +21,7 @@ use Rattle.encode_html.proofs.Seven.{seven, differ}
 -- A byte that is written as itself, or special; in an unquoted attribute any.
 abbrev told : Html → ℕ → Bool
 unfolding written encode_step
-told h b = unquoted h || (special (keys_of (gains_of h)) b || eqb (length (written h b)) 1)
+told h b = unquoted h || (special (keys_of h) b || eqb (length (written h b)) 1)
 
 told-all : (h : Html) → T (all (told h) (count 0 128))
 unfolding written encode_step
@@ -38,9 +38,9 @@ low k b e = go (ltb 127 b) refl k.text e
     go true q false z = absurd (differ (sym z))
     go false q only z = omega (arith, ltb-false 127 b q)
 
-pub special-unchanged : (h : Html) → unquoted h ≡ false → (b : ℕ) → special (keys_of (gains_of h)) b ≡ false → Unchanged h b
+pub special-unchanged : (h : Html) → unquoted h ≡ false → (b : ℕ) → special (keys_of h) b ≡ false → Unchanged h b
 unfolding written encode_step
-special-unchanged h u b e = (eqb→eq (length (written h b)) 1 (go (below (told h) 128 (told-all h) b (low (keys_of (gains_of h)) b e))), low (keys_of (gains_of h)) b e)
+special-unchanged h u b e = (eqb→eq (length (written h b)) 1 (go (below (told h) 128 (told-all h) b (low (keys_of h) b e))), low (keys_of h) b e)
   where
     go : T (told h b) → T (eqb (length (written h b)) 1)
-    go t = subst (λ (x : Bool). T (x || eqb (length (written h b)) 1)) e (subst (λ (x : Bool). T (x || (special (keys_of (gains_of h)) b || eqb (length (written h b)) 1))) u t)
+    go t = subst (λ (x : Bool). T (x || eqb (length (written h b)) 1)) e (subst (λ (x : Bool). T (x || (special (keys_of h) b || eqb (length (written h b)) 1))) u t)

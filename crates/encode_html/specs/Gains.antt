@@ -1,14 +1,13 @@
 -- By how many bytes a byte grows in its encoding.
 -- Assumes nothing.
-use Rattle.std.specs.Prelude.{cond, ◌≡◌, List, ℕ, ◌+◌, ◌-◌, ◌*◌, ◌≤◌, ◌<◌, eqb, length, get_or}
+use Rattle.std.specs.Prelude.{Bool, cond, ◌≡◌, List, ℕ, ◌+◌, ◌-◌, ◌*◌, ◌≤◌, ◌<◌, eqb, length, get_or}
 use Rattle.rules.specs.Moves.{through, replaced}
 use Rattle.rules.specs.Encoding.{encode_step}
 use Rattle.rules.specs.Operations.{encode_of}
 use Rattle.rules.specs.declared.Html.{Html}
 use Rattle.rules.specs.declared.Context.TheVariants.{InHtml}
-use Rattle.plain.specs.Plain.{unquoted}
+use Rattle.plain.specs.Plain.{unquoted as unquoted_of}
 use Rattle.encode_html.specs.Written.{written, only_text}
-use Rattle.encode_html.specs.declared.gains.Gains.{Gains}
 
 -- By how many bytes the encoding of a byte is longer than the byte.
 abbrev pub gain_of : Html → ℕ → ℕ
@@ -23,8 +22,9 @@ abbrev pub grows_by : Html → ℕ → ℕ → ℕ
 grows_by h n b = cond (eqb (gain_of h b) n) 1 0
 
 -- What is known of a context: which kind it is, and which of `>`, `"`, `'` and `/` grow.
-abbrev pub gains_of : Html → Gains
-gains_of h = record { text = only_text h; unquoted = unquoted h; gt = grows h 62; double = grows h 34; single = grows h 39; slash = grows h 47 }
+abbrev pub AreGainsOf : Html → Bool → Bool → ℕ → ℕ → ℕ → ℕ → Type 0
+AreGainsOf h text unquoted gt double single slash =
+    (text ≡ only_text h) × (unquoted ≡ unquoted_of h) × (gt ≡ grows h 62) × (double ≡ grows h 34) × (single ≡ grows h 39) × (slash ≡ grows h 47)
 
 -- A text grows by n bytes, which is at most five times its length.
 abbrev pub Grows : Html → List ℕ → ℕ → Type 0

@@ -3,16 +3,18 @@
 use Rattle.std.specs.Prelude.{Bool, ◌||◌, cond, List, ℕ, eqb, ltb, get_or}
 use Rattle.std.specs.Int.Bits.{bit_xor}
 use Rattle.plain.specs.Plain.{lesser}
-use Rattle.encode_html.specs.declared.gains.Gains.{Gains}
+use Rattle.rules.specs.declared.Html.{Html}
+use Rattle.encode_html.specs.Written.{only_text}
+use Rattle.encode_html.specs.Gains.{grows}
 use Rattle.encode_html.specs.declared.look.Keys.{Keys}
 
 -- The byte where it grows, else `&`.
 abbrev pub key_of : ℕ → ℕ → ℕ
 key_of gain b = cond (eqb gain 0) 38 b
 
--- The keys of a context, read off its growths.
-abbrev pub keys_of : Gains → Keys
-keys_of g = record { text = g.text; gt = key_of g.gt 62; double = key_of g.double 34; single = key_of g.single 39; slash = key_of g.slash 47 }
+-- The keys of a context, by what grows in it.
+abbrev pub keys_of : Html → Keys
+keys_of h = record { text = only_text h; gt = key_of (grows h 62) 62; double = key_of (grows h 34) 34; single = key_of (grows h 39) 39; slash = key_of (grows h 47) 47 }
 
 -- A byte above ASCII, `&`, `<`, `>` where it is a key, and where there are more keys these.
 abbrev pub special : Keys → ℕ → Bool

@@ -2,37 +2,38 @@
 // branch and becomes vector code.
 ghost use Rattle.std.specs.Prelude.{cond, ◌≡◌, ◌≤◌, ltb};
 ghost use Rattle.rules.specs.declared.Html.TheVariants.{Unquoted};
-ghost use Rattle.encode_html.specs.Gains.{grows_by, gains_of};
-ghost use Rattle.encode_html.specs.Words.{words_of};
+ghost use Rattle.encode_html.specs.Gains.{grows_by, AreGainsOf};
 
 use super::words::Words;
 use rules::Html;
 
-// Per context: whether it replaces nothing but `&`, `<` and `>`, whether it replaces all punctuation, and 1 for each of `>`, `"`, `'` and `/` that it
+// A context, whether it replaces nothing but `&`, `<` and `>`, whether it replaces all punctuation, and 1 for each of `>`, `"`, `'` and `/` that it
 // replaces, else 0.
 #[derive(Clone, Copy)]
 pub struct Gains {
+    pub html: Html,
     pub text: bool,
     pub unquoted: bool,
     pub gt: u8,
     pub double: u8,
     pub single: u8,
     pub slash: u8,
+    ghost right: { AreGainsOf html text unquoted gt double single slash },
 }
 
 // Returns 1 if the word of a byte has more than one byte, else 0. The word's highest byte is their number.
 fn grows_to(word: u64) -> u8
     ensures { result ≡ cond (ltb word 0x200000000000000) 0 1 }
 {
-    if word < 0x0200_0000_0000_0000 { 0 } else { 1 }
+    u8::from(0x0200_0000_0000_0000 <= word)
 }
 
 // Returns which bytes of a context grow, read off its words.
-pub fn gains_of(h: Html, w: Words) -> Gains
-    requires { w ≡ words_of h }
-    ensures { result ≡ gains_of h }
+pub fn gains_of(w: Words) -> Gains
+    ensures { result.html ≡ w.html }
 {
     Gains {
+        html: w.html,
         text: w.text,
         unquoted: w.unquoted,
         gt: grows_to(w.gt),
@@ -50,9 +51,8 @@ pub fn four(h: Html, b: u8) -> u8
 }
 
 // Returns 1 for a byte that grows by three bytes: `<`, and `>` if it is replaced.
-pub fn three(h: Html, g: Gains, b: u8) -> u8
-    requires { g ≡ gains_of h }
-    ensures { (result ≡ grows_by h 3 b) × (result ≤ 1) }
+pub fn three(g: Gains, b: u8) -> u8
+    ensures { (result ≡ grows_by g.html 3 b) × (result ≤ 1) }
 {
     base::when(b, b'<', 1) + base::when(b, b'>', g.gt)
 }
@@ -68,9 +68,8 @@ fn five_unquoted(b: u8) -> u8
 }
 
 // Returns 1 for a byte that grows by five bytes. Its branches are the same for every byte.
-pub fn five(h: Html, g: Gains, b: u8) -> u8
-    requires { g ≡ gains_of h }
-    ensures { (result ≡ grows_by h 5 b) × (result ≤ 1) }
+pub fn five(g: Gains, b: u8) -> u8
+    ensures { (result ≡ grows_by g.html 5 b) × (result ≤ 1) }
 {
     if g.text {
         return 0;

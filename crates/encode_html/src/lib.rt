@@ -25,7 +25,7 @@ const LONG: usize = 256;
 // The bytes past its end that a word may overwrite. As many are kept for the last, exact write.
 const SPILL: usize = 7;
 
-// What a pass over a text finds: `high` is 0 only if it is ASCII, its encoding is `grow` bytes longer, and `replaced` of its places are replaced.
+// What a pass over a text finds: `high`, which vector code gathers, is 0 only if it is ASCII, its encoding is `grow` bytes longer, and `replaced` of its places are replaced.
 #[derive(Clone, Copy)]
 pub struct Scan {
     pub high: usize,
@@ -40,9 +40,9 @@ pub fn survey(h: Html, text: &[u8]) -> Scan
     ensures k_bound { result.high ≡ 0 → (k : ℕ) → k < length text.now → get_or text.now k 0 < 128 }
 {
     let w = words::words_of(h);
-    let g = gains::gains_of(h, w);
+    let g = gains::gains_of(w);
     if LONG < text.len() {
-        if look::is_unchanged(h, g, text) {
+        if look::is_unchanged(g, text) {
             return Scan {
                 high: 0,
                 grow: 0,
@@ -50,7 +50,7 @@ pub fn survey(h: Html, text: &[u8]) -> Scan
             };
         }
     }
-    look::count(h, g, text)
+    look::count(g, text)
 }
 
 // Writes the encoding of a text, which is `grow` bytes longer, to the start of `output` and returns its length; what lies past it keeps its
@@ -63,9 +63,9 @@ pub fn write(h: Html, text: &[u8], grow: usize, output: &mut [u8]) -> usize
 {
     let w = words::words_of(h);
     if text.len() <= SPILL {
-        return fill::write_exactly(h, w, text, output);
+        return fill::write_exactly(w, text, output);
     }
     let end = text.len() - SPILL;
-    let at = fill::write_most(h, w, &text[..end], grow, output);
-    at + fill::write_exactly(h, w, &text[end..], &mut output[at..])
+    let at = fill::write_most(w, &text[..end], grow, output);
+    at + fill::write_exactly(w, &text[end..], &mut output[at..])
 }

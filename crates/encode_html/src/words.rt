@@ -5,7 +5,7 @@ ghost use Rattle.rules.specs.Tables.{value, reference};
 ghost use Rattle.rules.specs.declared.Html.TheVariants.{Unquoted};
 ghost use Rattle.encode_html.specs.Written.{written};
 ghost use Rattle.base.specs.Words.{word_of};
-ghost use Rattle.encode_html.specs.Words.{words_of, Table};
+ghost use Rattle.encode_html.specs.Words.{AreWordsOf, Table};
 
 use base::words::plain;
 use rules::Html;
@@ -33,23 +33,35 @@ const PLAIN_APOSTROPHE: u64 = 0x0100_0000_0000_0027;
 // `/`
 const PLAIN_SOLIDUS: u64 = 0x0100_0000_0000_002F;
 
-// Per context: whether it replaces nothing but `&`, `<` and `>`, whether it replaces all punctuation, and the words of `>`, `"`, `'` and `/`.
+// A context, whether it replaces nothing but `&`, `<` and `>`, whether it replaces all punctuation, and the words of `>`, `"`, `'` and `/`.
 #[derive(Clone, Copy)]
 pub struct Words {
+    pub html: Html,
     pub text: bool,
     pub unquoted: bool,
     pub gt: u64,
     pub double: u64,
     pub single: u64,
     pub slash: u64,
+    ghost right: { AreWordsOf html text unquoted gt double single slash },
 }
 
 impl Words {
     // Makes the words of a context from its fields.
-    fn new(text: bool, unquoted: bool, gt: u64, double: u64, single: u64, slash: u64) -> Self
-        ensures { result ≡ record { text = text; unquoted = unquoted; gt = gt; double = double; single = single; slash = slash } }
+    fn new(
+        html: Html,
+        text: bool,
+        unquoted: bool,
+        gt: u64,
+        double: u64,
+        single: u64,
+        slash: u64,
+    ) -> Self
+        requires { AreWordsOf html text unquoted gt double single slash }
+        ensures { result.html ≡ html }
     {
         Self {
+            html,
             text,
             unquoted,
             gt,
@@ -62,10 +74,11 @@ impl Words {
 
 // Returns the words of a context: of the four bytes that not every context replaces.
 pub fn words_of(h: Html) -> Words
-    ensures { result ≡ words_of h }
+    ensures { result.html ≡ h }
 {
     match h {
         Html::TextMinimal => Words::new(
+            h,
             true,
             false,
             PLAIN_GT,
@@ -73,12 +86,36 @@ pub fn words_of(h: Html) -> Words
             PLAIN_APOSTROPHE,
             PLAIN_SOLIDUS,
         ),
-        Html::Text => Words::new(true, false, GT, PLAIN_QUOT, PLAIN_APOSTROPHE, PLAIN_SOLIDUS),
-        Html::DoubleQuoted => Words::new(false, false, GT, QUOT, PLAIN_APOSTROPHE, PLAIN_SOLIDUS),
-        Html::SingleQuoted => Words::new(false, false, GT, PLAIN_QUOT, APOSTROPHE, PLAIN_SOLIDUS),
-        Html::Quoted => Words::new(false, false, GT, QUOT, APOSTROPHE, PLAIN_SOLIDUS),
-        Html::Safe => Words::new(false, false, GT, QUOT, APOSTROPHE, SOLIDUS),
-        Html::Unquoted => Words::new(false, true, GT, QUOT, APOSTROPHE, SOLIDUS),
+        Html::Text => Words::new(
+            h,
+            true,
+            false,
+            GT,
+            PLAIN_QUOT,
+            PLAIN_APOSTROPHE,
+            PLAIN_SOLIDUS,
+        ),
+        Html::DoubleQuoted => Words::new(
+            h,
+            false,
+            false,
+            GT,
+            QUOT,
+            PLAIN_APOSTROPHE,
+            PLAIN_SOLIDUS,
+        ),
+        Html::SingleQuoted => Words::new(
+            h,
+            false,
+            false,
+            GT,
+            PLAIN_QUOT,
+            APOSTROPHE,
+            PLAIN_SOLIDUS,
+        ),
+        Html::Quoted => Words::new(h, false, false, GT, QUOT, APOSTROPHE, PLAIN_SOLIDUS),
+        Html::Safe => Words::new(h, false, false, GT, QUOT, APOSTROPHE, SOLIDUS),
+        Html::Unquoted => Words::new(h, false, true, GT, QUOT, APOSTROPHE, SOLIDUS),
     }
 }
 
@@ -102,10 +139,7 @@ fn select(b: u8, key: u8, word: u64, other: u64) -> u64
 fn word_unquoted(b: u8) -> u64
     ensures { result ≡ word_of (written Unquoted b) }
 {
-    if 127 < b {
-        return plain(b);
-    }
-    if base::is_letter_or_digit(b) {
+    if 127 < b || base::is_letter_or_digit(b) {
         return plain(b);
     }
     let x = select(b, b'"', QUOT, hex(b));
@@ -115,9 +149,8 @@ fn word_unquoted(b: u8) -> u64
 }
 
 // Returns the word of a byte.
-pub fn word(h: Html, w: Words, b: u8) -> u64
-    requires { w ≡ words_of h }
-    ensures { result ≡ word_of (written h b) }
+pub fn word(w: Words, b: u8) -> u64
+    ensures { result ≡ word_of (written w.html b) }
 {
     if w.unquoted {
         return word_unquoted(b);
@@ -134,15 +167,12 @@ pub fn word(h: Html, w: Words, b: u8) -> u64
 }
 
 // Returns the word of every byte. A call on a long text makes them once and lends them to its loops, in which a word is then one load.
-pub fn table_of(h: Html, w: Words) -> [u64; 256]
-    requires { w ≡ words_of h }
-    ensures { Table h result }
+pub fn table_of(w: Words) -> [u64; 256]
+    ensures { Table w.html result }
 {
     let mut table: [u64; 256] = [0x0100_0000_0000_0000; 256];
-    let mut b: usize = 0;
-    while b < 256 {
-        table[b] = word(h, w, b as u8);
-        b += 1;
+    for b in 0..256 {
+        table[b] = word(w, b as u8);
     }
     table
 }

@@ -19,8 +19,8 @@ use Rattle.rules.proofs.Quiet.{Keeps, quiet}
 use Rattle.rules.proofs.Stream.{raw-count}
 use Rattle.base.specs.First.{Free, First}
 use Rattle.base.proofs.Filled.{Next, lent-rest}
-use Rattle.base.proofs.Firsts.{free_step}
-use Rattle.base.proofs.Part.{part_length}
+use borrow.Author.Count.{below_more}
+use Rattle.base.proofs.Part.{part_length, part_at, window_at}
 use Rattle.plain.specs.Plain.{Without}
 use Rattle.encode_raw.specs.Cuts.{cut_at, suspect}
 
@@ -62,11 +62,25 @@ unsuspected t k h e = go (eqb (get_or t k 0) 60) e
     go false z = refl
     go true z = ap parted (drop-next t (k + 1) h) ∙ unparted (get_or t (k + 1) 0) (drop (k + 1 + 1) t) z
 
--- An answer that is false only where there is no cut, and the answer for one place more.
-pub uncut-more : (t : List ℕ) (a e : ℕ) (hit more : Bool) → e + 1 < length t → more ≡ suspect (get_or t e 0) (get_or t (e + 1) 0) → (hit ≡ false → Free (cut_at t) a e)
-    → hit || more ≡ false → Free (cut_at t) a (e + 1)
-uncut-more t a e true more h q f z = let never : ◌≡◌ {A = ℕ} 0 1 = cc in absurd (omega arith)
-uncut-more t a e false more h q f z = free_step (cut_at t) a e (f refl) (unsuspected t e h (sym q ∙ z))
+-- An answer that is false only where no pair is suspect, and the answer for one pair more, v.
+pub pair-more : (t v : List ℕ) (e : ℕ) (hit more : Bool) → v ≡ take 2 (drop e t) → more ≡ suspect (get_or v 0 0) (get_or v 1 0)
+    → (hit ≡ false → (k : ℕ) → k < e → suspect (get_or t k 0) (get_or t (k + 1) 0) ≡ false)
+    → hit || more ≡ false → (k : ℕ) → k < e + 1 → suspect (get_or t k 0) (get_or t (k + 1) 0) ≡ false
+pair-more t v e true more s q f z = let never : ◌≡◌ {A = ℕ} 0 1 = cc in absurd (omega arith)
+pair-more t v e false more s q f z =
+    let first : e + 0 ≡ e = omega arith in
+    let a = window_at t v e 2 0 s (omega arith) ∙ ap (λ (n : ℕ). get_or t n 0) first in
+    below_more _ _ (f refl) (ap (λ (x : ℕ). suspect x (get_or t (e + 1) 0)) (sym a) ∙ ap (suspect (get_or v 0 0)) (sym (window_at t v e 2 1 s (omega arith))) ∙ sym q ∙ z)
+
+-- Where no pair of a block and the byte after it is suspect, there is no cut in the block.
+pub uncut-block : (t : List ℕ) (i : ℕ) → i + 16 + 1 ≤ length t
+    → ((k : ℕ) → k + 1 < length (take (i + 16 + 1 - i) (drop i t)) → suspect (get_or (take (i + 16 + 1 - i) (drop i t)) k 0) (get_or (take (i + 16 + 1 - i) (drop i t)) (k + 1) 0) ≡ false)
+    → Free (cut_at t) i (i + 16)
+uncut-block t i h f k a b =
+    let e = i + 16 + 1 in
+    let s : i + (k - i) ≡ k = omega arith in
+    let n : i + (k - i + 1) ≡ k + 1 = omega arith in
+    unsuspected t k (omega arith) (rw (part_at t i e (k - i) (omega arith), part_at t i e (k - i + 1) (omega arith), s, n) at (f (k - i) (rw (part_length t i e (omega arith) h) (omega arith))))
 
 -- ---- the moves
 

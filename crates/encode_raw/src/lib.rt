@@ -1,8 +1,9 @@
 // The encoder of raw script text, html-escape's script.rs and encode_impl.rs: a backslash goes in after each `<` that could open a comment or close
 // the element. Only a `<` before `!` or `/` can: blocks without one are skipped by one test, and everything between is copied.
+// Text and end stand in each contract: what follows the end is read too, so that a slice up to the end would not do.
 #![tactic(auto)]
 
-ghost use Rattle.std.specs.Prelude.{true, false, ◌≡◌, ◌+◌, ◌≤◌, length, take};
+ghost use Rattle.std.specs.Prelude.{true, false, ◌≡◌, ℕ, ◌+◌, ◌≤◌, ◌<◌, length, take, get_or};
 ghost use Rattle.rules.specs.Bytes.{over};
 ghost use Rattle.rules.specs.Encoding.{parted, raw_step};
 ghost use Rattle.rules.specs.Moves.{through, result as result_of};
@@ -18,10 +19,7 @@ const BLOCK: usize = 16;
 fn is_parted(rest: &[u8]) -> bool
     ensures { result ≡ parted rest.now }
 {
-    if base::prefix::starts(b"!--", rest) {
-        return true;
-    }
-    base::prefix::closes_with(b"/script", true, rest)
+    base::prefix::starts(b"!--", rest) || base::prefix::closes_with(b"/script", true, rest)
 }
 
 // Reports whether the bytes `a` and `b` are `<!` or `</`, without which no backslash goes in.
@@ -31,16 +29,13 @@ fn is_suspect(a: u8, b: u8) -> bool
     (a == b'<') & ((b == b'!') | (b == b'/'))
 }
 
-// Reports whether the block at `at` has a `<!` or `</`. The loop has no early exit, so that it becomes vector code.
-fn has_suspect(text: &[u8], at: usize) -> bool
-    requires { at + 17 ≤ length text.now }
-    ensures { result ≡ false → Free (cut_at text.now) at (at + 16) }
+// Reports whether a block has a `<!` or `</`. The loop has no early exit, so that it becomes vector code.
+fn has_suspect(block: &[u8]) -> bool
+    ensures { result ≡ false → (k : ℕ) → k + 1 < length block.now → suspect (get_or block.now k 0) (get_or block.now (k + 1) 0) ≡ false }
 {
     let mut hit = false;
-    let mut j: usize = 0;
-    while j < BLOCK {
-        hit = hit | is_suspect(text[at + j], text[at + j + 1]);
-        j += 1;
+    for pair in block.windows(2) {
+        hit |= is_suspect(pair[0], pair[1]);
     }
     hit
 }
@@ -52,8 +47,9 @@ fn skip_blocks(text: &[u8], from: usize, end: usize) -> usize
     ensures { (from ≤ result) × (result ≤ end) × Free (cut_at text.now) from result }
 {
     let mut i = from;
+    // A cursor: each block is read with the byte after it, which the next one begins with.
     while BLOCK < end - i {
-        if has_suspect(text, i) {
+        if has_suspect(&text[i..i + BLOCK + 1]) {
             return i;
         }
         i += BLOCK;
@@ -67,6 +63,7 @@ fn next_cut(text: &[u8], from: usize, end: usize) -> usize
     ensures { First (cut_at text.now) end from result }
 {
     let mut i = skip_blocks(text, from, end);
+    // A cursor: past a `<` that is not parted, blocks are skipped again.
     while i < end {
         if text[i] != b'<' {
             i += 1;
@@ -87,6 +84,7 @@ pub fn measure_to(text: &[u8], end: usize) -> usize
 {
     let mut n: usize = 0;
     let mut i: usize = 0;
+    // A cursor: each turn moves past the next `<` that a backslash goes in after.
     while i < end {
         let e = next_cut(text, i, end);
         n += e - i;
@@ -107,13 +105,15 @@ pub fn measure(text: &[u8]) -> usize
     measure_to(text, text.len())
 }
 
-// Writes the encoding of the first `end` bytes of a text to the start of `output` and returns its length; the bytes after it keep their values.
+// Writes the encoding of the first `end` bytes of a text, as `measure_to` counts it, to the start of `output` and returns its length; the bytes after it
+// keep their values.
 pub fn write_to(text: &[u8], end: usize, output: &mut [u8]) -> usize
     requires { (end ≤ length text.now) × (length (result_of (take end (through raw_step text.now))) ≤ length output.old) }
     ensures { (result ≡ length (result_of (take end (through raw_step text.now)))) × (output.new ≡ over (result_of (take end (through raw_step text.now))) output.old) }
 {
     let mut at: usize = 0;
     let mut i: usize = 0;
+    // A cursor, as in `measure_to`.
     while i < end {
         let e = next_cut(text, i, end);
         at += base::put(&text[i..e], &mut output[at..]);

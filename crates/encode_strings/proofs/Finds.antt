@@ -1,6 +1,7 @@
 -- What is found at the head of a text. One test, computed for every ASCII byte in every string: the rule makes the move of the definition, and the byte
 -- grows as much as the code counts. Of the other bytes only E2 begins keys, those of the line separators.
 -- Assumes nothing.
+use Rattle.std.specs.Prelude.{Option as Maybe, Some, None}
 use mathlib.Core.Bool.{Bool, true, false, ◌&&◌, ◌||◌, cond}
 use mathlib.Core.Logic.{◌⊎◌, inl, inr}
 use mathlib.Core.Option.{Option, none, some}
@@ -22,8 +23,6 @@ use Rattle.rules.specs.declared.Quotes.TheVariants.{Single, Double, Both}
 use Rattle.rules.specs.declared.Context.TheVariants.{InStyle}
 use Rattle.rules.specs.declared.Replacement.{Replacement}
 use Rattle.rules.specs.declared.Replacement.TheVariants.{Slashed, Hex, Separator, Substitute}
-use Rattle.rules.specs.declared.Replaced.{Replaced}
-use Rattle.rules.specs.declared.Replaced.TheVariants.{By, Nothing}
 use Rattle.rules.proofs.Tests.{and_left, and_right, or_cases, same_bytes_lem}
 use Rattle.rules.proofs.Below.{below, eqb_comm}
 use Rattle.encode_strings.specs.Strings.{alone, is_slashed, is_hexed, hex_by, replaced_by, starts, Held, HeldAt, single_key, double_key, escaped_of, hexed_of, same_of, ends_of, ended, quotes_in, single_of, double_of, separates, more_of, replaced_with}
@@ -142,7 +141,7 @@ byte-ruled notation quotes b ne p s =
     headmost notation (is_slashed (single_key notation quotes) (double_key notation quotes) b) (is_hexed b) (eqb b 0) refl ∙ go (ltb b 0x80) refl ∙ sym (lone (written_in notation quotes) (strings-ruleless notation quotes) p b s ne)
   where
     headmost : (notation : Notation) (t u v : Bool) → eqb b 0 ≡ v
-        → replaced_move notation (b ∷ s) (cond t (By Slashed) (cond u (By (hex_by notation b)) Nothing)) ≡ replaced_move notation (b ∷ []) (cond t (By Slashed) (cond u (By (hex_by notation b)) Nothing))
+        → replaced_move notation (b ∷ s) (cond t (Some Slashed) (cond u (Some (hex_by notation b)) None)) ≡ replaced_move notation (b ∷ []) (cond t (Some Slashed) (cond u (Some (hex_by notation b)) None))
     headmost notation true u v e = refl
     headmost Script false true v e = refl
     headmost Json false true v e = refl
@@ -166,7 +165,7 @@ letter-bounds b e =
 
 module _ (notation : Notation) where
   -- The control bytes are written in hex.
-  pub ruled-control : (q : Quotes) (b : ℕ) → b ≤ 31 → replaced_with notation q b ≡ By (hex_by notation b)
+  pub ruled-control : (q : Quotes) (b : ℕ) → b ≤ 31 → replaced_with notation q b ≡ Some (hex_by notation b)
   unfolding is_slashed is_hexed
   ruled-control q b h = rw (lt-ltb b 32 (omega arith), ne_eqb b 0x5C (λ e. omega arith), below-quote q)
     where
@@ -176,30 +175,30 @@ module _ (notation : Notation) where
       below-quote Both = rw (ne_eqb b 0x27 (λ e. omega arith), ne_eqb b 0x22 (λ e. omega arith))
 
   -- From the space on four bytes alone are escaped.
-  pub ruled-other : (q : Quotes) (b : ℕ) → 32 ≤ b → (b ≡ 0x22 → ⊥) → (b ≡ 0x27 → ⊥) → (b ≡ 0x3C → ⊥) → (b ≡ 0x5C → ⊥) → replaced_with notation q b ≡ Nothing
+  pub ruled-other : (q : Quotes) (b : ℕ) → 32 ≤ b → (b ≡ 0x22 → ⊥) → (b ≡ 0x27 → ⊥) → (b ≡ 0x3C → ⊥) → (b ≡ 0x5C → ⊥) → replaced_with notation q b ≡ None
   unfolding is_slashed is_hexed
   ruled-other Single b h d s l k = rw (le-ltb b 32 h, ne_eqb b 0x3C l, ne_eqb b 0x5C k, ne_eqb b 0x27 s)
   ruled-other Double b h d s l k = rw (le-ltb b 32 h, ne_eqb b 0x3C l, ne_eqb b 0x5C k, ne_eqb b 0x22 d)
   ruled-other Both b h d s l k = rw (le-ltb b 32 h, ne_eqb b 0x3C l, ne_eqb b 0x5C k, ne_eqb b 0x27 s, ne_eqb b 0x22 d)
 
   -- The four.
-  pub ruled-double : (q : Quotes) → replaced_with notation q 0x22 ≡ cond (eqb 0x22 (double_of q)) (By Slashed) Nothing
+  pub ruled-double : (q : Quotes) → replaced_with notation q 0x22 ≡ cond (eqb 0x22 (double_of q)) (Some Slashed) None
   unfolding is_slashed is_hexed
   ruled-double Single = refl
   ruled-double Double = refl
   ruled-double Both = refl
 
-  pub ruled-single : (q : Quotes) → replaced_with notation q 0x27 ≡ cond (eqb 0x27 (single_of q)) (By Slashed) Nothing
+  pub ruled-single : (q : Quotes) → replaced_with notation q 0x27 ≡ cond (eqb 0x27 (single_of q)) (Some Slashed) None
   unfolding is_slashed is_hexed
   ruled-single Single = refl
   ruled-single Double = refl
   ruled-single Both = refl
 
-  pub ruled-slash : (q : Quotes) → replaced_with notation q 0x5C ≡ By Slashed
+  pub ruled-slash : (q : Quotes) → replaced_with notation q 0x5C ≡ Some Slashed
   unfolding is_slashed
   ruled-slash q = refl
 
-pub ruled-less : (notation : Notation) (q : Quotes) → replaced_with notation q 0x3C ≡ By Hex
+pub ruled-less : (notation : Notation) (q : Quotes) → replaced_with notation q 0x3C ≡ Some Hex
 unfolding is_slashed is_hexed
 ruled-less Script Single = refl
 ruled-less Script Double = refl
@@ -239,8 +238,8 @@ separator-value c l h = go (eqb c 0xA8) refl
         let last : c ≡ 0xA9 = omega (arith, eqb-false c 0xA8 e) in rw last
 
 -- What is found where E2 stands before s.
-abbrev pub separator_at : List ℕ → Replaced
-separator_at s = cond (ended s) (By Separator) Nothing
+abbrev pub separator_at : List ℕ → Maybe Replacement
+separator_at s = cond (ended s) (Some Separator) None
 
 -- The row of the one, of the other, or none.
 abbrev two : Bool → Bool → Option Row
@@ -268,10 +267,10 @@ separator-row notation (x ∷ []) = go (eqb 0x80 x)
     go false = refl
 separator-row notation (x ∷ y ∷ s) =
     go (eqb 0x80 x) (eqb 0xA8 y) (eqb 0xA9 y) refl refl refl
-    ∙ (λ i. replaced_move notation (0xE2 ∷ x ∷ y ∷ s) (cond (eqb_comm 0x80 x i && (eqb_comm 0xA8 y i || eqb_comm 0xA9 y i)) (By Separator) Nothing))
+    ∙ (λ i. replaced_move notation (0xE2 ∷ x ∷ y ∷ s) (cond (eqb_comm 0x80 x i && (eqb_comm 0xA8 y i || eqb_comm 0xA9 y i)) (Some Separator) None))
   where
     go : (a b c : Bool) → eqb 0x80 x ≡ a → eqb 0xA8 y ≡ b → eqb 0xA9 y ≡ c
-        → write (two (a && (b && true)) (a && (c && true))) (keep (0xE2 ∷ [])) ≡ replaced_move notation (0xE2 ∷ x ∷ y ∷ s) (cond (a && (b || c)) (By Separator) Nothing)
+        → write (two (a && (b && true)) (a && (c && true))) (keep (0xE2 ∷ [])) ≡ replaced_move notation (0xE2 ∷ x ∷ y ∷ s) (cond (a && (b || c)) (Some Separator) None)
     go true true c e f g = rw (sym (eqb-true 0xA8 y f))
     go true false true e f g = rw (sym (eqb-true 0xA9 y g))
     go true false false e f g = refl
@@ -292,7 +291,7 @@ module _ (notation : Notation) (w : separates notation ≡ true) (q : Quotes) wh
   lead-taken s e = sym (lead-moves 0 s) ∙ rw e
 
   -- At E2, of the bytes that the code is lent.
-  pub found-lead : (s : List ℕ) (r : Replaced) → 0 < length s → get_or s 0 0 ≡ 0xE2 → separator_at (drop 1 s) ≡ r
+  pub found-lead : (s : List ℕ) (r : Maybe Replacement) → 0 < length s → get_or s 0 0 ≡ 0xE2 → separator_at (drop 1 s) ≡ r
       → (p : ℕ) → replaced_move notation s r ≡ encode_step (written_in notation q) p s
   found-lead [] r h e k p = absurd (not-suc-le-zero h)
   found-lead (x ∷ s) r h e k p = rw (e, ← k) (lead-moves p s)
@@ -308,7 +307,7 @@ lead-style Both = refl
 
 module _ (notation : Notation) (quotes : Quotes) where
   -- At every byte but E2.
-  pub found-ruled : (s : List ℕ) (r : Replaced) → 0 < length s → (get_or s 0 0 ≡ 0xE2 → ⊥) → replaced_by notation quotes (get_or s 0 0) ≡ r
+  pub found-ruled : (s : List ℕ) (r : Maybe Replacement) → 0 < length s → (get_or s 0 0 ≡ 0xE2 → ⊥) → replaced_by notation quotes (get_or s 0 0) ≡ r
       → (p : ℕ) → replaced_move notation s r ≡ encode_step (written_in notation quotes) p s
   found-ruled [] r h ne k p = absurd (not-suc-le-zero h)
   found-ruled (x ∷ s) r h ne k p = rw (← k) (byte-ruled notation quotes x ne p s)
@@ -316,21 +315,21 @@ module _ (notation : Notation) (quotes : Quotes) where
   -- At a byte from the space on that is none of the five.
   pub found_plain : (s : List ℕ) → 0 < length s → 32 ≤ get_or s 0 0
       → (get_or s 0 0 ≡ 0x22 → ⊥) → (get_or s 0 0 ≡ 0x27 → ⊥) → (get_or s 0 0 ≡ 0x3C → ⊥) → (get_or s 0 0 ≡ 0x5C → ⊥) → (get_or s 0 0 ≡ 0xE2 → ⊥)
-      → (p : ℕ) → replaced_move notation s Nothing ≡ encode_step (written_in notation quotes) p s
-  found_plain s h l d g n k e = found-ruled s Nothing h e (ruled-other notation (quotes_in notation quotes) (get_or s 0 0) l d g n k)
+      → (p : ℕ) → replaced_move notation s None ≡ encode_step (written_in notation quotes) p s
+  found_plain s h l d g n k e = found-ruled s None h e (ruled-other notation (quotes_in notation quotes) (get_or s 0 0) l d g n k)
 
   -- At a quote k, which is escaped if it is the key.
-  pub found-quote : (s : List ℕ) (r : Replaced) (k key : ℕ) → 0 < length s → get_or s 0 0 ≡ k → (k ≡ 0xE2 → ⊥) → r ≡ cond (eqb (get_or s 0 0) key) (By Slashed) Nothing
-      → replaced_by notation quotes k ≡ cond (eqb k key) (By Slashed) Nothing → ((p : ℕ) → replaced_move notation s r ≡ encode_step (written_in notation quotes) p s) × HeldAt r s
+  pub found-quote : (s : List ℕ) (r : Maybe Replacement) (k key : ℕ) → 0 < length s → get_or s 0 0 ≡ k → (k ≡ 0xE2 → ⊥) → r ≡ cond (eqb (get_or s 0 0) key) (Some Slashed) None
+      → replaced_by notation quotes k ≡ cond (eqb k key) (Some Slashed) None → ((p : ℕ) → replaced_move notation s r ≡ encode_step (written_in notation quotes) p s) × HeldAt r s
   found-quote s r k key h e ne f g = (found-ruled s r h (λ q. ne (sym e ∙ q)) (rw e (g ∙ rw (← e) (sym f))), rw f (held (eqb (get_or s 0 0) key)))
     where
-      held : (t : Bool) → HeldAt (cond t (By Slashed) Nothing) s
+      held : (t : Bool) → HeldAt (cond t (Some Slashed) None) s
       held true = h
       held false = h
 
 -- In a style sheet it is kept.
 pub found-style : (notation : Notation) (q : Quotes) (s : List ℕ) → separates notation ≡ false → 0 < length s → get_or s 0 0 ≡ 0xE2
-    → (p : ℕ) → replaced_move notation s Nothing ≡ encode_step (written_in notation q) p s
+    → (p : ℕ) → replaced_move notation s None ≡ encode_step (written_in notation q) p s
 found-style Script q s w h e p = absurd (let z : ◌≡◌ {A = ℕ} 1 0 = ap (λ (x : Bool). cond x 1 0) w in omega arith)
 found-style Json q s w h e p = absurd (let z : ◌≡◌ {A = ℕ} 1 0 = ap (λ (x : Bool). cond x 1 0) w in omega arith)
 found-style Style q [] w h e p = absurd (not-suc-le-zero h)

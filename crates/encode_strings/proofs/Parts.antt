@@ -1,5 +1,6 @@
 -- A loop over the parts of a text: the parts so far give n bytes and have k places replaced, and with what is left they are the whole.
 -- Assumes nothing.
+use Rattle.std.specs.Prelude.{None}
 use mathlib.Core.Path.{◌≡◌, sym, ap, ◌∙◌}
 use mathlib.Core.List.{List}
 use Prim.Native.Nat.{ℕ, ◌+◌, ◌-◌, ◌*◌, ◌≤◌}
@@ -9,7 +10,6 @@ use Rattle.rules.specs.Moves.{through, replaced, first_of, first_left}
 use Rattle.rules.specs.Contexts.{written_in}
 use Rattle.rules.specs.Encoding.{encode_step}
 use Rattle.rules.specs.Operations.{encode_of}
-use Rattle.rules.specs.declared.Reason.{Reason}
 use Rattle.rules.specs.Answers.{Measures}
 use Rattle.rules.specs.declared.Notation.{Notation}
 use Rattle.rules.specs.declared.Quotes.{Quotes}
@@ -34,16 +34,14 @@ module _ (notation : Notation) (quotes : Quotes) where
 
   module _ (t : List ℕ) where
     -- No reference is left, since an encoder knows none.
-    pub none_left : (0 ≡ (first_left (through (encode_step (written_in notation quotes)) t)).0) × (0 ≡ (first_left (through (encode_step (written_in notation quotes)) t)).1)
-    none_left =
-        let alone = no-lefts (encode_step (written_in notation quotes)) (encode-leaveless (written_in notation quotes)) 0 0 0 t in
-        (ap (λ (ls : List (ℕ × Reason)). (first_of ls).0) (sym alone), ap (λ (ls : List (ℕ × Reason)). (first_of ls).1) (sym alone))
+    pub none_left : (0, 0) ≡ first_left (through (encode_step (written_in notation quotes)) t)
+    none_left = ap first_of (sym (no-lefts (encode_step (written_in notation quotes)) (encode-leaveless (written_in notation quotes)) 0 0 0 t))
 
     pub gone-start : Gone t 0 0 0
     gone-start = record { inside = omega arith; few = omega arith; long = omega arith; many = omega arith }
 
     -- At the end they are what a pass over the text finds.
-    pub gone-end : {i n k : ℕ} → Gone t i n k → length t ≤ i → Measures (record { length = n; place = i; replaced = k; left = 0; reason = 0 }) (through (encode_step (written_in notation quotes)) t)
+    pub gone-end : {i n k : ℕ} → Gone t i n k → length t ≤ i → Measures (record { length = n; place = i; replaced = k; left = None }) (through (encode_step (written_in notation quotes)) t)
     gone-end {i} {n} {k} g h =
         let none = drop_of_length-le t {i = i} h in
         record {

@@ -1,5 +1,6 @@
 -- A turn of the writing loops: what is found at a place is what is written next.
 -- Assumes nothing.
+use Rattle.std.specs.Prelude.{Option}
 use mathlib.Core.Path.{◌≡◌, refl, sym, ◌∙◌}
 use mathlib.Core.List.{List, [], ◌∷◌}
 use Prim.Native.Nat.{ℕ, ◌+◌, ◌-◌, ◌≤◌, ◌<◌}
@@ -15,7 +16,6 @@ use Rattle.rules.specs.Answers.{replacement_move, replaced_move}
 use Rattle.rules.specs.declared.Context.{Context}
 use Rattle.rules.specs.declared.Replacement.{Replacement}
 use Rattle.rules.specs.declared.Replacement.TheVariants.{Slashed, Hex, Separator, Substitute}
-use Rattle.rules.specs.declared.Replaced.{Replaced}
 use Rattle.rules.proofs.Blind.{blind-result}
 use Rattle.base.proofs.Filled.{Next, lent-rest}
 use Rattle.encode_strings.specs.Strings.{taken_by, Held, HeldAt}
@@ -27,7 +27,7 @@ use Rattle.rules.specs.declared.Notation.{Notation}
 use Rattle.rules.specs.declared.Notation.TheVariants.{Script, Style, Json}
 
 -- The encoder's answer at place i of a text, of which it is lent the rest: its move there.
-abbrev pub FoundAt : Notation → Quotes → List ℕ → ℕ → Replaced → Type 0
+abbrev pub FoundAt : Notation → Quotes → List ℕ → ℕ → Option Replacement → Type 0
 FoundAt notation quotes t i r =
     ((p : ℕ) → replaced_move notation (take (length t - i) (drop i t)) r ≡ encode_step (written_in notation quotes) p (take (length t - i) (drop i t)))
     × HeldAt r (take (length t - i) (drop i t))

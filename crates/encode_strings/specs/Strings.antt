@@ -1,6 +1,6 @@
 -- The rule of the string encoder, what a replacement takes, and how bytes grow.
 -- Assumes nothing.
-use Rattle.std.specs.Prelude.{Bool, true, false, ◌&&◌, ◌||◌, cond, ◌⊎◌, ◌≡◌, List, [], ◌∷◌, ℕ, ◌+◌, ◌-◌, ◌*◌, ◌/◌, ◌≤◌, ◌<◌, eqb, ltb, length, get_or}
+use Rattle.std.specs.Prelude.{Bool, true, false, ◌&&◌, ◌||◌, cond, ◌⊎◌, ◌≡◌, List, [], ◌∷◌, ℕ, ◌+◌, ◌-◌, ◌*◌, ◌/◌, ◌≤◌, ◌<◌, eqb, ltb, length, get_or, Option, Some, None}
 use Rattle.rules.specs.Bytes.{any}
 use Rattle.rules.specs.Moves.{Move}
 use Rattle.rules.specs.Tables.{Row, key, value, hex_row}
@@ -12,8 +12,6 @@ use Rattle.rules.specs.declared.Notation.{Notation}
 use Rattle.rules.specs.declared.Notation.TheVariants.{Script, Style, Json}
 use Rattle.rules.specs.declared.Replacement.{Replacement}
 use Rattle.rules.specs.declared.Replacement.TheVariants.{Slashed, Hex, Separator, Substitute}
-use Rattle.rules.specs.declared.Replaced.{Replaced}
-use Rattle.rules.specs.declared.Replaced.TheVariants.{By, Nothing}
 
 -- ---- the rule
 
@@ -63,11 +61,11 @@ hex_by Style b = cond (eqb b 0) Substitute Hex
 hex_by Json b = Hex
 
 -- What replaces a character of one byte, by the quotes that are escaped.
-abbrev pub replaced_with : Notation → Quotes → ℕ → Replaced
-replaced_with notation quotes b = cond (is_slashed (single_of quotes) (double_of quotes) b) (By Slashed) (cond (is_hexed b) (By (hex_by notation b)) Nothing)
+abbrev pub replaced_with : Notation → Quotes → ℕ → Option Replacement
+replaced_with notation quotes b = cond (is_slashed (single_of quotes) (double_of quotes) b) (Some Slashed) (cond (is_hexed b) (Some (hex_by notation b)) None)
 
 -- What replaces it in a string.
-abbrev pub replaced_by : Notation → Quotes → ℕ → Replaced
+abbrev pub replaced_by : Notation → Quotes → ℕ → Option Replacement
 replaced_by notation quotes b = replaced_with notation (quotes_in notation quotes) b
 
 -- The move of one byte by itself.
@@ -104,9 +102,9 @@ Held Separator s = (3 ≤ length s) × (0xA8 ≤ get_or s 2 0) × (get_or s 2 0 
 Held Substitute s = 1 ≤ length s
 
 -- The same of what is found at the head of s.
-abbrev pub HeldAt : Replaced → List ℕ → Type 0
-HeldAt (By r) s = Held r s
-HeldAt Nothing s = 1 ≤ length s
+abbrev pub HeldAt : Option Replacement → List ℕ → Type 0
+HeldAt (Some r) s = Held r s
+HeldAt None s = 1 ≤ length s
 
 -- ---- growth
 

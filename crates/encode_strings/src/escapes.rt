@@ -1,4 +1,5 @@
 // Finds what escapes the start of a text in a string, and writes a text byte by byte.
+// That something is left stands in each contract: each takes what is left of a text, and looks at its first byte.
 ghost use Rattle.std.specs.Prelude.{true, cond, ◌≡◌, ℕ, ◌≤◌, ◌<◌, eqb, length, get_or};
 ghost use Rattle.rules.specs.Bytes.{over};
 ghost use Rattle.rules.specs.Contexts.{written_in};
@@ -8,84 +9,76 @@ ghost use Rattle.rules.specs.Operations.{encode_of};
 ghost use Rattle.rules.specs.Answers.{replacement_move, replaced_move};
 ghost use Rattle.rules.specs.declared.Quotes.{Quotes};
 ghost use Rattle.rules.specs.declared.Notation.{Notation};
-ghost use Rattle.rules.specs.declared.Replaced.TheVariants.{By, Nothing};
 ghost use Rattle.rules.specs.declared.Replacement.TheVariants.{Slashed};
 ghost use Rattle.encode_strings.specs.Strings.{separates, taken_by, Held, HeldAt, hex_in, ends_of};
 
 use crate::rule;
-use rules::{Notation, Quotes, Replaced, Replacement};
+use rules::{Notation, Quotes, Replacement};
 
 // Reports whether the two bytes after E2 make it a line separator, U+2028 or U+2029.
+#[tactic(auto, unfolding(crate::specs::Strings::ends_of))]
 pub fn ends_separator(b: u8, c: u8) -> bool
     ensures { result ≡ ends_of b c }
 {
-    if b != 0x80 {
-        return false;
-    }
-    if c == 0xA8 {
-        return true;
-    }
-    c == 0xA9
+    b == 0x80 && matches!(c, 0xA8 | 0xA9)
 }
 
 // Finds U+2028 or U+2029 at the start of `rest`, which begins with E2.
-fn separator_at(rest: &[u8]) -> Replaced
+fn separator_at(rest: &[u8]) -> Option<Replacement>
     requires { (0 < length rest.now) × (get_or rest.now 0 0 ≡ 0xE2) }
     ensures { ((notation : Notation) → separates notation ≡ true → (quotes : Quotes) (p : ℕ) → replaced_move notation rest.now result ≡ encode_step (written_in notation quotes) p rest.now) × HeldAt result rest.now }
 {
-    if rest.len() < 3 {
-        return Replaced::Nothing;
+    match rest {
+        [_, b, c, ..] if ends_separator(*b, *c) => Some(Replacement::Separator),
+        _ => None,
     }
-    if ends_separator(rest[1], rest[2]) {
-        return Replaced::By(Replacement::Separator);
-    }
-    Replaced::Nothing
 }
 
 // Finds what replaces the start of `rest`, which begins with E2: style sheets do not escape line separators.
-pub fn separator(notation: Notation, rest: &[u8]) -> Replaced
+pub fn separator(notation: Notation, rest: &[u8]) -> Option<Replacement>
     requires { (0 < length rest.now) × (get_or rest.now 0 0 ≡ 0xE2) }
     ensures { ((quotes : Quotes) (p : ℕ) → replaced_move notation rest.now result ≡ encode_step (written_in notation quotes) p rest.now) × HeldAt result rest.now }
 {
     if rule::separates(notation) {
         return separator_at(rest);
     }
-    Replaced::Nothing
+    None
 }
 
 // Returns what replaces a quote, which is escaped if it is the key.
-fn quoted(key: u8, b: u8) -> Replaced
-    ensures { result ≡ cond (eqb b key) (By Slashed) Nothing }
+fn quoted(key: u8, b: u8) -> Option<Replacement>
+    ensures { result ≡ cond (eqb b key) (Some Slashed) None }
 {
     if b == key {
-        return Replaced::By(Replacement::Slashed);
+        Some(Replacement::Slashed)
+    } else {
+        None
     }
-    Replaced::Nothing
 }
 
 // Finds what replaces the start of `rest`, by its first byte. No string escapes the bytes from `]` to 7F, nor the space and `!`: in most of a text that
 // settles it.
-fn escape(notation: Notation, quotes: Quotes, rest: &[u8]) -> Replaced
+fn escape(notation: Notation, quotes: Quotes, rest: &[u8]) -> Option<Replacement>
     requires { 0 < length rest.now }
     ensures { ((p : ℕ) → replaced_move notation rest.now result ≡ encode_step (written_in notation quotes) p rest.now) × HeldAt result rest.now }
 {
     let b = rest[0];
     if base::is_within(b']', 0x7F, b) {
-        return Replaced::Nothing;
+        return None;
     }
     if b <= b'!' {
         if b < b' ' {
-            return Replaced::By(rule::hex_by(notation, b));
+            return Some(rule::hex_by(notation, b));
         }
-        return Replaced::Nothing;
+        return None;
     }
     match b {
         b'"' => quoted(rule::double_key(notation, quotes), b),
         b'\'' => quoted(rule::single_key(notation, quotes), b),
-        b'<' => Replaced::By(Replacement::Hex),
-        b'\\' => Replaced::By(Replacement::Slashed),
+        b'<' => Some(Replacement::Hex),
+        b'\\' => Some(Replacement::Slashed),
         rule::SEPARATOR_LEAD => separator(notation, rest),
-        _ => Replaced::Nothing,
+        _ => None,
     }
 }
 
@@ -139,8 +132,9 @@ pub fn write_bytes(notation: Notation, quotes: Quotes, text: &[u8], output: &mut
 {
     let mut at: usize = 0;
     let mut i: usize = 0;
+    // A cursor: each turn moves by the length of what it read.
     while i < text.len() {
-        let Replaced::By(found) = escape(notation, quotes, &text[i..]) else {
+        let Some(found) = escape(notation, quotes, &text[i..]) else {
             at += base::put(&[text[i]], &mut output[at..]);
             i += 1;
             continue;

@@ -1,4 +1,5 @@
 // How many places of a part are replaced, and how much longer it becomes.
+// A part has at most 64 bytes, in each contract: chunks of that size leave no line separator whole, so that `cut` makes the parts.
 ghost use Rattle.std.specs.Prelude.{true, cond, ◌≡◌, ◌+◌, ◌*◌, ◌≤◌, eqb, length};
 ghost use Rattle.rules.specs.Contexts.{written_in};
 ghost use Rattle.rules.specs.Encoding.{encode_step};
@@ -28,7 +29,7 @@ pub struct Change {
 fn bit(holds: bool) -> u8
     ensures { (result ≡ cond holds 1 0) × (result ≤ 1) }
 {
-    if holds { 1 } else { 0 }
+    u8::from(holds)
 }
 
 // Counts the bytes of a part that are escaped, those that are by their hex digits, and the byte `odd`. Short parts keep the counts in a byte, and the
@@ -41,14 +42,11 @@ fn weigh(single: u8, double: u8, odd: u8, part: &[u8]) -> Tally
     let mut escaped: u8 = 0;
     let mut hexed: u8 = 0;
     let mut n: u8 = 0;
-    let mut i: usize = 0;
-    while i < part.len() {
-        let b = part[i];
-        let hex = rule::is_hexed(b);
-        escaped += bit(rule::is_slashed(single, double, b) | hex);
+    for b in part {
+        let hex = rule::is_hexed(*b);
+        escaped += bit(rule::is_slashed(single, double, *b) | hex);
         hexed += bit(hex);
-        n += base::when(odd, b, 1);
-        i += 1;
+        n += base::when(odd, *b, 1);
     }
     Tally {
         escaped,
@@ -63,14 +61,12 @@ fn separators(part: &[u8]) -> usize
     ensures { (result ≡ separators_in part.now) × (result ≤ length part.now) }
 {
     let mut n: usize = 0;
-    let mut i: usize = 0;
-    while i + 2 < part.len() {
+    for i in 0..part.len().saturating_sub(2) {
         if part[i] == rule::SEPARATOR_LEAD {
             if escapes::ends_separator(part[i + 1], part[i + 2]) {
                 n += 1;
             }
         }
-        i += 1;
     }
     n
 }

@@ -42,6 +42,7 @@ pub fn measure(notation: Notation, quotes: Quotes, text: &[u8]) -> Measured
     let mut n: usize = 0;
     let mut places: usize = 0;
     let mut i: usize = 0;
+    // A cursor: each turn moves by a part, whose end depends on its last bytes.
     while i < text.len() {
         let end = cut(text, i, 64);
         let part = growth::gained(notation, quotes, &text[i..end]);
@@ -49,13 +50,7 @@ pub fn measure(notation: Notation, quotes: Quotes, text: &[u8]) -> Measured
         places += part.replaced;
         i = end;
     }
-    Measured {
-        length: n,
-        place: i,
-        replaced: places,
-        left: 0,
-        reason: 0,
-    }
+    Measured::whole(n, i, places)
 }
 
 // Writes as `write` does, for a short part. One of which nothing is replaced is copied.
@@ -65,22 +60,14 @@ fn write_part(notation: Notation, quotes: Quotes, part: &[u8], output: &mut [u8]
 {
     let found = growth::count(notation, quotes, part);
     if growth::is_copied(notation, quotes, found, part) {
-        return Measured {
-            length: base::put(part, output),
-            place: part.len(),
-            replaced: 0,
-            left: 0,
-            reason: 0,
-        };
+        return Measured::whole(base::put(part, output), part.len(), 0);
     }
     let written = escapes::write_bytes(notation, quotes, part, output);
-    Measured {
-        length: written,
-        place: part.len(),
-        replaced: growth::places(notation, found, written - part.len()),
-        left: 0,
-        reason: 0,
-    }
+    Measured::whole(
+        written,
+        part.len(),
+        growth::places(notation, found, written - part.len()),
+    )
 }
 
 // Writes the escaped text to the start of `output`, part by part, leaves the bytes after it as they were, and returns what `measure` does.
@@ -91,6 +78,7 @@ pub fn write(notation: Notation, quotes: Quotes, text: &[u8], output: &mut [u8])
     let mut at: usize = 0;
     let mut places: usize = 0;
     let mut i: usize = 0;
+    // A cursor: each turn moves by a part, whose end depends on its last bytes.
     while i < text.len() {
         let end = cut(text, i, 32);
         let part = write_part(notation, quotes, &text[i..end], &mut output[at..]);
@@ -98,11 +86,5 @@ pub fn write(notation: Notation, quotes: Quotes, text: &[u8], output: &mut [u8])
         places += part.replaced;
         i = end;
     }
-    Measured {
-        length: at,
-        place: i,
-        replaced: places,
-        left: 0,
-        reason: 0,
-    }
+    Measured::whole(at, i, places)
 }

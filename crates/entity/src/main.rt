@@ -9,18 +9,18 @@ use std::io;
 
 // Prints the reply to a request.
 fn print_reply(rt: &HostRuntime, input: &[u8]) -> io::Result<()> {
-    let mut output = [0u8; 65536];
+    let mut output = [0; requests::REPLY_ROOM];
     let n = requests::reply(input, &mut output);
     pipes::write(rt, &output[..n])
 }
 
 // Reads a request, prints the reply, and drops what follows it.
 fn main(rt: HostRuntime) -> io::Result<()> {
-    let mut input = [0u8; requests::ENOUGH];
-    let n = pipes::read_into(&rt, &mut input)?;
-    let printed = print_reply(&rt, &input[..n]);
-    if requests::is_enough(n) {
-        pipes::drop_rest(&rt);
-    }
-    printed
+    let mut input = [0; requests::ENOUGH];
+    pipes::answer(
+        &rt,
+        &mut input,
+        requests::is_enough,
+        |request| print_reply(&rt, request),
+    )
 }

@@ -5,39 +5,26 @@
 use lintelrye::{Answer, Operation};
 use std::io;
 
-// Prints a number and a blank.
-fn print_number(rt: &HostRuntime, n: usize) -> io::Result<()> {
-    print!(rt; "{}", n as u64)?;
-    print!(rt; " ")?;
-    Ok(())
-}
-
-// Prints an answer's seven numbers.
-fn print_answer(rt: &HostRuntime, answer: Answer) -> io::Result<()> {
-    print_number(rt, answer.status)?;
-    print_number(rt, answer.length)?;
-    print_number(rt, answer.same)?;
-    print_number(rt, answer.replaced)?;
-    print_number(rt, answer.place)?;
-    print_number(rt, answer.left)?;
-    print_number(rt, answer.reason)?;
-    Ok(())
-}
-
-// Returns a byte as a wide number.
-fn wide(b: u8) -> u64 {
-    b as u64
+// Prints the number of an example, and an answer's seven numbers.
+fn print_answer(rt: &HostRuntime, example: usize, answer: Answer) -> io::Result<()> {
+    let Answer {
+        status,
+        length,
+        same,
+        replaced,
+        place,
+        left,
+        reason,
+    } = answer;
+    print!(rt; "{example} {status} {length} {same} {replaced} {place} {left} {reason} ")
 }
 
 // Prints bytes in hex, and a line end.
 fn print_bytes(rt: &HostRuntime, bytes: &[u8]) -> io::Result<()> {
-    let mut i = 0;
-    while i < bytes.len() {
-        print!(rt; "{:02x}", wide(bytes[i]))?;
-        i += 1;
+    for byte in bytes {
+        print!(rt; "{byte:02x}")?;
     }
-    print!(rt; "\n")?;
-    Ok(())
+    println!(rt)
 }
 
 // Runs one example with an output that is lent whole, and prints both calls.
@@ -49,48 +36,36 @@ fn show(
     text: &[u8],
     output: &mut [u8],
 ) -> io::Result<()> {
-    print_number(rt, example)?;
-    let lent = lintelrye::call(operation, context, true, text, output);
-    print_answer(rt, lent)?;
-    print_bytes(rt, lintelrye::view(text, output, lent))?;
-    print_number(rt, example)?;
-    let copied = lintelrye::call(operation, context, false, text, output);
-    print_answer(rt, copied)?;
-    print_bytes(rt, lintelrye::view(text, output, copied))?;
+    for borrows in [true, false] {
+        let answer = lintelrye::call(operation, context, borrows, text, output);
+        print_answer(rt, example, answer)?;
+        print_bytes(rt, lintelrye::view(text, output, answer))?;
+    }
     Ok(())
 }
 
 // Runs example 15, 65,536 letters, which pass, and 65,537, which are TOO_LONG, and prints the two answers.
 fn long_texts(rt: &HostRuntime) -> io::Result<()> {
     let letters = [b'a'; 65537];
-    let mut output: [u8; 65536] = [0; 65536];
-    print_number(rt, 15)?;
-    print_answer(
-        rt,
-        lintelrye::encode(lintelrye::TEXT, &letters[..65536], &mut output),
-    )?;
-    print!(rt; "\n")?;
-    print_number(rt, 15)?;
-    print_answer(
-        rt,
-        lintelrye::encode(lintelrye::TEXT, &letters, &mut output),
-    )?;
-    print!(rt; "\n")?;
-    Ok(())
+    let mut output = [0; 65536];
+    let passes = lintelrye::encode(lintelrye::TEXT, &letters[..65536], &mut output);
+    print_answer(rt, 15, passes)?;
+    println!(rt)?;
+    let refused = lintelrye::encode(lintelrye::TEXT, &letters, &mut output);
+    print_answer(rt, 15, refused)?;
+    println!(rt)
 }
 
 // Runs an example of encode with room enough.
 fn encoded(rt: &HostRuntime, example: usize, context: u32, text: &[u8]) -> io::Result<()> {
-    let mut output: [u8; 64] = [0; 64];
-    show(rt, example, Operation::Encode, context, text, &mut output)?;
-    Ok(())
+    let mut output = [0; 64];
+    show(rt, example, Operation::Encode, context, text, &mut output)
 }
 
 // Runs an example of decode with room enough.
 fn decoded(rt: &HostRuntime, example: usize, context: u32, text: &[u8]) -> io::Result<()> {
-    let mut output: [u8; 64] = [0; 64];
-    show(rt, example, Operation::Decode, context, text, &mut output)?;
-    Ok(())
+    let mut output = [0; 64];
+    show(rt, example, Operation::Decode, context, text, &mut output)
 }
 
 // Runs examples 1 to 7: what the encoders write.
@@ -103,8 +78,7 @@ fn encoders(rt: &HostRuntime) -> io::Result<()> {
     encoded(rt, 6, lintelrye::SCRIPT_QUOTED, b"\xe2\x80\xa8")?;
     encoded(rt, 6, lintelrye::SCRIPT_QUOTED, b"\xe2\x80\xaa")?;
     encoded(rt, 7, lintelrye::SCRIPT_RAW, b"<</script")?;
-    encoded(rt, 7, lintelrye::SCRIPT_RAW, b"</scripts>")?;
-    Ok(())
+    encoded(rt, 7, lintelrye::SCRIPT_RAW, b"</scripts>")
 }
 
 // Runs examples 8 and 9: decode of references.
@@ -116,8 +90,7 @@ fn references(rt: &HostRuntime) -> io::Result<()> {
     decoded(rt, 9, lintelrye::TEXT, b"&#0;")?;
     decoded(rt, 9, lintelrye::TEXT, b"&#+65;")?;
     decoded(rt, 9, lintelrye::TEXT, b"&#xD800;")?;
-    decoded(rt, 9, lintelrye::TEXT, b"&#4294967296;")?;
-    Ok(())
+    decoded(rt, 9, lintelrye::TEXT, b"&#4294967296;")
 }
 
 // Runs examples 10, 11 and 13: decode of string escapes.
@@ -129,16 +102,15 @@ fn escapes(rt: &HostRuntime) -> io::Result<()> {
     decoded(rt, 11, lintelrye::STYLE_QUOTED, b"\\3C")?;
     decoded(rt, 11, lintelrye::STYLE_QUOTED, b"\\00 ")?;
     decoded(rt, 13, lintelrye::SCRIPT_QUOTED, b"<\\/SCRIPT ")?;
-    decoded(rt, 13, lintelrye::SCRIPT_QUOTED, b"<\\/script")?;
-    Ok(())
+    decoded(rt, 13, lintelrye::SCRIPT_QUOTED, b"<\\/script")
 }
 
 // Runs examples 12, 14, 15 and 16: places, and outputs that are too short or just long enough.
 fn refusals(rt: &HostRuntime) -> io::Result<()> {
-    let mut of_64: [u8; 64] = [0; 64];
-    let mut of_5: [u8; 5] = [0; 5];
-    let mut of_4: [u8; 4] = [0; 4];
-    let mut of_3: [u8; 3] = [0; 3];
+    let mut of_64 = [0; 64];
+    let mut of_5 = [0; 5];
+    let mut of_4 = [0; 4];
+    let mut of_3 = [0; 3];
     show(
         rt,
         12,
@@ -172,13 +144,12 @@ fn refusals(rt: &HostRuntime) -> io::Result<()> {
         &mut of_64,
     )?;
     show(rt, 16, Operation::Encode, lintelrye::TEXT, b"<", &mut of_3)?;
-    show(rt, 16, Operation::Encode, lintelrye::TEXT, b"<", &mut of_4)?;
-    Ok(())
+    show(rt, 16, Operation::Encode, lintelrye::TEXT, b"<", &mut of_4)
 }
 
 // Runs examples 17 and 18: browse, and the empty text in each operation.
 fn others(rt: &HostRuntime) -> io::Result<()> {
-    let mut of_64: [u8; 64] = [0; 64];
+    let mut of_64 = [0; 64];
     show(
         rt,
         17,
@@ -190,8 +161,7 @@ fn others(rt: &HostRuntime) -> io::Result<()> {
     show(rt, 18, Operation::Encode, lintelrye::TEXT, b"", &mut of_64)?;
     show(rt, 18, Operation::Decode, lintelrye::TEXT, b"", &mut of_64)?;
     show(rt, 18, Operation::Read, lintelrye::TEXT, b"", &mut of_64)?;
-    show(rt, 18, Operation::Browse, lintelrye::TEXT, b"", &mut of_64)?;
-    Ok(())
+    show(rt, 18, Operation::Browse, lintelrye::TEXT, b"", &mut of_64)
 }
 
 // Runs them all.
@@ -201,6 +171,5 @@ fn main(rt: HostRuntime) -> io::Result<()> {
     escapes(&rt)?;
     refusals(&rt)?;
     others(&rt)?;
-    long_texts(&rt)?;
-    Ok(())
+    long_texts(&rt)
 }

@@ -2,17 +2,19 @@
 -- Assumes nothing.
 use mathlib.Core.Bool.{Bool, true, false, ◌||◌, cond}
 use mathlib.Core.Path.{◌≡◌, refl, sym, ap, ◌∙◌, subst}
-use mathlib.Core.List.{List}
+use mathlib.Core.List.{List, ◌++◌}
 use Prim.Native.Nat.{ℕ, zero, suc, ◌+◌, ◌-◌, ◌*◌, ◌/◌, ◌%◌, ◌^◌, ◌≤◌, ◌<◌}
 use native.Mathlib.Omega.{arith}
 use borrow.Author.Tests.{eqb-true, eq-eqb, ne_eqb, ltb-true, ltb-false}
 use lib.Bits.{bit_and, bit_xor, xor_block, and_block, xor_lt}
 use lib.Count.{count_trailing_zeros}
 use lib.Dec.{T, eqb, ltb, eqb→eq}
-use lib.ListN.{length, get_or, get_or-eq_default}
+use lib.ListN.{length, take, drop, get_or, get_or-eq_default}
 use Rattle.rules.proofs.EveryByte.{every_byte_lem}
 use Rattle.base.specs.Places.{Absent, Nearest}
-use Rattle.find_ascii.specs.Words.{word_of, word_at, repeat, hits_of, Ascii, Tells}
+use Rattle.base.proofs.Part.{part_length, parted, cut-within, cut-here}
+use Rattle.std.specs.Int.{w64, from_le_bytes}
+use Rattle.find_ascii.specs.Words.{word_of, word_at, repeat, hits_of, Ascii}
 
 -- ---- zeros below the lowest bit
 
@@ -187,12 +189,64 @@ module _ (t : List ℕ) (ascii : Ascii t) (byte i : ℕ) (small : byte < 128) wh
         less,
       )
 
-  -- So the hits of the eight bytes tell where the byte is.
-  pub hits-tell : i + 8 ≤ length t → (w h : ℕ) → w ≡ word_at t i 8 → h ≡ hits_of (127 - byte) 8 w → Tells t i byte h
-  hits-tell l w h e q =
-      let same : h ≡ hits_of (127 - byte) 8 (word_at t i 8) = q ∙ ap (hits_of (127 - byte) 8) e in
-      (λ z. hits-none (sym same ∙ z), λ n. hits-some l (λ z. n (same ∙ z)) (count_trailing_zeros 64 h / 8) (ap (λ (m : ℕ). count_trailing_zeros 64 m / 8) same))
+  -- So the hits of the eight bytes tell where the byte is: nowhere if they are 0, and else their lowest bit gives the first place.
+  module _ (w h : ℕ) (e : w ≡ word_at t i 8) (q : h ≡ hits_of (127 - byte) 8 w) where
+    same : h ≡ hits_of (127 - byte) 8 (word_at t i 8)
+    same = q ∙ ap (hits_of (127 - byte) 8) e
 
--- Where such a number is not 0, its lowest bit gives the first place.
-pub index-near : (t : List ℕ) (i byte h r : ℕ) → Tells t i byte h → (h ≡ 0 → ⊥) → r ≡ count_trailing_zeros 64 h / 8 → Nearest t i byte (i + r) × (r < 8)
-index-near t i byte h r told some e = subst (λ (r : ℕ). Nearest t i byte (i + r) × (r < 8)) (sym e) (told.1 some)
+    pub told-none : h ≡ 0 → Absent t i (i + 8) byte
+    told-none z = hits-none (sym same ∙ z)
+
+    pub told-some : i + 8 ≤ length t → (h ≡ 0 → ⊥) → (r : ℕ) → r ≡ count_trailing_zeros 64 h / 8 → Nearest t i byte (i + r) × (r < 8)
+    told-some l n r p = hits-some l (λ z. n (same ∙ z)) r (p ∙ ap (λ (m : ℕ). count_trailing_zeros 64 m / 8) same)
+
+-- Eight bytes, as std makes one number of them.
+pub word-same : (v : List ℕ) → from_le_bytes w64 v ≡ word_at v 0 8
+word-same v = omega arith
+
+-- ---- eight bytes of a text
+
+module _ (t : List ℕ) (i : ℕ) (byte : ℕ) where
+  -- The first place in a block of eight that is cut off the text, and in the text.
+  pub cut-near : (x r : List ℕ) (j : ℕ) → i ≤ length t → drop i t ≡ x ++ r → length x ≡ 8 → Nearest x 0 byte j × (j < 8) → Nearest t i byte (i + j) × (j < 8)
+  cut-near x r j h e s (q, l) =
+      let whole = cut-within t x r i 8 h e s in
+      let here = cut-here t x r i 8 h e s in
+      let back : i + j - i ≡ j = omega arith in (
+        record {
+          after = omega arith;
+          within = omega (arith, l, whole);
+          none = λ k a b z. q.none (k - i) (omega arith) (omega arith) (here k a (omega (arith, b, l)) ∙ z);
+          here = λ m. sym (here (i + j) (omega arith) (omega (arith, l))) ∙ ap (λ (n : ℕ). get_or x n 0) back ∙ q.here (omega (arith, l, s));
+        },
+        l,
+      )
+
+  pub cut-absent : (x r : List ℕ) → i ≤ length t → drop i t ≡ x ++ r → length x ≡ 8 → Absent x 0 8 byte → Absent t i (i + 8) byte
+  cut-absent x r h e s f k a b z = f (k - i) (omega arith) (omega arith) (cut-here t x r i 8 h e s k a b ∙ z)
+
+  pub cut-ascii : (x r : List ℕ) → i ≤ length t → drop i t ≡ x ++ r → length x ≡ 8 → Ascii t → Ascii x
+  cut-ascii x r h e s f k l =
+      let back : i + k - i ≡ k = omega arith in
+      let same = ap (λ (n : ℕ). get_or x n 0) (sym back) ∙ cut-here t x r i 8 h e s (i + k) (omega arith) (omega (arith, l, s)) in
+      omega (arith, same, f (i + k) (omega (arith, l, s, cut-within t x r i 8 h e s)))
+
+-- The eight bytes of a text from i up to e, as a call that is lent them sees them.
+module _ (t : List ℕ) (i e : ℕ) (n : e ≡ i + 8) (h : i + 8 ≤ length t) where
+  abbrev lent : List ℕ
+  lent = take (e - i) (drop i t)
+
+  long : length lent ≡ 8
+  long = omega (arith, n, part_length t i e (omega (arith, n)) (omega (arith, n, h)))
+
+  split : drop i t ≡ lent ++ drop e t
+  split = sym (parted t i e (omega (arith, n)))
+
+  pub eight-near : (byte j : ℕ) → Nearest lent 0 byte j × (j < 8) → Nearest t i byte (i + j) × (j < 8)
+  eight-near byte j = cut-near t i byte lent (drop e t) j (omega arith) split long
+
+  pub eight-absent : (byte : ℕ) → Absent lent 0 8 byte → Absent t i (i + 8) byte
+  eight-absent byte = cut-absent t i byte lent (drop e t) (omega arith) split long
+
+  pub eight-ascii : Ascii t → (length lent ≡ 8) × Ascii lent
+  eight-ascii f = (long, cut-ascii t i 0 lent (drop e t) (omega arith) split long f)

@@ -1,9 +1,7 @@
--- Some bytes of a text as one number, and where a byte is among them.
+-- Some bytes of a text as one number.
 -- Assumes nothing.
-use Rattle.std.specs.Prelude.{List, ◌≡◌, ℕ, zero, suc, ◌+◌, ◌*◌, ◌/◌, ◌<◌, length, get_or}
+use Rattle.std.specs.Prelude.{List, ℕ, zero, suc, ◌+◌, ◌*◌, ◌<◌, length, get_or}
 use Rattle.std.specs.Int.Bits.{bit_and, bit_xor}
-use Rattle.std.specs.Int.Count.{count_trailing_zeros}
-use Rattle.base.specs.Places.{Absent, Nearest}
 
 -- The first n of some bytes as a number, the first lowest.
 abbrev pub word_of : (ℕ → ℕ) → ℕ → ℕ
@@ -25,7 +23,3 @@ hits_of k n w = bit_and (bit_xor (w + repeat (suc k) n) (w + repeat k n)) (repea
 -- Every byte is ASCII.
 abbrev pub Ascii : List ℕ → Type 0
 Ascii t = (k : ℕ) → k < length t → get_or t k 0 < 128
-
--- A number that tells of the eight bytes from place i on: it is 0 if none of them is the byte, and else its lowest bit is in the first that is.
-abbrev pub Tells : List ℕ → ℕ → ℕ → ℕ → Type 0
-Tells t i byte h = (h ≡ 0 → Absent t i (i + 8) byte) × ((h ≡ 0 → ⊥) → Nearest t i byte (i + count_trailing_zeros 64 h / 8) × (count_trailing_zeros 64 h / 8 < 8))

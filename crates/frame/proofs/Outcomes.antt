@@ -10,7 +10,8 @@ use lib.Dec.{eqb}
 use lib.ListN.{length as size}
 use Rattle.rules.specs.Bytes.{over}
 use Rattle.rules.specs.Moves.{Rule, result, replaced, taken, first_of, through}
-use Rattle.rules.specs.Answers.{Measures}
+use Rattle.rules.specs.Answers.{Measures, whole as whole_of}
+use Rattle.std.specs.Prelude.{None}
 use Rattle.rules.specs.Reading.{read_step}
 use Rattle.rules.specs.Refusals.{refusal, success}
 use Rattle.rules.specs.declared.Answer.{Answer}
@@ -33,16 +34,16 @@ module _ (job : Job) (c : Context) (is : job ≡ Read c) (t : List ℕ) (w : Who
   whole = job-whole (Read c) t (omega (arith, w.2))
 
   -- Nothing is replaced.
-  pub quick-same : replaced (through (read_step c) t) ≡ 0 → Same (rule_by job) t 0 0
+  pub quick-same : replaced (through (read_step c) t) ≡ 0 → Same (rule_by job) t None
   unfolding rule_by
   quick-same z =
-      subst (λ (job : Job). Same (rule_by job) t 0 0) (sym is)
+      subst (λ (job : Job). Same (rule_by job) t None) (sym is)
       (record {
         short = w.0;
         valid = w.1;
         whole = whole;
         none = z;
-        first = ap first_of (no-lefts (read_step c) (read-leaveless c) 0 0 0 t);
+        first = sym (ap first_of (no-lefts (read_step c) (read-leaveless c) 0 0 0 t));
       })
 
   module _ (n : replaced (through (read_step c) t) ≡ 0 → ⊥) where
@@ -60,10 +61,10 @@ module _ (job : Job) (c : Context) (is : job ≡ Read c) (t : List ℕ) (w : Who
         (room_row (read_step c) borrows t out w.0 w.1 whole (copies borrows) k e l)
 
     -- or it is written.
-    pub quick-written : (borrows : Bool) (out : List ℕ) (k r : ℕ) → Measures (record { length = k; place = size t; replaced = r; left = 0; reason = 0 }) (through (read_step c) t)
+    pub quick-written : (borrows : Bool) (out : List ℕ) (k r : ℕ) → Measures (whole_of k (size t) r) (through (read_step c) t)
         → size (result (through (read_step c) t)) ≤ size out
         → Leaves (rule_by job) borrows t out (success k r (0, 0)) (over (result (through (read_step c) t)) out)
     unfolding rule_by
     quick-written borrows out k r m l =
         subst (λ (job : Job). Leaves (rule_by job) borrows t out (success k r (0, 0)) (over (result (through (read_step c) t)) out)) (sym is)
-        (written_row (read_step c) borrows t out w.0 w.1 whole (copies borrows) (record { length = k; place = size t; replaced = r; left = 0; reason = 0 }) m l)
+        (written_row (read_step c) borrows t out w.0 w.1 whole (copies borrows) (whole_of k (size t) r) m l)

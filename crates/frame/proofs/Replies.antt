@@ -15,7 +15,11 @@ use Rattle.rules.specs.Refusals.{case_by, answer_at, text_limit, answer_by}
 use Rattle.rules.specs.declared.Reason.{Reason}
 use Rattle.rules.specs.declared.Reason.TheVariants.{NoEnd, Empty, UnknownName, NoDigit, NotAllowed}
 use Rattle.rules.proofs.Refused.{chosen}
+use Rattle.rules.specs.declared.Answer.{Answer}
+use Rattle.std.specs.Prelude.{Result, Ok, Err, MatchResult}
+use Rattle.frame.specs.Refused.{refused, answer_in}
 use Rattle.frame.specs.Replies.{Small}
+use Rattle.frame.specs.declared.refusals.Refusal.{Refusal}
 
 reason-small : (ls : List (ℕ × Reason)) → (first_of ls).1 < 0x100
 reason-small [] = omega arith
@@ -52,3 +56,8 @@ answer-small (some rule) borrows t out =
     rows t (through rule t) (ltb text_limit (size t)) (ltb (valid_to t) (size t)) (is_cut (drop (valid_to t) t)) (ltb (place (through rule t)) (size t)) (eqb (why_at rule t) 10)
     (borrows && eqb (replaced (through rule t)) 0) (ltb (size out) (size (result (through rule t))))
     (ltb-false text_limit (size t)) (ltb-true (valid_to t) (size t)) (ltb-true (place (through rule t)) (size t))
+
+-- The answer of a call, where a refusal is told as one.
+pub answered : (r : Result Answer Refusal) (a : Answer) → MatchResult r (λ x. a ≡ x) (λ why. a ≡ refused why) → a ≡ answer_in r
+answered (Ok x) a h = h
+answered (Err why) a h = h

@@ -6,8 +6,8 @@ use mathlib.Core.Path.{◌≡◌, refl, sym, ap, ◌∙◌, subst}
 use mathlib.Core.List.{List, []}
 use Prim.Native.Nat.{ℕ, ◌+◌, ◌-◌, ◌*◌, ◌/◌, ◌≤◌, ◌<◌}
 use native.Mathlib.Omega.{arith}
-use borrow.Author.Tests.{leb-true, ne_eqb}
-use lib.Dec.{eqb, leb}
+use borrow.Author.Tests.{ne_eqb}
+use lib.Dec.{eqb}
 use lib.ListN.{length as size, take, drop}
 use Rattle.rules.specs.Moves.{Move, Rule, result, replaced, lefts, first_of, taken, place, through, before, why, why_at}
 use Rattle.rules.specs.Bytes.{any, stands, Range}
@@ -19,9 +19,9 @@ use Rattle.rules.specs.Reading.{undo, unless, read_by, rule_back, read_step}
 use Rattle.rules.specs.Json.{json_step}
 use Rattle.rules.specs.Browsing.{browse_step}
 use Rattle.rules.specs.Operations.{decode_step, raw_of}
-use Rattle.rules.specs.Answers.{Measures}
+use Rattle.rules.specs.Answers.{Measures, whole}
 use Rattle.rules.specs.declared.Context.{Context}
-use Rattle.rules.specs.declared.Context.TheVariants.{InHtml, InScript, InStyle, InJson, InAscii}
+use Rattle.rules.specs.declared.Context.TheVariants.{InHtml, InJson, InAscii}
 use Rattle.rules.specs.declared.Html.{Html}
 use Rattle.rules.specs.declared.Html.TheVariants.{Text, Quoted}
 use Rattle.rules.specs.declared.Kind.{Kind}
@@ -34,12 +34,20 @@ use Rattle.rules.proofs.Reasons.{no-lefts, encode-leaveless, raw-leaveless}
 use Rattle.base.proofs.Filled.{lent-rest}
 use Rattle.encode_html.specs.declared.Scan.{Scan}
 use Rattle.encode_ascii.proofs.Grown.{low-quoted}
-use Rattle.jobs.specs.Jobs.{rule_by, counted_for, Low, Counts, Seen}
-use Rattle.jobs.specs.declared.work.Counted.TheVariants.{In}
+use Rattle.rules.specs.Contexts.{string_of, written_in}
+use Rattle.rules.specs.declared.Language.{Language}
+use Rattle.rules.specs.declared.Language.TheVariants.{Script, Style}
+use Rattle.rules.specs.declared.Quotes.{Quotes}
+use Rattle.std.specs.Prelude.{Some}
+use Rattle.jobs.specs.Jobs.{rule_by, counted_for, Fits, Low, Counts, Seen}
 use Rattle.jobs.specs.declared.job.Job.{Job}
-use Rattle.jobs.specs.declared.job.Job.TheVariants.{EncodeHtml, EncodeScript, EncodeStyle, EncodeRaw, EncodeJson, EncodeAscii, DecodeReferences, BrowseReferences, DecodeScript, DecodeStyle, DecodeJson, Read}
+use Rattle.jobs.specs.declared.job.Job.TheVariants.{EncodeHtml, EncodeString, EncodeRaw, EncodeAscii, DecodeReferences, DecodeString, DecodeJson, BrowseReferences, Read}
 use Rattle.rules.specs.declared.Measured.{Measured}
-use Rattle.rules.specs.declared.Reason.{Reason}
+
+-- A string's escapes are decoded to the end of the text.
+pub strings-endless : (language : Language) (q : Quotes) → Endless (string_of language q)
+strings-endless Script q = tt
+strings-endless Style q = tt
 
 -- ---- a job takes the whole text
 
@@ -47,16 +55,13 @@ use Rattle.rules.specs.declared.Reason.{Reason}
 pub job-whole : (job : Job) (t : List ℕ) → size t ≤ place (through (rule_by job) t) → taken (through (rule_by job) t) ≡ t
 unfolding rule_by decode_step
 job-whole (EncodeHtml h) t e = encode-whole (InHtml h) t
-job-whole (EncodeScript q) t e = encode-whole (InScript q) t
-job-whole (EncodeStyle q) t e = encode-whole (InStyle q) t
+job-whole (EncodeString notation q) t e = encode-whole (written_in notation q) t
 job-whole EncodeRaw t e = raw-whole t
-job-whole EncodeJson t e = encode-whole InJson t
 job-whole EncodeAscii t e = encode-whole InAscii t
 job-whole DecodeReferences t e = decode-whole (InHtml Text) tt t
-job-whole (BrowseReferences kind) t e = browse-whole kind t
-job-whole (DecodeScript q) t e = decode-whole (InScript q) tt t
-job-whole (DecodeStyle q) t e = decode-whole (InStyle q) tt t
+job-whole (DecodeString language q) t e = decode-whole (string_of language q) (strings-endless language q) t
 job-whole DecodeJson t e = decode-whole-if InJson t e
+job-whole (BrowseReferences kind) t e = browse-whole kind t
 job-whole (Read c) t e = read_whole c t e
 
 -- ---- why a job stops
@@ -91,15 +96,13 @@ read-four c p s = ruled (rule_back c s) (by_rule c (char_at s))
 pub four-only : (job : Job) (t : List ℕ) → (job ≡ DecodeJson → ⊥) → place (through (rule_by job) t) < size t → eqb (why_at (rule_by job) t) 10 ≡ false
 unfolding rule_by decode_step
 four-only (EncodeHtml h) t n l = absurd (goes_on_lem (encode_step (InHtml h)) t (encode-whole (InHtml h) t) l)
-four-only (EncodeScript q) t n l = absurd (goes_on_lem (encode_step (InScript q)) t (encode-whole (InScript q) t) l)
-four-only (EncodeStyle q) t n l = absurd (goes_on_lem (encode_step (InStyle q)) t (encode-whole (InStyle q) t) l)
+four-only (EncodeString notation q) t n l = absurd (goes_on_lem (encode_step (written_in notation q)) t (encode-whole (written_in notation q) t) l)
 four-only EncodeRaw t n l = absurd (goes_on_lem raw_step t (raw-whole t) l)
-four-only EncodeJson t n l = absurd (goes_on_lem (encode_step InJson) t (encode-whole InJson t) l)
 four-only EncodeAscii t n l = absurd (goes_on_lem (encode_step InAscii) t (encode-whole InAscii t) l)
 four-only DecodeReferences t n l = absurd (goes_on_lem (decode_step (InHtml Text)) t (decode-whole (InHtml Text) tt t) l)
 four-only (BrowseReferences kind) t n l = absurd (goes_on_lem (browse_step kind) t (browse-whole kind t) l)
-four-only (DecodeScript q) t n l = absurd (goes_on_lem (decode_step (InScript q)) t (decode-whole (InScript q) tt t) l)
-four-only (DecodeStyle q) t n l = absurd (goes_on_lem (decode_step (InStyle q)) t (decode-whole (InStyle q) tt t) l)
+four-only (DecodeString language q) t n l =
+    absurd (goes_on_lem (decode_step (string_of language q)) t (decode-whole (string_of language q) (strings-endless language q) t) l)
 four-only DecodeJson t n l = absurd (n refl)
 four-only (Read c) t n l = ne_eqb (why_at (read_step c) t) 10 (read-four c (before t (place (through (read_step c) t))) (drop (place (through (read_step c) t)) t))
 
@@ -112,41 +115,32 @@ half-there t p e b f =
 
 -- ---- any result has room
 
--- A rule takes all of a text, and a room has place for the result.
-abbrev pub Fits : Rule → List ℕ → ℕ → Type 0
-Fits rule t room = (taken (through rule t) ≡ t) × (size (result (through rule t)) ≤ room)
+pub encode-fits : (c : Context) → Sixfold c → (t : List ℕ) (room : ℕ) → 6 * size t ≤ room → Fits (encode_step c) t room
+encode-fits c w t room e = (encode-whole c t, omega (arith, encode-six c w t))
 
-pub encode-fits : (c : Context) → Sixfold c → (t : List ℕ) (room : ℕ) → leb (6 * size t) room ≡ true → Fits (encode_step c) t room
-encode-fits c w t room e = (encode-whole c t, omega (arith, encode-six c w t, leb-true (6 * size t) room e))
+pub raw-fits : (t : List ℕ) (room : ℕ) → 6 * size t ≤ room → Fits raw_step t room
+raw-fits t room e = (raw-whole t, omega (arith, raw-six t))
 
-pub raw-fits : (t : List ℕ) (room : ℕ) → leb (6 * size t) room ≡ true → Fits raw_step t room
-raw-fits t room e = (raw-whole t, omega (arith, raw-six t, leb-true (6 * size t) room e))
+pub browse-fits : (kind : Kind) (t : List ℕ) (room : ℕ) → size t + size t / 5 ≤ room → Fits (browse_step kind) t room
+browse-fits kind t room e = (browse-whole kind t, omega (arith, browse-fifth kind t))
 
-pub browse-fits : (kind : Kind) (t : List ℕ) (room : ℕ) → leb (size t + size t / 5) room ≡ true → Fits (browse_step kind) t room
-browse-fits kind t room e = (browse-whole kind t, omega (arith, browse-fifth kind t, leb-true (size t + size t / 5) room e))
-
-pub decode-fits : (c : Context) → Endless c → (t : List ℕ) (room : ℕ) → leb (size t + size t / 5) room ≡ true → Fits (decode_step c) t room
-decode-fits c w t room e = (decode-whole c w t, omega (arith, decode-fifth c t, leb-true (size t + size t / 5) room e))
+pub decode-fits : (c : Context) → Endless c → (t : List ℕ) (room : ℕ) → size t + size t / 5 ≤ room → Fits (decode_step c) t room
+decode-fits c w t room e = (decode-whole c w t, omega (arith, decode-fifth c t))
 
 -- ---- what is measured
 
--- Of moves that take a whole text and leave no reference, what `whole` answers is what is measured.
+-- Of moves that take a whole text and leave no reference, what `whole` says is what is measured.
 pub whole-found : {found : Measured} {ms : List Move} {n k : ℕ} (t : List ℕ) → taken ms ≡ t → n ≡ size (result ms) → k ≡ replaced ms → lefts ms ≡ []
-    → (found.length ≡ n) × (found.place ≡ size t) × (found.replaced ≡ k) × (found.left ≡ 0) × (found.reason ≡ 0) → Measures found ms
-whole-found t w e f g a = record {
-  reach = a.1 ∙ ap size (sym w);
-  long = a.0 ∙ e;
-  many = a.2 ∙ f;
-  first = (a.3 ∙ ap (λ (ls : List (ℕ × Reason)). (first_of ls).0) (sym g), a.4 ∙ ap (λ (ls : List (ℕ × Reason)). (first_of ls).1) (sym g));
-}
+    → found ≡ whole n (size t) k → Measures found ms
+whole-found t w e f g a = rw a (record { reach = ap size (sym w); long = e; many = f; first = sym (ap first_of g) })
 
 -- So it is of an encoder.
 pub encode-found : {found : Measured} {n k : ℕ} (c : Context) (t : List ℕ) → n ≡ size (result (through (encode_step c) t)) → k ≡ replaced (through (encode_step c) t)
-    → (found.length ≡ n) × (found.place ≡ size t) × (found.replaced ≡ k) × (found.left ≡ 0) × (found.reason ≡ 0) → Measures found (through (encode_step c) t)
+    → found ≡ whole n (size t) k → Measures found (through (encode_step c) t)
 encode-found c t e f a = whole-found t (encode-whole c t) e f (no-lefts (encode_step c) (encode-leaveless c) 0 0 0 t) a
 
 -- What was counted for an HTML encoder is of its context.
-pub html-counts : {job : Job} {h : Html} (scan : Scan) (t : List ℕ) → job ≡ EncodeHtml h → Seen job scan t → Counts (In h) scan t
+pub html-counts : {job : Job} {h : Html} (scan : Scan) (t : List ℕ) → job ≡ EncodeHtml h → Seen job scan t → Counts (Some h) scan t
 html-counts scan t e seen = subst (λ (job : Job). Counts (counted_for job) scan t) e seen.1
 
 -- Through an ASCII text the moves of ascii_quoted are those of `quoted`.
@@ -154,10 +148,8 @@ pub ascii-moves : (t : List ℕ) (high : ℕ) → Low high t → high ≡ 0 → 
 ascii-moves t high low e = low-quoted t (low e)
 
 -- So is what `by_ones` answers of script_raw.
-pub raw-found : {found : Measured} {n : ℕ} (t : List ℕ) → n ≡ size (raw_of t) → (found.length ≡ n) × (found.place ≡ size t) × (found.replaced + size t ≡ n) × (found.left ≡ 0) × (found.reason ≡ 0)
-    → Measures found (through raw_step t)
-raw-found {found} t e b =
-    whole-found t (raw-whole t) e refl (no-lefts raw_step raw-leaveless 0 0 0 t) (b.0, b.1, omega (arith, b.2, e, raw-replaced t), b.3, b.4)
+pub raw-found : {found : Measured} {n : ℕ} (t : List ℕ) → n ≡ size (raw_of t) → found ≡ whole n (size t) (n - size t) → Measures found (through raw_step t)
+raw-found t e a = whole-found t (raw-whole t) e (omega (arith, e, raw-replaced t)) (no-lefts raw_step raw-leaveless 0 0 0 t) a
 
 -- It has room for the text.
 pub raw-longer : (t : List ℕ) (n : ℕ) → n ≡ size (raw_of t) → size t ≤ n

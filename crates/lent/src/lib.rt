@@ -2,7 +2,7 @@
 // call of crate stream, and puts the state after it back where the call passed.
 #![tactic(auto)]
 
-ghost use Rattle.std.specs.Prelude.{true, false, cond, [], ◌≡◌};
+ghost use Rattle.std.specs.Prelude.{true, false, [], ◌≡◌};
 ghost use Rattle.lent.specs.Lent.{state_of, PartLent, Kept};
 
 use rules::{Answer, RawPart, RawState};
@@ -11,36 +11,25 @@ use rules::{Answer, RawPart, RawState};
 fn state_in(held: &[u8; 8], numbers: &[usize; 3]) -> RawState
     ensures { result ≡ state_of held.now numbers.now }
 {
-    let bytes = *held;
     RawState {
-        held: bytes,
+        held: *held,
         count: numbers[0],
         done: numbers[1],
         finished: numbers[2] != 0,
     }
 }
 
-// Returns 1 where the script is finished, else 0.
-fn flag(finished: bool) -> usize
-    ensures { result ≡ cond finished 1 0 }
-{
-    if finished { 1 } else { 0 }
-}
-
 // Puts the state after a call that passed into the two arrays. A refused call leaves every bit of them as it was.
 fn keep(part: RawPart, held: &mut [u8; 8], numbers: &mut [usize; 3]) -> Answer
     ensures { (result ≡ part.answer) × Kept part held.old numbers.old held.new numbers.new }
 {
-    let answer = part.answer;
-    if answer.status != rules::PASSED {
-        return answer;
+    if part.answer.status == rules::PASSED {
+        let state = part.state;
+        let bytes = state.held;
+        *held = bytes;
+        *numbers = [state.count, state.done, usize::from(state.finished)];
     }
-    let state = part.state;
-    let bytes = state.held;
-    let counts = [state.count, state.done, flag(state.finished)];
-    *held = bytes;
-    *numbers = counts;
-    answer
+    part.answer
 }
 
 // Encodes a part: `stream::script_raw_part` over the lent state.

@@ -88,7 +88,9 @@ pub fn encode(context: u32, text: &[u8], output: &mut [u8]) -> Answer
     call(Operation::Encode, context, false, text, output)
 }
 
-// Escapes as `encode` does, as a borrowing call: where nothing is replaced it writes nothing and needs no room.
+// Escapes as `encode` does, as a borrowing call: where nothing is replaced it writes nothing and
+// needs no room. Each operation has both calls, since C has a name for each; `call` is the one with
+// the operation and the kind of call as values.
 pub fn encode_borrowing(context: u32, text: &[u8], output: &mut [u8]) -> Answer
     ensures { Allowed Encode (context_of context) true text.now output.old result output.new }
 {
@@ -133,7 +135,7 @@ pub fn check(context: u32, text: &[u8]) -> Checked
 {
     let mut none: [u8; 0] = [0; 0];
     let reply = frame::replied(Operation::Read, context, false, text, &mut none);
-    without_output(frame::answer_of(reply))
+    without_output(Answer::from(reply))
 }
 
 // Undoes exactly what encode writes and refuses everything else: of what encode wrote it returns the text that was typed. One exception: encode writes

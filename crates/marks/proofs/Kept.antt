@@ -8,8 +8,10 @@ use native.Mathlib.Omega.{arith}
 use native.Mathlib.Numerals.{add-one}
 use borrow.Author.Tests.{ltb-true, ltb-false}
 use lib.Dec.{ltb}
-use lib.ListN.{length, get_or, set, length-set}
-use lib.Seq.{get_or-set_same, get_or-set_other}
+use Rattle.std.proofs.Common.{min}
+use Rattle.std.proofs.lemmas.List.{length-take}
+use lib.ListN.{length, take, get_or, set, length-set}
+use lib.Seq.{get_or-set_same, get_or-set_other, get_or-take}
 use Rattle.base.specs.Places.{Nearest}
 use Rattle.marks.specs.Marks.{end_by, start_of, Marked}
 
@@ -40,6 +42,20 @@ module _ (size : ℕ → ℕ) (mark : ℕ) (t places : List ℕ) (n i : ℕ) whe
   -- From the end of this one on the next is searched.
   pub start-next : n + 1 ≤ length (set places n i) → start_of size t (set places n i) (n + 1) ≡ end_by size t i
   start-next h = rw add-one (ap (end_by size t) (get_or-set_same places n i 0 (omega (arith, h, length-set places n i))))
+
+-- The first of the places that are kept.
+pub marked-take : (size : ℕ → ℕ) (mark : ℕ) (t places : List ℕ) (count n : ℕ) → n ≤ count → Marked size mark t places count → Marked size mark t (take n places) (length (take n places))
+marked-take size mark t places count n h m k l s = rw (start-take k (omega (arith, size-is, l)), at k (omega (arith, size-is, l))) (m k (omega (arith, size-is, l, h)) (omega (arith, size-is, l)))
+  where
+    size-is : length (take n places) ≡ min n (length places)
+    size-is = length-take n places
+
+    at : (k : ℕ) → k < n → get_or (take n places) k 0 ≡ get_or places k 0
+    at k h = get_or-take n places k 0 h
+
+    start-take : (k : ℕ) → k < n → start_of size t (take n places) k ≡ start_of size t places k
+    start-take zero h = refl
+    start-take (suc k) h = ap (end_by size t) (at k (omega arith))
 
 -- The same where places are read.
 pub start-after : (size : ℕ → ℕ) (t places : List ℕ) (k p : ℕ) → p ≡ get_or places k 0 → start_of size t places (k + 1) ≡ end_by size t p

@@ -1,5 +1,6 @@
 // What the quick readers share: a list of the offsets of a text's units, kept while the text is measured and used while the result is written; and the copying
 // of what stands between two units.
+// The list is an array on the caller's stack, with the count of what it holds beside: there is no heap, and a slice of what is kept would be cut anew at each unit.
 #![tactic(auto)]
 
 ghost use Rattle.std.specs.Prelude.{◌≡◌, ◌-◌, ◌≤◌, ◌<◌, length, set, take};
@@ -18,13 +19,6 @@ pub fn keep(places: &mut [u16], k: usize, at: usize)
     }
 }
 
-// Returns a kept offset.
-pub fn offset(place: u16) -> usize
-    ensures { result ≡ place }
-{
-    place as usize
-}
-
 // Copies the text from `from` up to `mark` to the start of `output`, and returns how many bytes these are. A short run is copied as sixteen bytes, where there
 // are as many, so that no branch has to guess its length; what is copied past it is overwritten by what follows.
 pub fn put_ahead(text: &[u8], from: usize, mark: usize, output: &mut [u8]) -> usize
@@ -34,11 +28,9 @@ pub fn put_ahead(text: &[u8], from: usize, mark: usize, output: &mut [u8]) -> us
     if mark == from {
         return 0;
     }
-    if mark - from <= AHEAD {
-        if AHEAD <= base::min(text.len() - from, output.len()) {
-            base::put_short(&text[from..from + AHEAD], output);
-            return mark - from;
-        }
+    if mark - from <= AHEAD && AHEAD <= output.len().min(text.len() - from) {
+        base::put_short(&text[from..from + AHEAD], output);
+        return mark - from;
     }
     base::put_run(&text[from..mark], output)
 }

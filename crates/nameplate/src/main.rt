@@ -23,33 +23,25 @@ fn escape_title(name: &[u8], output: &mut [u8]) -> Answer
 
 // Prints a plate, or that the name was refused and why.
 fn print_plate(rt: &HostRuntime, name: &[u8]) -> io::Result<()> {
-    let mut title: [u8; 240] = [0; 240];
-    let mut text: [u8; 240] = [0; 240];
+    let mut title = [0; 240];
+    let mut text = [0; 240];
     let first = escape_title(name, &mut title);
     let second = lintelrye::encode(lintelrye::TEXT, name, &mut text);
-    let status = if first.status == lintelrye::PASSED {
-        second.status
-    } else {
-        first.status
-    };
-    if status != lintelrye::PASSED {
-        print!(rt; "refused with status ")?;
-        print!(rt; "{}", status as u64)?;
-        print!(rt; "\n")?;
-        return Ok(());
+    for answer in [first, second] {
+        if answer.status != lintelrye::PASSED {
+            return println!(rt; "refused with status {}", answer.status);
+        }
     }
     print!(rt; "<p title=\"")?;
     io::writer(rt).write_all(lintelrye::view(name, &title, first))?;
     print!(rt; "\">")?;
     io::writer(rt).write_all(lintelrye::view(name, &text, second))?;
-    print!(rt; "</p>\n")?;
-    Ok(())
+    println!(rt; "</p>")
 }
 
 // Prints the plates of two names, and of a third that is cut within a character.
 fn main(rt: HostRuntime) -> io::Result<()> {
     print_plate(&rt, b"Mum & Dad's")?;
     print_plate(&rt, b"The \"den\" <attic>")?;
-    print_plate(&rt, b"cut \xC3")?;
-    Ok(())
+    print_plate(&rt, b"cut \xC3")
 }

@@ -170,13 +170,8 @@ pub unnamed : (name : List ℕ) → length name ≡ 0 → none ≡ lookup names 
 unnamed [] e = sym empty-unnamed
 unnamed (x ∷ s) e = let f : ⊥ = omega arith in absurd f
 
--- Any other name is its first byte and the rest.
-pub spelled : (name : List ℕ) → (length name ≡ 0 → ⊥) → lookup names (get_or name 0 0 ∷ take (length name - 1) (drop 1 name)) ≡ lookup names name
-spelled [] h = absurd (h refl)
-spelled (x ∷ s) h = let e : length s ≤ length (x ∷ s) - 1 = omega arith in ap (λ (rest : List ℕ). lookup names (x ∷ rest)) (take_all (length (x ∷ s) - 1) s e)
-
 -- ---- a known name
 
 -- A name that is the same as one that is known to be in the table.
-pub known : (key v name : List ℕ) → lookup names key ≡ some v → same_bytes key name ≡ true → lookup names name ≡ some v
-known key v name e s = rw (same_bytes_lem key name (rw s tt)) at e
+pub known : (key v name : List ℕ) → lookup names key ≡ some v → name ≡ key → lookup names name ≡ some v
+known key v name e s = rw s e

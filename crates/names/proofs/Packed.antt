@@ -72,8 +72,12 @@ module _ {value : ℕ} {out₀ out : List ℕ} {rest n : ℕ} (u : Unpacked valu
   pub unpacked-zero : rest ≡ 0 → unpack_to (6 - n) rest ≡ []
   unpacked-zero e = rw e (unpack-zero (6 - n))
 
-  pub unpacked-six : 6 ≤ n → unpack_to (6 - n) rest ≡ []
-  unpacked-six h = let z : 6 - n ≡ 0 = omega arith in rw z
+  -- six bytes are written
+  pub unpacked-six : 6 ≤ n → (6 ≡ length (unpack_to 6 value)) × (6 ≤ 6) × (out ≡ over (unpack_to 6 value) out₀)
+  unpacked-six h =
+      let z : 6 - n ≡ 0 = omega arith in
+      let e : n ≡ 6 = omega (arith, u.most) in
+      rw e at (unpacked-end (rw z))
 
   module _ (h : n < 6) (z : rest ≡ 0 → ⊥) where
     next : unpack_to (6 - n) rest ≡ (rest % 256) ∷ unpack_to (6 - (n + 1)) (rest / 256)

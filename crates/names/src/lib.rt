@@ -2,73 +2,50 @@
 #![tactic(auto)]
 
 ghost use Rattle.std.proofs.Math.Option.{some};
-ghost use Rattle.std.specs.Prelude.{◌≡◌, ◌≤◌, ◌<◌, length, get_or};
+ghost use Rattle.std.specs.Prelude.{◌≡◌, ◌≤◌, IfSome, length};
 ghost use Rattle.rules.specs.Bytes.{over};
 ghost use Rattle.rules.specs.Names.{names};
 ghost use Rattle.rules.specs.References.{lookup};
 ghost use Rattle.rules.specs.Answers.{value_bytes, meaning_bytes};
 ghost use Rattle.rules.specs.declared.DecodedEntityValue.TheVariants.{Named};
 
-use rules::{DecodedEntityValue, Meaning};
+use rules::DecodedEntityValue;
 
 mod by_letter;
 
-// Returns the packed value of one of the most common names, 0 for any other name: a few comparisons in place of a search. `amp` is not among them,
-// since the decoder knows `&amp;`, and `&lt;` and `&gt;` before the last four bytes of a text, without their names.
-fn common(name: &[u8]) -> u64
-    ensures { 0 < result → lookup names name.now ≡ some (value_bytes (Named result)) }
+// Returns the value of one of the most common names: a few comparisons in place of a search. `amp` is not among them, since the decoder knows `&amp;`,
+// and `&lt;` and `&gt;` before the last four bytes of a text, without their names.
+fn common(name: &[u8]) -> Option<DecodedEntityValue>
+    ensures { IfSome result (λ v. lookup names name.now ≡ some (value_bytes v)) }
 {
-    if names_search::same(b"lt", name) {
-        return 0x3C; // <
-    }
-    if names_search::same(b"gt", name) {
-        return 0x3E; // >
-    }
-    if names_search::same(b"quot", name) {
-        return 0x22; // "
-    }
-    if names_search::same(b"apos", name) {
-        return 0x27; // '
-    }
-    if names_search::same(b"nbsp", name) {
-        return 0xA0C2; // U+00A0, the first byte lowest
-    }
-    0
-}
-
-// Returns the first byte of a part of a name; 0 if it has none.
-fn first_byte(name: &[u8]) -> u8
-    ensures { (result ≡ get_or name.now 0 0) × (result ≤ 255) }
-{
-    if name.len() == 0 {
-        return 0;
-    }
-    name[0]
+    let packed = match name {
+        b"lt" => 0x3C, // <
+        b"gt" => 0x3E, // >
+        b"quot" => 0x22, // "
+        b"apos" => 0x27, // '
+        b"nbsp" => 0xA0C2, // U+00A0, the first byte lowest
+        _ => return None,
+    };
+    Some(DecodedEntityValue::Named(packed))
 }
 
 // Returns the value of a name, by its first letter.
-fn find_in_group(name: &[u8]) -> Meaning
+fn find_in_group(name: &[u8]) -> Option<DecodedEntityValue>
     ensures { meaning_bytes result ≡ lookup names name.now }
 {
-    if name.len() == 0 {
-        return Meaning::Nothing;
-    }
-    let second = first_byte(&name[1..]);
-    by_letter::find_by_letter(name[0], second, &name[1..])
+    let (first, rest) = name.split_first()?;
+    by_letter::find_by_letter(*first, rest)
 }
 
 // Returns the value of a name: the common names are tested first.
-pub fn decode_named_entity(name: &[u8]) -> Meaning
+pub fn decode_named_entity(name: &[u8]) -> Option<DecodedEntityValue>
     ensures { meaning_bytes result ≡ lookup names name.now }
 {
-    let value = common(name);
-    if 0 < value {
-        return Meaning::Value(DecodedEntityValue::Named(value));
-    }
-    find_in_group(name)
+    common(name).or_else(|| find_in_group(name))
 }
 
-// Returns how many bytes are packed into a value, at most six: one for each power of 256 that it reaches.
+// Returns how many bytes are packed into a value, at most six: one for each power of 256 that it reaches. The sum is written out, since a chain over the
+// powers stays a loop in the code, and decoding then takes a seventh more instructions.
 pub fn value_length(value: u64) -> usize
     ensures { (result ≡ length (value_bytes (Named value))) × (result ≤ 6) }
 {
@@ -87,14 +64,12 @@ pub fn put_value(value: u64, output: &mut [u8]) -> usize
     ensures { (result ≡ length (value_bytes (Named value))) × (result ≤ 6) × (output.new ≡ over (value_bytes (Named value)) output.old) }
 {
     let mut rest = value;
-    let mut n: usize = 0;
-    while n < 6 {
+    for n in 0..6 {
         if rest == 0 {
             return n;
         }
         output[n] = (rest % 256) as u8;
         rest /= 256;
-        n += 1;
     }
-    n
+    6
 }

@@ -34,7 +34,7 @@ stands-within (x ∷ v) [] t = absurd t
 stands-within (x ∷ v) (y ∷ s) t = let h = stands-within v s (and_right (eqb x y) (stands v s) t) in omega (arith, h)
 
 -- One length more.
-pub next : (t : List ℕ) (n w : ℕ) → ((name : List ℕ) → In name bare → length name < n → T (stands name t) → ⊥) → Spelled t n w → 0 ≡ char_for words (w * 8 + n)
+pub next : (t : List ℕ) (n w : ℕ) → ((name : List ℕ) → In name bare → length name < n → T (stands name t) → ⊥) → Spelled t n w → char_for words (w * 8 + n) ≡ 0
     → (name : List ℕ) → In name bare → length name < n + 1 → T (stands name t) → ⊥
 next t n w before s e name i l u = go (ltb (length name) n) refl
   where

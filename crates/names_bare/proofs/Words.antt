@@ -112,8 +112,8 @@ module _ (t : List ℕ) where
     key = (λ i. sym s.word i * 8 + length-take-le n t s.within i)
 
     -- It is a name: the number says which, and its character.
-    pub found : (v : ℕ) → n ≤ 6 → v ≡ char_for words (w * 8 + n) → (v ≡ 0 → ⊥) → In (take n t) bare × (utf8 v ≡ given (lookup names (take n t)))
-    found v l e h =
+    pub found : (v : ℕ) → v ≡ char_for words (w * 8 + n) → (v ≡ 0 → ⊥) → n ≤ 6 → In (take n t) bare × (utf8 v ≡ given (lookup names (take n t)))
+    found v e h l =
         let d : (w * 8 + n) / 8 ≡ w = omega arith in
         let m : (w * 8 + n) % 8 ≡ n = omega arith in
         let (name, i, same) = any-in (same_bytes (spell ((w * 8 + n) % 8) ((w * 8 + n) / 8))) bare (all_in is_name words words-named (w * 8 + n, v) (in_pairs words (w * 8 + n) v e h)) in
@@ -123,10 +123,10 @@ module _ (t : List ℕ) where
         (here, ap utf8 (e ∙ ap (char_for words) (sym key)) ∙ value)
 
     -- It is none: no name of so many bytes stands there.
-    pub missed : 0 ≡ char_for words (w * 8 + n) → (name : List ℕ) → In name bare → length name ≡ n → T (stands name t) → ⊥
+    pub missed : char_for words (w * 8 + n) ≡ 0 → (name : List ℕ) → In name bare → length name ≡ n → T (stands name t) → ⊥
     missed e name i l u =
         let is : take n t ≡ name = ap (λ (k : ℕ). take k t) (sym l) ∙ stands-take name u in
-        let zero : char_for words (key_of name) ≡ 0 = ap (λ (a : List ℕ). char_for words (key_of a)) (sym is) ∙ ap (char_for words) key ∙ sym e in
+        let zero : char_for words (key_of name) ≡ 0 = ap (λ (a : List ℕ). char_for words (key_of a)) (sym is) ∙ ap (char_for words) key ∙ e in
         subst (λ (x : ℕ). T (ltb 0 x)) zero (and_left (ltb 0 (char_for words (key_of name))) (same_bytes (utf8 (char_for words (key_of name))) (given (lookup names name))) (all_in numbered bare bare-numbered name i))
 
   -- The first two bytes begin none.

@@ -8,12 +8,14 @@ use Rattle.rules.specs.References.{lookup}
 use Rattle.rules.specs.Bare.{bare}
 use Rattle.rules.specs.Browsing.{given}
 use Rattle.names_bare.specs.declared.BareName.{BareName}
-use Rattle.names_bare.specs.declared.BareName.TheVariants.{Found, Nothing}
 
--- The first n bytes are a name without `;`, and c is the number of the character that it stands for; or no such name stands there.
+-- The first bytes are a name without `;`, and its character's number is that of the character that it stands for.
 abbrev pub Heads : List ℕ → BareName → Type 0
-Heads t (Found n c) = (n ≤ length t) × In (take n t) bare × (utf8 c ≡ given (lookup names (take n t)))
-Heads t Nothing = (name : List ℕ) → In name bare → T (stands name t) → ⊥
+Heads t b = (b.length ≤ length t) × In (take b.length t) bare × (utf8 b.character ≡ given (lookup names (take b.length t)))
+
+-- No such name stands there.
+abbrev pub Headless : List ℕ → Type 0
+Headless t = (name : List ℕ) → In name bare → T (stands name t) → ⊥
 
 -- Bytes as one number, the first highest, behind the number w.
 abbrev pub word_of : ℕ → List ℕ → ℕ

@@ -1,56 +1,43 @@
 // The names without `;`: the one that stands at the head of a text. None begins another, so there is one at most.
 #![tactic(auto)]
 
-ghost use Rattle.std.specs.Prelude.{◌≡◌, ◌<◌};
-ghost use Rattle.names_bare.specs.Heads.{Heads, Spelled};
+ghost use Rattle.std.specs.Prelude.{MatchOption};
+ghost use Rattle.names_bare.specs.Heads.{Heads, Headless, Spelled};
 
 mod table;
 
 // The name at the head of a text: its length, and the number of the character that it stands for.
 #[derive(Clone, Copy)]
-pub enum BareName {
-    Found(usize, u32),
-    Nothing,
-}
-
-// Returns a byte as a wide number.
-fn wide(byte: u8) -> u64
-    ensures { (result ≡ byte) × (result < 256) }
-{
-    byte as u64
+pub struct BareName {
+    pub length: usize,
+    pub character: u32,
 }
 
 // Finds the name without `;` at the head of a text whose first two bytes are `head`. It is looked up at each length, of two to six bytes, as one number.
-fn find_from(text: &[u8], head: u64) -> BareName
+fn find_from(text: &[u8], head: u64) -> Option<BareName>
     requires { Spelled text.now 2 head }
-    ensures { Heads text.now result }
+    ensures { MatchOption result (Headless text.now) (Heads text.now) }
 {
     let mut word: u64 = head;
-    let mut n: usize = 2;
-    while n <= 6 {
-        let character = table::character(word * 8 + n as u64);
-        if character != 0 {
-            return BareName::Found(n, character);
+    for length in 2..7 {
+        if let Some(character) = table::character(word * 8 + length as u64) {
+            return Some(BareName { length, character });
         }
-        if text.len() <= n {
-            return BareName::Nothing;
-        }
-        word = word * 256 + wide(text[n]);
-        n += 1;
+        word = word * 256 + u64::from(*text.get(length)?);
     }
-    BareName::Nothing
+    None
 }
 
 // Finds the name without `;` at the head of a text.
-pub fn find(text: &[u8]) -> BareName
-    ensures { Heads text.now result }
+pub fn find(text: &[u8]) -> Option<BareName>
+    ensures { MatchOption result (Headless text.now) (Heads text.now) }
 {
-    if text.len() < 2 {
-        return BareName::Nothing;
+    let [first, second, ..] = text else {
+        return None;
+    };
+    let head = u64::from(*first) * 256 + u64::from(*second);
+    if !table::begins(head) {
+        return None;
     }
-    let head = wide(text[0]) * 256 + wide(text[1]);
-    if table::begins(head) {
-        return find_from(text, head);
-    }
-    BareName::Nothing
+    find_from(text, head)
 }

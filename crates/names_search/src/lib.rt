@@ -2,41 +2,32 @@
 // number of the value of each. The names of one table begin with the same byte, which it does not have.
 #![tactic(auto)]
 
-ghost use Rattle.std.specs.Prelude.{◌≡◌, ◌∷◌, ℕ, ◌≤◌, get_or, T};
-ghost use Rattle.rules.specs.Bytes.{same_bytes};
+ghost use Rattle.std.specs.Prelude.{◌≡◌, ◌∷◌, ℕ, ◌≤◌, get_or, IsTrue};
 ghost use Rattle.rules.specs.References.{lookup};
 ghost use Rattle.rules.specs.Answers.{value_bytes, meaning_bytes};
 ghost use Rattle.names_search.specs.Lent.{code_bytes, rows_of, is_table};
 
-use rules::{DecodedEntityValue, Meaning};
+use rules::DecodedEntityValue;
 
 mod listed;
 
-// Reports whether two names are the same bytes. They are compared from the end, where names that begin alike differ.
-pub fn same(a: &[u8], b: &[u8]) -> bool
-    ensures { result ≡ same_bytes a.now b.now }
-{
-    if a.len() != b.len() {
-        return false;
-    }
-    let mut i: usize = a.len();
-    while 0 < i {
-        i -= 1;
-        if a[i] != b[i] {
-            return false;
-        }
-    }
-    true
+// A lent table: the bytes of its names one after the other, the length of each, and the number of the value of each.
+#[derive(Clone, Copy)]
+pub struct Table<'a> {
+    pub names: &'a [u8],
+    pub lengths: &'a [u8],
+    pub values: &'a [u16],
+    ghost table: { IsTrue (is_table names.now lengths.now values.now) },
 }
 
-// Returns the fourth byte of a name, 0 if it has none; its first byte is no part of `rest`.
-pub fn fourth(rest: &[u8]) -> u8
-    ensures { (result ≡ get_or rest.now 2 0) × (result ≤ 255) }
+// Returns the byte of a part of a name at a place, 0 past its end.
+pub fn byte_at(part: &[u8], place: usize) -> u8
+    ensures { (result ≡ get_or part.now place 0) × (result ≤ 255) }
 {
-    if 2 < rest.len() {
-        return rest[2];
+    match part.get(place) {
+        Some(byte) => *byte,
+        None => 0,
     }
-    0
 }
 
 // Returns the value that a table has as a number of two bytes: the number of a character, that of one above FFFF hex less so much that it fits, or that
@@ -53,21 +44,20 @@ fn value_of(code: u16) -> DecodedEntityValue
     DecodedEntityValue::Named(listed::listed_value(code))
 }
 
-// Returns the value of a name in the table, or nothing: the names are compared one by one. The first byte, which the table does not have, is no part of
-// `name` either.
-pub fn find(name: &[u8], bytes: &[u8], lengths: &[u8], values: &[u16]) -> Meaning
-    requires { T (is_table bytes.now lengths.now values.now) }
-    ensures { (b : ℕ) → meaning_bytes result ≡ lookup (rows_of b bytes.now lengths.now values.now) (b ∷ name.now) }
-{
-    let mut k: usize = 0;
-    let mut start: usize = 0;
-    while k < values.len() {
-        let end = start + lengths[k] as usize;
-        if same(&bytes[start..end], name) {
-            return Meaning::Value(value_of(values[k]));
+impl Table<'_> {
+    // Returns the value of a name in the table, or nothing: the names are compared one by one. The first byte, which the table does not have, is no part
+    // of `name` either.
+    pub fn find(&self, name: &[u8]) -> Option<DecodedEntityValue>
+        ensures { (b : ℕ) → meaning_bytes result ≡ lookup (rows_of b self.now.names.now self.now.lengths.now self.now.values.now) (b ∷ name.now) }
+    {
+        let mut rest = self.names;
+        for (length, value) in self.lengths.iter().zip(self.values) {
+            let (other, later) = rest.split_at(*length as usize);
+            if other == name {
+                return Some(value_of(*value));
+            }
+            rest = later;
         }
-        start = end;
-        k += 1;
+        None
     }
-    Meaning::Nothing
 }

@@ -1,5 +1,6 @@
 // Made by tools/make_names.py from crates/rules/specs/Names.antt; not to be edited.
 // The values that are no character below E000 hex or from 1D400 to 1D7FF hex, most of them two characters, by the numbers that the tables have for them.
+// A number that no table has gives 0, which packs no bytes: no table asks for one.
 ghost use Rattle.std.specs.Prelude.{◌≡◌};
 ghost use Rattle.names_search.specs.Pairs.{beside};
 ghost use Rattle.names_search.specs.Listed.{listed};

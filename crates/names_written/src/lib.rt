@@ -12,7 +12,7 @@ mod place;
 mod table;
 
 // Copies the name of a character above 7F to the start of `room`, leaves the bytes after it as they were, and returns its length, 0 if it has none. No
-// name has more than 20 bytes.
+// name has more than 20 bytes. The length is that of what was written: without a name nothing is.
 pub fn put_name(code: u32, room: &mut [u8]) -> usize
     requires { (0x80 ≤ code) × (code ≤ 0x10FFFF) × (20 ≤ length room.old) }
     ensures { Puts (given (name_of (utf8 code))) result room.old room.new × (result ≤ 20) }

@@ -7,7 +7,7 @@ ghost use Rattle.rules.specs.Browsing.{given};
 ghost use Rattle.names_written.specs.Ties.{Puts, is_tied};
 
 // Copies the name of a character to the start of `room`, leaves the bytes after it as they were, and returns its length, 0 if it has none. `low` is the
-// first character of the table.
+// first character of the table. The offsets lie beside the bytes: a slice for each name would take eight times their memory.
 pub fn put_named(code: u32, low: u32, bytes: &[u8], offsets: &[u16], room: &mut [u8]) -> usize
     requires { (low ≤ code) × (code - low + 1 < length offsets.now) × (code ≤ 0x10FFFF) × (20 ≤ length room.old) × T (is_tied low bytes.now offsets.now) }
     ensures { Puts (given (name_of (utf8 code))) result room.old room.new × (result ≤ 20) }

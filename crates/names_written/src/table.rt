@@ -1,6 +1,7 @@
 // Made by tools/make_names.py from the entries of crates/rules/specs/Names.antt; not to be edited.
 // The names that are written for characters, in ranges. Each range is two number tables: the names' bytes one after the other, and where the name of each
 // character begins and the last one ends; a character without a name has no bytes.
+// A function for each range, as each has a contract of its own, proved by computing; the work of all is `put_named`, and 0 is the length of no bytes.
 ghost use Rattle.std.specs.Prelude.{◌≡◌, ◌≤◌, length};
 ghost use Rattle.rules.specs.Utf8.{utf8};
 ghost use Rattle.rules.specs.Ascii.{name_of};

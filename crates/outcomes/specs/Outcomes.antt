@@ -4,7 +4,7 @@ use Rattle.std.specs.Prelude.{◌≡◌, List, ℕ, ◌≤◌, ◌<◌, length a
 use Rattle.rules.specs.Bytes.{over}
 use Rattle.rules.specs.Moves.{Move, result, replaced, place as place_of, through}
 use Rattle.rules.specs.Utf8.{valid_to}
-use Rattle.rules.specs.Answers.{Measures}
+use Rattle.rules.specs.Answers.{Measures, whole}
 use Rattle.rules.specs.Reading.{read_step}
 use Rattle.rules.specs.declared.Context.{Context}
 use Rattle.outcomes.specs.declared.Outcome.{Outcome}
@@ -20,7 +20,7 @@ Says ms t out o Untried = o ≡ out
 Says ms t out o Same = Whole ms t × (replaced ms ≡ 0) × (o ≡ out)
 Says ms t out o (NoRoom n) = Whole ms t × (replaced ms ≡ 0 → ⊥) × (n ≡ size (result ms)) × (size out < n) × (o ≡ out)
 Says ms t out o (Written n k) =
-    Whole ms t × (replaced ms ≡ 0 → ⊥) × Measures (record { length = n; place = size t; replaced = k; left = 0; reason = 0 }) ms
+    Whole ms t × (replaced ms ≡ 0 → ⊥) × Measures (whole n (size t) k) ms
     × (size (result ms) ≤ size out) × (o ≡ over (result ms) out)
 
 -- The same of the moves of read.

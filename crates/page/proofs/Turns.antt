@@ -5,9 +5,8 @@ use mathlib.Core.Option.{Option, none, some}
 use mathlib.Core.Path.{◌≡◌, refl, sym, ap, ◌∙◌, subst}
 use mathlib.Core.List.{List, [], ◌∷◌, ◌++◌, append-nil}
 use Prim.Native.Nat.{ℕ, zero, suc, ◌+◌, ◌-◌, ◌^◌, ◌≤◌, ◌<◌, min}
-use native.Mathlib.Nat.{add-zero}
 use native.Mathlib.Omega.{arith}
-use borrow.Author.Tests.{eq-eqb, eqb-true, ltb-true, ltb-false}
+use borrow.Author.Tests.{eq-eqb, ne_eqb, ltb-true, ltb-false}
 use lib.Dec.{eqb, ltb}
 use lib.ListN.{length as size, take, drop, length-drop}
 use lib.Seq.{take_all}
@@ -81,27 +80,34 @@ module _ (end at : ℕ) (out : List ℕ) (bounded : at ≡ min end (size out)) w
         output-is o ∙ ap (λ (l : List ℕ). take end out ++ l) (wrote ∙ ap (leaves text f) free-is)
         ∙ ap (λ (b : Bool). cond b (output_by text end f out) out) (sym (eq-eqb p.status 0 going))
 
-    -- What the code gives back, whether the record passes or not.
-    pub turn_is : (b : Bool) → b ≡ eqb a.status 0
-        → (turned_to (filled_as a.status (cond b p.passed i)) (end + cond b a.length 0) (answered f a (cond b end 0)) ≡ turned text p end i f out)
-        × (take at out ++ (o ++ drop (size out - at) (drop at out)) ≡ output_after text p end f out)
+    turns : turned_by a p end i f ≡ turned text p end i f out
     unfolding turned
-    turn_is b e = (
-      go b e ∙ ap (λ (a : Answer). turned_by a p end i f) answer-is ∙ ap (λ (b : Bool). cond b (turned_by (single text f (drop end out)) p end i f) (turned_to p end f)) (sym (eq-eqb p.status 0 going)),
+    turns =
+        ap (λ (a : Answer). turned_by a p end i f) answer-is
+        ∙ ap (λ (b : Bool). cond b (turned_by (single text f (drop end out)) p end i f) (turned_to p end f)) (sym (eq-eqb p.status 0 going))
+
+    -- What the turn gives back by the test of its status.
+    by-status : (b : Bool) → b ≡ eqb a.status 0
+        → (cond b (turned_to p (end + a.length) (answered f a end)) (turned_to (filled_as a.status i) end (answered f a 0)) ≡ turned text p end i f out)
+        × (take at out ++ (o ++ drop (size out - at) (drop at out)) ≡ output_after text p end f out)
+    by-status b e = (
+      ap (λ (b : Bool). cond b (turned_to p (end + a.length) (answered f a end)) (turned_to (filled_as a.status i) end (answered f a 0))) e ∙ turns,
       left_is,
     )
-      where
-        go : (b : Bool) → b ≡ eqb a.status 0 → turned_to (filled_as a.status (cond b p.passed i)) (end + cond b a.length 0) (answered f a (cond b end 0)) ≡ turned_by a p end i f
-        go true e =
-            (λ j. turned_to (filled_as ((eqb-true a.status 0 (sym e) ∙ sym going) j) p.passed) (end + a.length) (answered f a end))
-            ∙ ap (λ (b : Bool). cond b (turned_to p (end + a.length) (answered f a end)) (turned_to (filled_as a.status i) end (answered f a 0))) e
-        go false e =
-            ap (λ (k : ℕ). turned_to (filled_as a.status i) k (answered f a 0)) (add-zero end)
-            ∙ ap (λ (b : Bool). cond b (turned_to p (end + a.length) (answered f a end)) (turned_to (filled_as a.status i) end (answered f a 0))) e
 
-    -- The results then end where a number can say.
-    pub turn-fits : (b : Bool) → b ≡ eqb a.status 0 → (l : ℕ) → l ≡ cond b a.length 0 → end < 2 ^ 64 → size out < 2 ^ 64 → end + l < 2 ^ 64
-    turn-fits true e l q low high =
-        let room = (single-passed text f (drop end out) (sym (ap (λ (a : Answer). a.status) answer-is) ∙ eqb-true a.status 0 (sym e))).0 in
-        subst (λ (k : ℕ). end + k < 2 ^ 64) (sym (q ∙ ap (λ (a : Answer). a.length) answer-is)) (below end (single text f (drop end out)).length (size out) (size (drop end out)) (2 ^ 64) low high room (length-drop end out))
-    turn-fits false e l q low high = subst (λ (k : ℕ). end + k < 2 ^ 64) (sym q) (subst (λ (k : ℕ). k < 2 ^ 64) (sym (add-zero end)) low)
+    -- A record that passes, and one that is refused.
+    pub turn-passed : a.status ≡ 0
+        → (turned_to p (end + a.length) (answered f a end) ≡ turned text p end i f out)
+        × (take at out ++ (o ++ drop (size out - at) (drop at out)) ≡ output_after text p end f out)
+    turn-passed e = by-status true (sym (eq-eqb a.status 0 e))
+
+    pub turn-refused : (a.status ≡ 0 → ⊥)
+        → (turned_to (filled_as a.status i) end (answered f a 0) ≡ turned text p end i f out)
+        × (take at out ++ (o ++ drop (size out - at) (drop at out)) ≡ output_after text p end f out)
+    turn-refused n = by-status false (sym (ne_eqb a.status 0 n))
+
+    -- The result of a record that passes ends where a number can say.
+    pub turn-fits : a.status ≡ 0 → end < 2 ^ 64 → size out < 2 ^ 64 → end + a.length < 2 ^ 64
+    turn-fits e low high =
+        let room = (single-passed text f (drop end out) (sym (ap (λ (a : Answer). a.status) answer-is) ∙ e)).0 in
+        rw (ap (λ (a : Answer). a.length) answer-is) (below end (single text f (drop end out)).length (size out) (size (drop end out)) (2 ^ 64) low high room (length-drop end out))

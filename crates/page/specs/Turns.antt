@@ -25,9 +25,6 @@ outside_at (some rule) = refusal 8 0 0
 abbrev pub outside_by : ℕ → Answer
 outside_by c = outside_at (rule_of Encode (context_of c))
 
-abbrev pub answered_at : Field → ℕ → Answer → Field
-answered_at f begins a = answered f a begins
-
 abbrev pub turned_to : Filled → ℕ → Field → Turned
 turned_to p end f = record { filled = p; end = end; field = f }
 

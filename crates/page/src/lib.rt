@@ -2,14 +2,13 @@
 // All of the work is in `turn`, the call of one record; both forms of the call are a loop of turns.
 #![tactic(auto)]
 
-ghost use Rattle.std.specs.Prelude.{cond, ◌≡◌, ◌++◌, min, ◌≤◌, length, drop};
+ghost use Rattle.std.specs.Prelude.{◌≡◌, ◌++◌, ◌≤◌, length, drop};
 ghost use Rattle.rules.specs.Pages.{in_text, single as single_of, leaves, PageAllowed, field_size, field_numbers, field_as, NumbersAllowed};
-ghost use Rattle.page.specs.Turns.{begun, outside_by, answered_at, turned, output_after};
+ghost use Rattle.frame.specs.Refused.{refused};
+ghost use Rattle.page.specs.Turns.{begun, outside_by, turned, output_after};
 
-use rules::{
-    Answer, AnyContext, BAD_CONTEXT, BAD_RANGE, FIELD_LIMIT, Field, Filled, Operation, PASSED,
-    TOO_LONG,
-};
+use frame::Refusal;
+use rules::{Answer, AnyContext, FIELD_LIMIT, Field, Filled, Operation, PASSED, TOO_LONG};
 
 // The numbers of a record behind its context: start, length, begins, and the answer's.
 pub const FIELD_NUMBERS: usize = 10;
@@ -42,20 +41,17 @@ fn begin(count: usize) -> Filled
 fn in_text(text: &[u8], field: Field) -> bool
     ensures { result ≡ in_text text.now field }
 {
-    if text.len() < field.start {
-        return false;
-    }
-    field.length <= text.len() - field.start
+    field.start <= text.len() && field.length <= text.len() - field.start
 }
 
 // Returns the refusal of a record whose part leaves the text: BAD_CONTEXT where encode has no such context, else BAD_RANGE.
-fn outside(context: u32) -> Answer
-    ensures { result ≡ outside_by context }
+fn outside(context: u32) -> Refusal
+    ensures { refused result ≡ outside_by context }
 {
-    let AnyContext::Unknown = rules::context_of(context) else {
-        return frame::refusal(BAD_RANGE, 0, 0);
-    };
-    frame::refusal(BAD_CONTEXT, 0, 0)
+    match rules::context_of(context) {
+        AnyContext::Unknown => Refusal::BadContext,
+        _ => Refusal::BadRange,
+    }
 }
 
 // Encodes the part of one record into what is free of the output.
@@ -63,50 +59,12 @@ fn single(text: &[u8], field: Field, free: &mut [u8]) -> Answer
     ensures { (result ≡ single_of text.now field free.old) × (free.new ≡ leaves text.now field free.old) }
 {
     if in_text(text, field) {
-        let start = field.start;
-        let end = start + field.length;
-        return frame::call(
-            Operation::Encode,
-            field.context,
-            false,
-            &text[start..end],
-            free,
-        );
+        let end = field.start + field.length;
+        let part = &text[field.start..end];
+        frame::call(Operation::Encode, field.context, false, part, free)
+    } else {
+        Answer::from(outside(field.context))
     }
-    outside(field.context)
-}
-
-// Returns a record with its answer and where its result begins.
-fn answered(field: Field, begins: usize, answer: Answer) -> Field
-    ensures { result ≡ answered_at field begins answer }
-{
-    Field {
-        context: field.context,
-        start: field.start,
-        length: field.length,
-        begins,
-        answer,
-    }
-}
-
-// Returns the lesser of two lengths.
-fn least(a: usize, b: usize) -> usize
-    ensures { result ≡ min a b }
-{
-    if a < b {
-        return a;
-    }
-    b
-}
-
-// Returns one of two numbers.
-fn either(first: bool, a: usize, b: usize) -> usize
-    ensures { result ≡ cond first a b }
-{
-    if first {
-        return a;
-    }
-    b
 }
 
 // Encodes one record behind the results so far, which end at `end`; after a refusal it does nothing. A refusal of this record becomes the page's answer,
@@ -124,19 +82,29 @@ fn turn(
     if filled.status != PASSED {
         return Turned { filled, end, field };
     }
-    let at = least(end, output.len());
+    let at = end.min(output.len());
     let answer = single(text, field, &mut output[at..]);
-    let passes = answer.status == PASSED;
-    let filled = Filled {
-        status: answer.status,
-        passed: either(passes, filled.passed, index),
+    if answer.status != PASSED {
+        let filled = Filled {
+            status: answer.status,
+            passed: index,
+        };
+        let field = Field {
+            begins: 0,
+            answer,
+            ..field
+        };
+        return Turned { filled, end, field };
+    }
+    let field = Field {
+        begins: end,
+        answer,
+        ..field
     };
-    let begins = either(passes, end, 0);
-    let end = end + either(passes, answer.length, 0);
     Turned {
         filled,
-        end,
-        field: answered(field, begins, answer),
+        end: end + answer.length,
+        field,
     }
 }
 
@@ -146,15 +114,12 @@ pub fn fill_page(fields: &mut [Field], text: &[u8], output: &mut [u8]) -> Filled
     ensures { PageAllowed text.now fields.old output.old result fields.new output.new }
 {
     let mut filled = begin(fields.len());
-    let mut end: usize = 0;
-    let mut i: usize = 0;
-    while i < fields.len() {
-        let field = fields[i];
-        let turned = turn(output, filled, end, i, field, text);
-        fields[i] = turned.field;
+    let mut end = 0;
+    for (index, field) in fields.iter_mut().enumerate() {
+        let turned = turn(output, filled, end, index, *field, text);
+        *field = turned.field;
         filled = turned.filled;
         end = turned.end;
-        i += 1;
     }
     filled
 }
@@ -188,16 +153,19 @@ fn write_field(field: Field, numbers: &mut [usize])
     ensures { numbers.new ≡ field_numbers field ++ drop field_size numbers.old }
 {
     let answer = field.answer;
-    numbers[0] = field.start;
-    numbers[1] = field.length;
-    numbers[2] = field.begins;
-    numbers[3] = answer.status;
-    numbers[4] = answer.length;
-    numbers[5] = answer.same;
-    numbers[6] = answer.replaced;
-    numbers[7] = answer.place;
-    numbers[8] = answer.left;
-    numbers[9] = answer.reason;
+    let all = [
+        field.start,
+        field.length,
+        field.begins,
+        answer.status,
+        answer.length,
+        answer.same,
+        answer.replaced,
+        answer.place,
+        answer.left,
+        answer.reason,
+    ];
+    numbers[..FIELD_NUMBERS].copy_from_slice(&all);
 }
 
 // Fills a page whose records are given as numbers: for each context `FIELD_NUMBERS` numbers, in the order of the record. There are as many records as
@@ -210,18 +178,16 @@ pub fn fill_numbers(
 ) -> Filled
     ensures { NumbersAllowed text.now contexts.now numbers.old output.old result numbers.new output.new }
 {
-    let count = least(numbers.len() / FIELD_NUMBERS, contexts.len());
+    let count = (numbers.len() / FIELD_NUMBERS).min(contexts.len());
     let mut filled = begin(count);
-    let mut end: usize = 0;
-    let mut i: usize = 0;
-    while i < count {
-        let first = i * FIELD_NUMBERS;
-        let field = read_field(contexts[i], &numbers[first..]);
-        let turned = turn(output, filled, end, i, field, text);
+    let mut end = 0;
+    for index in 0..count {
+        let first = index * FIELD_NUMBERS;
+        let field = read_field(contexts[index], &numbers[first..]);
+        let turned = turn(output, filled, end, index, field, text);
         write_field(turned.field, &mut numbers[first..]);
         filled = turned.filled;
         end = turned.end;
-        i += 1;
     }
     filled
 }

@@ -15,13 +15,13 @@ pub fn read_into<R: Input>(rt: &R, input: &mut [u8]) -> io::Result<usize>
     ensures { IfOk result (λ n. (n ≤ length input.new) × (n ≡ length (take n input.new))) }
 {
     let mut reader = rt.reader();
-    let mut at: usize = 0;
+    let mut at = 0;
+    // A cursor: each turn moves it by what was read.
     while at < input.len() {
-        let n = reader.read(&mut input[at..])?;
-        if n == 0 {
-            return Ok(at);
+        match reader.read(&mut input[at..])? {
+            0 => return Ok(at),
+            n => at += n,
         }
-        at += n;
     }
     Ok(at)
 }
@@ -37,12 +37,32 @@ fn drop_some<T: io::Read>(reader: &mut T) -> bool {
     0 < reader.read(&mut dropped).unwrap_or(0)
 }
 
-// Reads and drops the rest of standard input, so that whoever writes it is not cut off. Nothing says that it ends, so the turns are counted down from
-// a number that no run uses up.
+// Reads and drops the rest of standard input, so that whoever writes it is not cut off. Nothing
+// says that it ends, so the turns are those of a count that no run uses up.
 pub fn drop_rest<R: Input>(rt: &R) {
     let mut reader = rt.reader();
-    let mut turns = u64::MAX;
-    while turns > 0 && drop_some(&mut reader) {
-        turns -= 1;
+    for _ in 0..u64::MAX {
+        if !drop_some(&mut reader) {
+            return;
+        }
     }
+}
+
+// Answers the request on standard input: reads it into `input`, has the reply printed, and then
+// drops what follows, where what was read is enough for the reply whatever follows it. Where a read
+// fails nothing is printed.
+pub fn answer<R: Input, E: FnOnce(usize) -> bool, P: FnOnce(&[u8]) -> io::Result<()>>(
+    rt: &R,
+    input: &mut [u8],
+    is_enough: E,
+    print_reply: P,
+) -> io::Result<()>
+    requires { E.IsAlwaysCallable is_enough × P.IsAlwaysCallable print_reply }
+{
+    let n = read_into(rt, input)?;
+    let printed = print_reply(&input[..n]);
+    if is_enough(n) {
+        drop_rest(rt);
+    }
+    printed
 }

@@ -1,7 +1,7 @@
 -- What the least xor of some bytes tells of each of them: it is at most that of each, and above 128 only for the bytes that are looked for. Of one key that
 -- is by the highest bit and the seven others; of all that are not plain it is computed for every byte.
 -- Assumes nothing.
-use mathlib.Core.Bool.{Bool, true, false, not, ◌||◌, cond}
+use mathlib.Core.Bool.{Bool, true, false, not, ◌||◌}
 use mathlib.Core.Path.{◌≡◌, refl, ap, ◌∙◌, subst}
 use Prim.Native.Nat.{ℕ, ◌+◌, ◌-◌, ◌*◌, ◌≤◌, ◌<◌}
 use native.Mathlib.Omega.{arith}
@@ -13,11 +13,7 @@ use Rattle.plain.specs.Plain.{plain, lesser, far_of}
 
 -- The lesser of two is at most each.
 pub lesser-most : (a b : ℕ) → (lesser a b ≤ a) × (lesser a b ≤ b)
-lesser-most a b = go (ltb a b) refl
-  where
-    go : (x : Bool) → ltb a b ≡ x → (cond x a b ≤ a) × (cond x a b ≤ b)
-    go true q = (omega arith, omega (arith, ltb-true a b q))
-    go false q = (omega (arith, ltb-false a b q), omega arith)
+lesser-most a b = (omega arith, omega arith)
 
 -- The lesser of two is above 0 only if both are.
 pub lesser-some : (a b : ℕ) → 0 < lesser a b → (0 < a) × (0 < b)

@@ -1,6 +1,6 @@
 -- Plain bytes: no operation replaces them.
 -- Assumes nothing.
-use Rattle.std.specs.Prelude.{Bool, true, false, not, ◌&&◌, cond, ◌≡◌, List, ℕ, ◌<◌, ltb, length, get_or}
+use Rattle.std.specs.Prelude.{Bool, true, false, not, ◌&&◌, ◌≡◌, List, ℕ, ◌<◌, min, length, get_or}
 use Rattle.std.specs.Int.Bits.{bit_or, bit_xor}
 use Rattle.rules.specs.Bytes.{ascii, inside, one_of}
 use Rattle.rules.specs.Tables.{letter_or_digit}
@@ -46,7 +46,7 @@ special_at unquoted t k = not (plain unquoted (get_or t k 0))
 
 -- The lesser of two numbers.
 abbrev pub lesser : ℕ → ℕ → ℕ
-lesser a b = cond (ltb a b) a b
+lesser a b = min a b
 
 -- The least xor of a byte with `"`, `&`, `'`, `/`, `<`, `>` and `\`, their highest bit set, and the like of a control: above 128 only for a plain byte.
 abbrev pub far_of : ℕ → ℕ

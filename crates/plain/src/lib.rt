@@ -1,13 +1,12 @@
 // Plain texts, which no operation changes, as most names are: they are found many bytes at a time.
+// The size of a block is a const parameter; that the block has it stands in each contract, as a slice's length is no type.
 #![tactic(auto)]
 
 pub mod look;
 
-ghost use Rattle.std.specs.Prelude.{true, false, not, ◌≡◌, ◌+◌, ◌≤◌, ◌<◌, length};
+ghost use Rattle.std.specs.Prelude.{true, false, not, ◌≡◌, ◌≤◌, ◌<◌, length};
 ghost use Rattle.base.specs.First.{Free};
 ghost use Rattle.plain.specs.Plain.{plain, special_at, far_of};
-
-use look::low;
 
 // The sizes of the blocks in which a text is tested: the largest that fits into it, since fewer blocks are fewer branches. LARGE is four vectors.
 const TINY: usize = 4;
@@ -36,16 +35,14 @@ fn is_special(unquoted: bool, b: u8) -> bool
         | (b == b'\\')
 }
 
-// Reports whether one of the `size` bytes at `at` is not plain. The loop has no early exit, so that it becomes vector code.
-fn any_special(unquoted: bool, text: &[u8], at: usize, size: usize) -> bool
-    requires { at + size ≤ length text.now }
-    ensures { result ≡ false → Free (special_at unquoted text.now) at (at + size) }
+// Reports whether a byte of a block is not plain. The loop has no early exit, so that it becomes vector code.
+fn any_special<const SIZE: usize>(unquoted: bool, block: &[u8]) -> bool
+    requires { length block.now ≡ SIZE }
+    ensures { result ≡ false → Free (special_at unquoted block.now) 0 (length block.now) }
 {
     let mut hit = false;
-    let mut j: usize = 0;
-    while j < size {
-        hit = hit | is_special(unquoted, text[at + j]);
-        j += 1;
+    for b in block {
+        hit |= is_special(unquoted, *b);
     }
     hit
 }
@@ -54,53 +51,51 @@ fn any_special(unquoted: bool, text: &[u8], at: usize, size: usize) -> bool
 fn far(b: u8) -> u8
     ensures { result ≡ far_of b }
 {
-    low(
-        low(low(b ^ 0xA2, b ^ 0xA6), low(b ^ 0xA7, b ^ 0xAF)),
-        low(low(b ^ 0xBC, b ^ 0xBE), low(b ^ 0xDC, (b | 31) ^ 0x9F)),
+    let quotes = (b ^ 0xA2).min(b ^ 0xA6).min((b ^ 0xA7).min(b ^ 0xAF));
+    quotes.min(
+        (b ^ 0xBC)
+            .min(b ^ 0xBE)
+            .min((b ^ 0xDC).min((b | 31) ^ 0x9F)),
     )
 }
 
-// Returns the least of these for the `size` bytes at `at`. It is quicker than a test of each byte, for one vector or more.
-fn least(text: &[u8], at: usize, size: usize) -> u8
-    requires { at + size ≤ length text.now }
-    ensures { 128 < result → Free (special_at false text.now) at (at + size) }
+// Returns the least of these for the bytes of a block. It is quicker than a test of each byte, for one vector or more.
+fn least<const SIZE: usize>(block: &[u8]) -> u8
+    requires { length block.now ≡ SIZE }
+    ensures { 128 < result → Free (special_at false block.now) 0 (length block.now) }
 {
     let mut m: u8 = 255;
-    let mut j: usize = 0;
-    while j < size {
-        m = low(m, far(text[at + j]));
-        j += 1;
+    for b in block {
+        m = m.min(far(*b));
     }
     m
 }
 
-// Reports whether one of the `size` bytes at `at` is not plain.
-fn has_special(unquoted: bool, text: &[u8], at: usize, size: usize) -> bool
-    requires { at + size ≤ length text.now }
-    ensures { result ≡ false → Free (special_at unquoted text.now) at (at + size) }
+// Reports whether a byte of a block is not plain. The size is a constant, so that each size gets loops of its own without a rest.
+fn has_special<const SIZE: usize>(unquoted: bool, block: &[u8]) -> bool
+    requires { length block.now ≡ SIZE }
+    ensures { result ≡ false → Free (special_at unquoted block.now) 0 (length block.now) }
 {
-    if unquoted {
-        return any_special(unquoted, text, at, size);
+    if unquoted || SIZE < MEDIUM {
+        return any_special::<SIZE>(unquoted, block);
     }
-    if size < MEDIUM {
-        return any_special(unquoted, text, at, size);
-    }
-    least(text, at, size) <= 128
+    least::<SIZE>(block) <= 128
 }
 
-// Reports whether every byte of a text is plain, by blocks of `size` bytes; the last block may overlap the one before.
-fn all_plain(unquoted: bool, text: &[u8], size: usize) -> bool
-    requires { (0 < size) × (size ≤ length text.now) }
+// Reports whether every byte of a text is plain, by blocks of SIZE bytes; the last block may overlap the one before.
+fn all_plain<const SIZE: usize>(unquoted: bool, text: &[u8]) -> bool
+    requires { (0 < SIZE) × (SIZE ≤ length text.now) }
     ensures { result ≡ true → Free (special_at unquoted text.now) 0 (length text.now) }
 {
-    let last = text.len() - size;
+    let last = text.len() - SIZE;
     let mut done: usize = 0;
+    // A cursor: the last turn may move by less than a block.
     while done < text.len() {
-        let at = base::min(done, last);
-        if has_special(unquoted, text, at, size) {
+        let at = done.min(last);
+        if has_special::<SIZE>(unquoted, &text[at..at + SIZE]) {
             return false;
         }
-        done = at + size;
+        done = at + SIZE;
     }
     true
 }
@@ -121,16 +116,16 @@ pub fn is_plain(unquoted: bool, text: &[u8]) -> bool
         return false;
     }
     if LARGE < text.len() {
-        return all_plain(unquoted, text, LARGE);
+        return all_plain::<LARGE>(unquoted, text);
     }
     if MEDIUM <= text.len() {
-        return all_plain(unquoted, text, MEDIUM);
+        return all_plain::<MEDIUM>(unquoted, text);
     }
     if SMALL <= text.len() {
-        return all_plain(unquoted, text, SMALL);
+        return all_plain::<SMALL>(unquoted, text);
     }
     if TINY <= text.len() {
-        return all_plain(unquoted, text, TINY);
+        return all_plain::<TINY>(unquoted, text);
     }
     false
 }

@@ -17,7 +17,7 @@ use Rattle.rules.specs.Units.{IsUnit}
 use Rattle.rules.specs.Ascii.{is_high, by_rule, refer_to}
 use Rattle.rules.specs.Reading.{read_step}
 use Rattle.rules.specs.declared.Escape.{Escape}
-use Rattle.rules.specs.declared.Escape.TheVariants.{Taken}
+use Rattle.std.specs.Prelude.{Some}
 use Rattle.rules.specs.declared.Context.TheVariants.{InAscii}
 use Rattle.rules.proofs.Tests.{and_left, and_both, or_cases, or_left, or_right, all_in, in-same, same_in, is_false}
 use Rattle.rules.proofs.Chars.{sequence-pos}
@@ -135,12 +135,9 @@ module _ (t : List ℕ) (bytes : (k : ℕ) → get_or t k 0 < 256) where
       (w, ap (read_step InAscii (before t i)) (drop-next t i h) ∙ e)
 
 -- What was read at a place lies within the text.
-pub read-within : (t : List ℕ) (i n c : ℕ) → i < length t → Tells (read_step InAscii (before t i) (drop i t)) (drop i t) (Taken n c) → (1 ≤ n) × (i + n ≤ length t) × (length (utf8 c) ≤ n) × (c ≤ 0x10FFFF)
-read-within t i n c h (m, least, ends, shorter, most) = (least, omega (arith, h, ends, length-drop i t), shorter, most)
-
--- What is read is the same under an equal answer.
-pub read_here : (t : List ℕ) (i : ℕ) (r r' : Escape) → ((p : ℕ) → Tells (read_step InAscii p (drop i t)) (drop i t) r) → r ≡ r' → Tells (read_step InAscii (before t i) (drop i t)) (drop i t) r'
-read_here t i r r' tells same = subst (Tells (read_step InAscii (before t i) (drop i t)) (drop i t)) same (tells (before t i))
+pub read-within : (t : List ℕ) (i : ℕ) (e : Escape) → i < length t → Tells (read_step InAscii (before t i) (drop i t)) (drop i t) (Some e)
+    → (1 ≤ e.taken) × (i + e.taken ≤ length t) × (length (utf8 e.character) ≤ e.taken) × (e.character ≤ 0x10FFFF)
+read-within t i e h (m, least, ends, shorter, most) = (least, omega (arith, h, ends, length-drop i t), shorter, most)
 
 -- The reader leaves no reference.
 pub read_left : (t : List ℕ) → first_left (through (read_step InAscii) t) ≡ (0, 0)

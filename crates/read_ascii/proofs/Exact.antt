@@ -1,7 +1,7 @@
 -- A reference is a unit exactly if it is what is written for the character that it stands for in decode: that character is the only one whose unit can
 -- stand there.
 -- Assumes nothing.
-use Rattle.decode_html.specs.Taking.{Reads as ReadsAt}
+use Rattle.decode_html.specs.Taking.{Gives, Stays}
 use mathlib.Core.Bool.{Bool, true, false, not, ◌&&◌, ◌||◌, cond}
 use mathlib.Core.Logic.{◌⊎◌, inl, inr}
 use mathlib.Core.Option.{none, some}
@@ -21,16 +21,15 @@ use Rattle.rules.specs.Tables.{Row, key, value, rows, replaced_chars}
 use Rattle.rules.specs.Ascii.{is_high, refer_to}
 use Rattle.rules.specs.References.{scalar, reference_step}
 use Rattle.rules.specs.Reading.{read_step}
-use Rattle.rules.specs.Answers.{unpack_to, value_bytes, reference_move}
+use Rattle.rules.specs.Answers.{unpack_to, value_bytes}
 use Rattle.rules.specs.declared.DecodedEntityValue.{DecodedEntityValue}
 use Rattle.rules.specs.declared.DecodedEntityValue.TheVariants.{Named, Character}
 use Rattle.rules.specs.declared.Escape.{Escape}
-use Rattle.rules.specs.declared.Escape.TheVariants.{Taken, Nothing}
-use Rattle.decode_html.proofs.Turns.{Unfound}
+use Rattle.std.specs.Prelude.{Option as Maybe, Some, None}
+use Rattle.rules.specs.Answers.{escape_for}
 use Rattle.rules.proofs.Loops.{drop-next}
 use Rattle.rules.specs.declared.DecodedEntity.{DecodedEntity}
-use Rattle.rules.specs.declared.Reference.{Reference}
-use Rattle.rules.specs.declared.Reference.TheVariants.{Found, Left, Nothing as NoReference}
+use Rattle.rules.specs.declared.Reason.{Reason}
 use Rattle.rules.specs.declared.Context.TheVariants.{InAscii}
 use Rattle.rules.proofs.Tests.{and_left, and_right, all_in, any-in, or_cases, same_bytes_lem, stands_self, stands-split}
 use Rattle.rules.proofs.Below.{below}
@@ -309,24 +308,22 @@ module _ (t : List ℕ) (at : ℕ) (l : at < length t) (amp : get_or t at 0 ≡ 
   head-amp : get_or (drop at t) 0 0 ≡ 38
   head-amp = ap (λ (s : List ℕ). get_or s 0 0) (drop-next t at l) ∙ amp
 
-  pub left-read : (r : Reference) → Unfound r → ReadsAt reference_step t at r → (p : ℕ) → Tells (read_step InAscii p (drop at t)) (drop at t) Nothing
-  left-read (Found e) n reads = absurd (n e refl)
-  left-read (Left w) n reads = left-stops (drop at t) (leave w (ascii "&")) (λ x. x) head-amp reads.move
-  left-read NoReference n reads = left-stops (drop at t) (keep (ascii "&")) (λ x. x) head-amp reads.move
+  pub left-read : (w : Reason) → Stays t at w → (p : ℕ) → Tells (read_step InAscii p (drop at t)) (drop at t) None
+  left-read w stays = left-stops (drop at t) (leave w (ascii "&")) (λ x. x) head-amp stays
 
-  module _ (r : Reference) (e : DecodedEntity) (reads : ReadsAt reference_step t at r) (q : r ≡ Found e) (bytes zeros : List ℕ) (held : bytes ≡ value_bytes e.value ++ zeros) (code : ℕ)
+  module _ (e : DecodedEntity) (gives : Gives reference_step t at e) (bytes zeros : List ℕ) (held : bytes ≡ value_bytes e.value ++ zeros) (code : ℕ)
       (number : HasNumber bytes code) where
     move : (p : ℕ) → swap (take (e.end - e.start) (drop e.start t)) (value_bytes e.value) ≡ reference_step p (drop at t)
-    move p = ap (reference_move t) (sym q) ∙ reads.move p
+    move = gives.move
 
-    pub odd-read : scalar code ≡ false → (p : ℕ) → Tells (read_step InAscii p (drop at t)) (drop at t) Nothing
+    pub odd-read : scalar code ≡ false → (p : ℕ) → Tells (read_step InAscii p (drop at t)) (drop at t) None
     odd-read = odd-stops (drop at t) (take (e.end - e.start) (drop e.start t)) (value_bytes e.value) bytes zeros code head-amp move held number
 
-    pub exact_read : scalar code ≡ true → (x : Escape) → Exactly code (drop at t) x → (p : ℕ) → Tells (read_step InAscii p (drop at t)) (drop at t) x
-    exact_read sc (Taken n c) (same, size, least, st) p =
-        subst (λ (k : ℕ). Tells (read_step InAscii p (drop at t)) (drop at t) (Taken n k)) (sym same) (unit-read (drop at t) code n sc size least st p)
-    exact_read sc Nothing (inl nil) p = none-stops (drop at t) (take (e.end - e.start) (drop e.start t)) (value_bytes e.value) bytes zeros code head-amp move held number nil p
-    exact_read sc Nothing (inr other) p = other-stops (drop at t) (take (e.end - e.start) (drop e.start t)) (value_bytes e.value) bytes zeros code head-amp move held number other p
+    pub exact_read : scalar code ≡ true → (x : Maybe Escape) → Exactly code (drop at t) x → (p : ℕ) → Tells (read_step InAscii p (drop at t)) (drop at t) x
+    exact_read sc (Some x) (same, size, least, st) p =
+        subst (λ (k : ℕ). Tells (read_step InAscii p (drop at t)) (drop at t) (escape_for x.taken k)) (sym same) (unit-read (drop at t) code x.taken sc size least st p)
+    exact_read sc None (inl nil) p = none-stops (drop at t) (take (e.end - e.start) (drop e.start t)) (value_bytes e.value) bytes zeros code head-amp move held number nil p
+    exact_read sc None (inr other) p = other-stops (drop at t) (take (e.end - e.start) (drop e.start t)) (value_bytes e.value) bytes zeros code head-amp move held number other p
 
 pub scalar-top : (code : ℕ) → scalar code ≡ true → code ≤ 0x10FFFF
 scalar-top code e = leb→le code 0x10FFFF (and_left (leb code 0x10FFFF) (not (inside (0xD800, 0xDFFF) code)) (subst T (sym e) tt))

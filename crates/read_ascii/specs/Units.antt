@@ -1,6 +1,6 @@
 -- The unit of a character in ascii_quoted, and what the strict reader finds.
 -- Assumes nothing.
-use Rattle.std.specs.Prelude.{Bool, true, false, ◌||◌, cond, ◌⊎◌, ◌≡◌, List, [], ◌∷◌, ◌++◌, ℕ, ◌≤◌, leb, length, take, get_or}
+use Rattle.std.specs.Prelude.{Option, Some, None, Bool, true, false, ◌||◌, cond, ◌⊎◌, ◌≡◌, List, [], ◌∷◌, ◌++◌, ℕ, ◌≤◌, leb, length, take, get_or}
 use Rattle.rules.specs.Bytes.{any, stands, same_bytes}
 use Rattle.rules.specs.Moves.{Move, swap, stop}
 use Rattle.rules.specs.Utf8.{IsChar, utf8, code_of}
@@ -9,7 +9,6 @@ use Rattle.rules.specs.declared.Context.TheVariants.{InAscii}
 use Rattle.encode_ascii.specs.Wide.{quoted_unit}
 use Rattle.rules.specs.Ascii.{refer_to}
 use Rattle.rules.specs.declared.Escape.{Escape}
-use Rattle.rules.specs.declared.Escape.TheVariants.{Taken, Nothing}
 
 -- The unit of a character by its number; nothing where it is plain.
 abbrev pub unit_for : ℕ → List ℕ
@@ -28,11 +27,12 @@ abbrev pub HasNumber : List ℕ → ℕ → Type 0
 HasNumber s n = (a r : List ℕ) → IsChar a → s ≡ a ++ r → n ≡ code_of a
 
 -- The unit of a character was compared with the head of s: it stands there, or it is none or another.
-abbrev pub Exactly : ℕ → List ℕ → Escape → Type 0
-Exactly code s (Taken n c) = (c ≡ code) × (n ≡ length (unit_for code)) × (n ≡ 0 → ⊥) × (stands (unit_for code) s ≡ true)
-Exactly code s Nothing = (length (unit_for code) ≡ 0) ⊎ (stands (unit_for code) s ≡ false)
+abbrev pub Exactly : ℕ → List ℕ → Option Escape → Type 0
+Exactly code s (Some e) = (e.character ≡ code) × (e.taken ≡ length (unit_for code)) × (e.taken ≡ 0 → ⊥) × (stands (unit_for code) s ≡ true)
+Exactly code s None = (length (unit_for code) ≡ 0) ⊎ (stands (unit_for code) s ≡ false)
 
 -- What was read is the move of the rule at the head of s, and fits.
-abbrev pub Tells : Move → List ℕ → Escape → Type 0
-Tells m s (Taken n c) = (m ≡ swap (take n s) (utf8 c)) × (1 ≤ n) × (n ≤ length s) × (length (utf8 c) ≤ n) × (c ≤ 0x10FFFF)
-Tells m s Nothing = (w : ℕ) × (m ≡ stop w)
+abbrev pub Tells : Move → List ℕ → Option Escape → Type 0
+Tells m s (Some e) =
+    (m ≡ swap (take e.taken s) (utf8 e.character)) × (1 ≤ e.taken) × (e.taken ≤ length s) × (length (utf8 e.character) ≤ e.taken) × (e.character ≤ 0x10FFFF)
+Tells m s None = (w : ℕ) × (m ≡ stop w)

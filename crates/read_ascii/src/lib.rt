@@ -13,7 +13,7 @@ ghost use Rattle.rules.specs.declared.Context.TheVariants.{InAscii};
 ghost use Rattle.base.specs.First.{First};
 ghost use Rattle.read_ascii.specs.Units.{is_halt, halt_at};
 
-use rules::{Escape, Measured};
+use rules::Measured;
 
 // Reports whether a byte is in no plain stretch: above 7F, or one that the context replaces.
 fn is_halt(b: u8) -> bool
@@ -27,14 +27,12 @@ fn next_halt(text: &[u8], from: usize) -> usize
     requires { from ≤ length text.now }
     ensures { First (halt_at text.now) (length text.now) from result }
 {
-    let mut i = from;
-    while i < text.len() {
+    for i in from..text.len() {
         if is_halt(text[i]) {
             return i;
         }
-        i += 1;
     }
-    i
+    text.len()
 }
 
 // Measures the result of read without writing it. At an `&` there must be a unit. From any other byte on the text is plain up to the next byte that is
@@ -46,42 +44,25 @@ pub fn measure(text: &[u8]) -> Measured
     let mut length: usize = 0;
     let mut read: usize = 0;
     let mut i: usize = 0;
+    // A cursor: each turn moves by the length of what it read.
     while i < text.len() {
         if text[i] != b'&' {
             let e = next_halt(text, i);
             if e == i {
-                return Measured {
-                    length,
-                    place: i,
-                    replaced: read,
-                    left: 0,
-                    reason: 0,
-                };
+                break;
             }
             length += e - i;
             i = e;
             continue;
         }
-        let Escape::Taken(n, c) = units::read_unit(text, i) else {
-            return Measured {
-                length,
-                place: i,
-                replaced: read,
-                left: 0,
-                reason: 0,
-            };
+        let Some(unit) = units::read_unit(text, i) else {
+            break;
         };
-        length += base::chars::char_length(c);
+        length += base::chars::char_length(unit.character);
         read += 1;
-        i += n;
+        i += unit.taken;
     }
-    Measured {
-        length,
-        place: i,
-        replaced: read,
-        left: 0,
-        reason: 0,
-    }
+    Measured::whole(length, i, read)
 }
 
 // Writes the result of read to the start of `output`, leaves the bytes after it as they were, and returns what `measure` does. It goes through the
@@ -93,40 +74,23 @@ pub fn write(text: &[u8], output: &mut [u8]) -> Measured
     let mut at: usize = 0;
     let mut read: usize = 0;
     let mut i: usize = 0;
+    // A cursor: each turn moves by the length of what it read.
     while i < text.len() {
         if text[i] != b'&' {
             let e = next_halt(text, i);
             if e == i {
-                return Measured {
-                    length: at,
-                    place: i,
-                    replaced: read,
-                    left: 0,
-                    reason: 0,
-                };
+                break;
             }
             at += base::put(&text[i..e], &mut output[at..]);
             i = e;
             continue;
         }
-        let Escape::Taken(n, c) = units::read_unit(text, i) else {
-            return Measured {
-                length: at,
-                place: i,
-                replaced: read,
-                left: 0,
-                reason: 0,
-            };
+        let Some(unit) = units::read_unit(text, i) else {
+            break;
         };
-        at += base::chars::put_char(c, &mut output[at..]);
+        at += base::chars::put_char(unit.character, &mut output[at..]);
         read += 1;
-        i += n;
+        i += unit.taken;
     }
-    Measured {
-        length: at,
-        place: i,
-        replaced: read,
-        left: 0,
-        reason: 0,
-    }
+    Measured::whole(at, i, read)
 }

@@ -9,9 +9,9 @@ ghost use Rattle.read_ascii.specs.Units.{unit_for, HasNumber, Exactly, Tells};
 
 use decode_html::entity;
 use encode_ascii::characters;
-use rules::{Escape, Reference};
+use rules::Escape;
 
-// Writes the unit of a character to the start of `room` and returns its length, 0 if it is copied.
+// Writes the unit of a character to the start of `room` and returns its length, 0 if it is copied: nothing is written then.
 fn put_unit(code: u32, room: &mut [u8]) -> usize
     requires { (code ≤ 0x10FFFF) × (32 ≤ length room.old) }
     ensures { Puts (unit_for code) result room.old room.new × (result ≤ 22) }
@@ -57,28 +57,31 @@ fn is_scalar(code: u32) -> bool
 }
 
 // Returns the character of a number if its unit stands at offset `at`.
-fn exact_unit(code: u32, text: &[u8], at: usize) -> Escape
+fn exact_unit(code: u32, text: &[u8], at: usize) -> Option<Escape>
     requires { (code ≤ 0x10FFFF) × (at ≤ length text.now) }
     ensures { Exactly code (drop at text.now) result }
 {
     let mut room: [u8; 32] = [0; 32];
     let n = put_unit(code, &mut room);
     if n == 0 {
-        return Escape::Nothing;
+        return None;
     }
     if base::prefix::starts(&room[..n], &text[at..]) {
-        return Escape::Taken(n, code);
+        return Some(Escape {
+            taken: n,
+            character: code,
+        });
     }
-    Escape::Nothing
+    None
 }
 
 // Reads the unit at the `&` at offset `at`: the character that the reference stands for in decode, if its unit stands there.
-pub fn read_unit(text: &[u8], at: usize) -> Escape
+pub fn read_unit(text: &[u8], at: usize) -> Option<Escape>
     requires { (at < length text.now) × (get_or text.now at 0 ≡ 38) }
     ensures { (p : ℕ) → Tells (read_step InAscii p (drop at text.now)) (drop at text.now) result }
 {
-    let Reference::Found(found) = entity::find_decoded_entity(text, at) else {
-        return Escape::Nothing;
+    let Ok(found) = entity::find_decoded_entity(text, at) else {
+        return None;
     };
     let value = found.value;
     let mut bytes: [u8; 8] = [0; 8];
@@ -87,5 +90,5 @@ pub fn read_unit(text: &[u8], at: usize) -> Escape
     if is_scalar(code) {
         return exact_unit(code, text, at);
     }
-    Escape::Nothing
+    None
 }

@@ -1,12 +1,13 @@
 // The strict reader of the HTML contexts, for long ASCII texts. What encode writes has none of the bytes that it replaces but `&`: one look tells that
 // the others are absent, and then only `&` is searched, once, since its offsets are kept for the writing. In an unquoted attribute units hold such bytes, and
 // crates/read_unquoted measures.
+// What the first look found of a text stands in each contract: text and output are lent side by side from step to step.
 #![tactic(auto)]
 
 mod look;
 mod measure;
 
-ghost use Rattle.std.specs.Prelude.{true, ◌≡◌, ◌≤◌, length};
+ghost use Rattle.std.specs.Prelude.{IfSome, true, ◌≡◌, ◌≤◌, length};
 ghost use Rattle.rules.specs.declared.Context.TheVariants.{InHtml};
 ghost use Rattle.read_units.specs.Marks.{Told};
 ghost use Rattle.read_html.specs.Clear.{Tame};
@@ -24,10 +25,10 @@ const FEW: usize = 64;
 
 const MANY: usize = 640;
 
-// Measures a text by the reader of its context, and keeps the offsets of its first units.
-fn survey(h: Html, text: &[u8], places: &mut [u16]) -> Found
+// Measures a text by the reader of its context, and keeps the offsets of its first units; `None` if it cannot be read so.
+fn survey(h: Html, text: &[u8], places: &mut [u16]) -> Option<Found>
     requires { (length text.now ≤ 65536) × Tame h text.now }
-    ensures { Told h text.now places.new result }
+    ensures { IfSome result (λ found. Told h text.now places.new found) }
 {
     if let Html::Unquoted = h {
         return read_unquoted::measure(text, places);
@@ -40,10 +41,9 @@ fn read_with(h: Html, places: &mut [u16], text: &[u8], output: &mut [u8]) -> Out
     requires { (length text.now ≤ 65536) × Tame h text.now }
     ensures { Reads (InHtml h) text.now output.old output.new result }
 {
-    let found = survey(h, text, places);
-    if !found.whole {
+    let Some(found) = survey(h, text, places) else {
         return Outcome::Untried;
-    }
+    };
     if found.units == 0 {
         return Outcome::Same;
     }
@@ -55,21 +55,12 @@ fn read_with(h: Html, places: &mut [u16], text: &[u8], output: &mut [u8]) -> Out
     Outcome::Written(length, found.units)
 }
 
-// Does so with the short list.
-fn read_medium(h: Html, text: &[u8], output: &mut [u8]) -> Outcome
-    requires { (length text.now ≤ 65536) × Tame h text.now }
+// Reads a text, with a list for N offsets.
+fn read_sized<const N: usize>(h: Html, text: &[u8], output: &mut [u8]) -> Outcome
+    requires { (N ≤ 65536) × (length text.now ≤ 65536) × Tame h text.now }
     ensures { Reads (InHtml h) text.now output.old output.new result }
 {
-    let mut places = [0x100u16; FEW];
-    read_with(h, &mut places, text, output)
-}
-
-// Does so with the long list.
-fn read_long(h: Html, text: &[u8], output: &mut [u8]) -> Outcome
-    requires { (length text.now ≤ 65536) × Tame h text.now }
-    ensures { Reads (InHtml h) text.now output.old output.new result }
-{
-    let mut places = [0x100u16; MANY];
+    let mut places = [0x100u16; N];
     read_with(h, &mut places, text, output)
 }
 
@@ -88,14 +79,11 @@ fn is_tame(h: Html, text: &[u8]) -> bool
 pub fn read(h: Html, text: &[u8], output: &mut [u8]) -> Outcome
     ensures { Reads (InHtml h) text.now output.old output.new result }
 {
-    if rules::TEXT_LIMIT < text.len() {
-        return Outcome::Untried;
-    }
-    if !is_tame(h, text) {
+    if rules::TEXT_LIMIT < text.len() || !is_tame(h, text) {
         return Outcome::Untried;
     }
     if text.len() <= MEDIUM {
-        return read_medium(h, text, output);
+        return read_sized::<FEW>(h, text, output);
     }
-    read_long(h, text, output)
+    read_sized::<MANY>(h, text, output)
 }

@@ -3,7 +3,6 @@
 ghost use Rattle.std.specs.Prelude.{true, ◌≡◌, ℕ, ◌≤◌, ◌<◌, length, get_or};
 ghost use Rattle.read_html.specs.Clear.{Clear, keys_of, far_of};
 
-use plain::look::low;
 use rules::Html;
 
 // Bytes that are tested together before the outcome is looked at, as in plain/src/look.rt.
@@ -29,10 +28,9 @@ fn keys_of(h: Html) -> [u8; 5]
 fn far(keys: &[u8; 5], b: u8) -> u8
     ensures { result ≡ far_of keys.now b }
 {
-    low(
-        low((b | keys[0]) ^ keys[1], (b | keys[2]) ^ keys[3]),
-        b ^ keys[4],
-    )
+    let first = (b | keys[0]) ^ keys[1];
+    let second = (b | keys[2]) ^ keys[3];
+    first.min(second).min(b ^ keys[4])
 }
 
 // Returns the least of these for the bytes of a part. The loop has no early exit, so that it becomes vector code.
@@ -40,10 +38,8 @@ fn least(keys: &[u8; 5], part: &[u8]) -> u8
     ensures { (i : ℕ) → i < length part.now → result ≤ far_of keys.now (get_or part.now i 0) }
 {
     let mut m: u8 = 255;
-    let mut i: usize = 0;
-    while i < part.len() {
-        m = low(m, far(keys, part[i]));
-        i += 1;
+    for b in part {
+        m = m.min(far(keys, *b));
     }
     m
 }
@@ -53,13 +49,10 @@ pub fn is_clear(h: Html, text: &[u8]) -> bool
     ensures { result ≡ true → Clear h text.now }
 {
     let keys = keys_of(h);
-    let mut i: usize = 0;
-    while i < text.len() {
-        let end = base::clip(i, text.len(), BLOCK);
-        if least(&keys, &text[i..end]) <= 128 {
+    for part in text.chunks(BLOCK) {
+        if least(&keys, part) <= 128 {
             return false;
         }
-        i = end;
     }
     true
 }

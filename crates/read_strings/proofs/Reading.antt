@@ -22,7 +22,6 @@ use Rattle.rules.specs.declared.Language.{Language}
 use Rattle.rules.specs.declared.Language.TheVariants.{Script, Style}
 use Rattle.rules.specs.declared.Quotes.{Quotes}
 use Rattle.rules.specs.declared.Quotes.TheVariants.{Single, Double, Both}
-use Rattle.rules.specs.declared.Escape.TheVariants.{Nothing}
 use Rattle.rules.proofs.Tests.{and_left, and_right, or_cases, all_in, first-sound, stands-split, same_bytes_lem}
 use Rattle.rules.proofs.Tables.{barred, row_first}
 use Rattle.rules.proofs.Every.{values-code}
@@ -169,7 +168,7 @@ module _ (l : Language) (q : Quotes) (t : List ℕ) (i : ℕ) where
     where
       go : (o : Option Row) → row_at value (rows (string_of l q)) (drop i t) ≡ o → UnitAt l q t i
       go (some e) p = let (n, w) = first-sound (λ (row : Row). stands (value row)) (rows (string_of l q)) (drop i t) e p in (unit-there (e, n, w) (omega arith)).0
-      go none p = absurd (live (from-stop (byte_step (string_of l q)) t i h (no-unit-here (string_of l q) t i h Nothing (m ∙ sym (mark-is l q)) refl (finds-none p))))
+      go none p = absurd (live (from-stop (byte_step (string_of l q)) t i h (no-unit-here (string_of l q) t i h (m ∙ sym (mark-is l q)) (finds-none p))))
 
   -- And nothing is read from a quote on that is replaced.
   pub key-stops : i < length t → is_key (keys_of q) (get_or t i 0) ≡ true → from (byte_step (string_of l q)) t i ≡ []

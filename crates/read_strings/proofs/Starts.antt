@@ -1,5 +1,6 @@
 -- What is told byte by byte of a clear text is what a loop from backslash to backslash counts: where every unit that begins is one, none begins within it.
 -- Assumes nothing.
+use Rattle.std.specs.Prelude.{Some}
 use mathlib.Core.Bool.{Bool, true, false, not, ◌&&◌, cond}
 use mathlib.Core.Path.{◌≡◌, refl, sym, ap, ◌∙◌, subst}
 use mathlib.Core.List.{List}
@@ -334,9 +335,9 @@ module _ (l : Language) (q : Quotes) (t : List ℕ) (clear : Clear l q t) (bytes
         (omega (arith, u, v, g), recount l q t r (r - gain_to t r) (r - (sum_to (start_at t) i + sum_to (longer_at t) i * 2)) (sum_to (start_at t) r) (sum_to (start_at t) i) (omega (arith, u, v)) u b.count)
 
 -- A loop may begin with nothing measured.
-pub ready-none : (l : Language) (q : Quotes) (t : List ℕ) → Clear l q t → (listed : ℕ) (a : Begun) → a.gain ≡ 0 → a.units ≡ 0 → a.from ≡ 0 → Ready l q t listed a
+pub ready-none : (l : Language) (q : Quotes) (t : List ℕ) → Clear l q t → (listed : ℕ) (a : Begun) → a.gain ≡ 0 → a.units ≡ 0 → a.from ≡ 0 → Ready l q t listed (Some a)
 ready-none l q t clear listed a g u f =
-    (omega (arith, f), λ z. u, λ z y. f, λ r p. (omega (arith, g), omega (arith, u), λ z. recount l q t r (r - 0) (r - a.gain) 0 a.units (ap (λ (n : ℕ). r - n) (sym g)) (sym u) (count-start l q t clear r (subst (λ (s : ℕ). Nearest t s 0x5C r) f p))))
+    (omega (arith, f), λ z. u, λ y. f, λ r p. (omega (arith, g), omega (arith, u), recount l q t r (r - 0) (r - a.gain) 0 a.units (ap (λ (n : ℕ). r - n) (sym g)) (sym u) (count-start l q t clear r (subst (λ (s : ℕ). Nearest t s 0x5C r) f p))))
 
 -- A number that is 0 unless nothing is kept, and no more than what is kept.
 pub none_kept : (u n : ℕ) → (0 < n → u ≡ 0) → u ≤ n → u ≡ 0

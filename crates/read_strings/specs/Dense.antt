@@ -1,6 +1,6 @@
 -- The units of a clear text, told of byte by byte.
 -- Assumes nothing.
-use Rattle.std.specs.Prelude.{Bool, true, ◌&&◌, ◌||◌, cond, ◌≡◌, List, ℕ, zero, suc, ◌+◌, ◌-◌, ◌%◌, ◌≤◌, ◌<◌, eqb, length, get_or}
+use Rattle.std.specs.Prelude.{Option, Some, None, Bool, ◌&&◌, ◌||◌, cond, ◌≡◌, List, ℕ, zero, suc, ◌+◌, ◌-◌, ◌%◌, ◌≤◌, ◌<◌, eqb, length, get_or}
 use Rattle.rules.specs.Contexts.{string_of}
 use Rattle.rules.specs.declared.Language.{Language}
 use Rattle.rules.specs.declared.Quotes.{Quotes}
@@ -43,7 +43,8 @@ sum_to f zero = 0
 sum_to f (suc k) = sum_to f k + f k
 
 -- What a measuring loop may begin with at the next backslash: what is counted up to there. Nothing is, where offsets are kept.
-abbrev pub Ready : Language → Quotes → List ℕ → ℕ → Begun → Type 0
-Ready l q t listed a =
-    (a.from ≤ length t) × (0 < listed → a.units ≡ 0) × (a.whole ≡ true → a.units ≡ 0 → a.from ≡ 0)
-    × ((r : ℕ) → Nearest t a.from 0x5C r → (a.gain ≤ r) × (a.units ≤ r) × (a.whole ≡ true → Counted (byte_step (string_of l q)) t r (r - a.gain) a.units))
+abbrev pub Ready : Language → Quotes → List ℕ → ℕ → Option Begun → Type 0
+Ready l q t listed (Some a) =
+    (a.from ≤ length t) × (0 < listed → a.units ≡ 0) × (a.units ≡ 0 → a.from ≡ 0)
+    × ((r : ℕ) → Nearest t a.from 0x5C r → (a.gain ≤ r) × (a.units ≤ r) × Counted (byte_step (string_of l q)) t r (r - a.gain) a.units)
+Ready l q t listed None = Unit {0}

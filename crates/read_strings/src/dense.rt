@@ -22,11 +22,10 @@ pub struct Sums {
     pub wrong: u8,
 }
 
-// What a text is measured to be up to the first backslash from `from` on: whether all of it is units and bytes that are kept, how much shorter its result is,
-// and how many units it has.
+// What a text that is units and bytes that are kept up to the first backslash from `from` on is measured to be: how much shorter its result is, and how many
+// units it has.
 #[derive(Clone, Copy)]
 pub struct Begun {
-    pub whole: bool,
     pub gain: usize,
     pub units: usize,
     pub from: usize,
@@ -45,16 +44,14 @@ fn flag(text: &[u8], from: usize, last: u8, flags: &mut [u8; PART]) -> u8
     ensures { (result ≡ last_of text.now (from + 240)) × ((j : ℕ) → j < 240 → get_or flags.new j 0 ≡ start_at text.now (from + j)) × (length flags.new ≡ 240) }
 {
     let mut before = last;
-    let mut j: usize = 0;
-    while j < PART {
+    for j in 0..PART {
         before = start_of(before, text[from + j]);
         flags[j] = before;
-        j += 1;
     }
     before
 }
 
-// Returns a number, or 0 if a test is passed.
+// Returns a number, or 0 if a test is passed: what is added up, without a branch.
 fn unless(passed: bool, n: u8) -> u8
     ensures { (result ≡ unless_it passed n) × (result ≤ n) }
 {
@@ -76,8 +73,7 @@ fn count(language: Language, keys: &[u8; 2], flags: &[u8; PART], text: &[u8], fr
     let mut units: u8 = 0;
     let mut longer: u8 = 0;
     let mut wrong: u8 = 0;
-    let mut j: usize = 0;
-    while j < PART {
+    for j in 0..PART {
         let at = from + j;
         let b = text[at + 1];
         let form = units::is_form(
@@ -92,7 +88,6 @@ fn count(language: Language, keys: &[u8; 2], flags: &[u8; PART], text: &[u8], fr
         units += flags[j];
         longer += unless(is_short(b), flags[j]);
         wrong += unless(form, flags[j]);
-        j += 1;
     }
     Sums {
         units,
@@ -105,13 +100,7 @@ fn count(language: Language, keys: &[u8; 2], flags: &[u8; PART], text: &[u8], fr
 fn sample(text: &[u8], step: usize) -> usize
     requires { (1 ≤ step) × (step ≤ length text.now + 1) }
 {
-    let mut n: usize = 0;
-    let mut i: usize = 0;
-    while i < text.len() {
-        n += base::when(text[i], b'\\', 1) as usize;
-        i += step;
-    }
-    n
+    text.iter().step_by(step).filter(|b| **b == b'\\').count()
 }
 
 // Reports whether about one in six bytes of a long text is a backslash, by 128 of them; where 32 of them have hardly one, that is enough.
@@ -123,30 +112,29 @@ pub fn is_dense(text: &[u8]) -> bool {
 }
 
 // Returns that nothing is measured yet.
-fn none() -> Begun
+fn start() -> Begun
     ensures { (result.gain ≡ 0) × (result.units ≡ 0) × (result.from ≡ 0) }
 {
     Begun {
-        whole: true,
         gain: 0,
         units: 0,
         from: 0,
     }
 }
 
-// Measures the parts of a text of which no offsets are kept; else nothing.
+// Measures the parts of a text of which no offsets are kept; else nothing. None if what begins a unit is none.
 pub fn begin(
     language: Language,
     quotes: Quotes,
     keys: &[u8; 2],
     text: &[u8],
     listed: usize,
-) -> Begun
+) -> Option<Begun>
     requires { (keys.now ≡ keys_of quotes) × (length text.now ≤ 65536) × Clear language quotes text.now }
     ensures { Ready language quotes text.now listed result }
 {
     if 0 < listed {
-        return none();
+        return Some(start());
     }
     let mut flags = [1u8; PART];
     let mut last: u8 = 0;
@@ -154,6 +142,7 @@ pub fn begin(
     let mut longer: usize = 0;
     let mut wrong: usize = 0;
     let mut i: usize = 0;
+    // A cursor: each turn moves by a part, and looks at the bytes behind it too.
     while PART + NEAR <= text.len() - i {
         last = flag(text, i, last, &mut flags);
         let s = count(language, keys, &flags, text, i);
@@ -163,20 +152,14 @@ pub fn begin(
         i += PART;
     }
     if 0 < wrong {
-        return Begun {
-            whole: false,
-            gain: 0,
-            units: 0,
-            from: text.len(),
-        };
+        return None;
     }
     if units == 0 {
-        return none();
+        return Some(start());
     }
-    Begun {
-        whole: true,
+    Some(Begun {
         gain: units + longer * 2,
         units,
         from: i + last as usize,
-    }
+    })
 }

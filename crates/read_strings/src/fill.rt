@@ -1,4 +1,5 @@
 // Writes what a clear text reads back as: what stands between two units is copied at once, and a unit gives way to its character.
+// The kept places stand beside their count: the list is an array on the caller's stack, of which the rest is not set.
 ghost use Rattle.std.specs.Prelude.{◌≡◌, ◌≤◌, ◌<◌, length, get_or};
 ghost use Rattle.rules.specs.Contexts.{string_of};
 ghost use Rattle.rules.specs.Moves.{through, place};
@@ -20,7 +21,7 @@ fn next_kept(text: &[u8], places: &[u16], kept: usize, k: usize, from: usize) ->
     ensures { Nearest text.now from 92 result × (k < kept → result ≡ get_or places.now k 0) }
 {
     if k < kept {
-        return marks::offset(places[k]);
+        return usize::from(places[k]);
     }
     if units::byte_at(text, from) == b'\\' {
         return from;
@@ -44,6 +45,7 @@ pub fn write(
     let mut at: usize = 0;
     let mut k: usize = 0;
     let mut i: usize = 0;
+    // A cursor: each turn goes to the next unit, kept or searched.
     while i < text.len() {
         let mark = next_kept(text, places, kept, k, i);
         at += marks::put_ahead(text, i, mark, &mut output[at..]);

@@ -1,5 +1,6 @@
 // The strict reader of script and style strings, for long ASCII texts. What encode writes has none of the bytes that it replaces but backslashes and the
 // quotes after them: one look tells that the others are absent, and then only the backslash is searched.
+// What the first look found of a text stands in each contract, with the language and the quotes: text and output are lent side by side from step to step.
 #![tactic(auto)]
 
 mod dense;
@@ -35,29 +36,19 @@ fn read_with(
     requires { (length text.now ≤ 65536) × Clear language quotes text.now }
     ensures { Reads (string_of language quotes) text.now output.old output.new result }
 {
-    let found = measure::measure(language, quotes, text, places);
-    if !found.whole {
+    let Some(found) = measure::measure(language, quotes, text, places) else {
         return Outcome::Untried;
-    }
+    };
     if found.units == 0 {
         return Outcome::Same;
     }
     if output.len() < found.length {
         return Outcome::NoRoom(found.length);
     }
-    let kept = base::min(found.units, places.len());
+    let kept = found.units.min(places.len());
     let length = found.length;
     fill::write(language, quotes, text, places, kept, &mut output[..length]);
     Outcome::Written(length, found.units)
-}
-
-// Does so with the short list.
-fn read_medium(language: Language, quotes: Quotes, text: &[u8], output: &mut [u8]) -> Outcome
-    requires { (length text.now ≤ 65536) × Clear language quotes text.now }
-    ensures { Reads (string_of language quotes) text.now output.old output.new result }
-{
-    let mut places = [0x100u16; FEW];
-    read_with(language, quotes, &mut places, text, output)
 }
 
 // Returns how many offsets are kept of a long text: none if it is full of units, as then it is measured without them.
@@ -70,14 +61,19 @@ fn list_of(text: &[u8]) -> usize
     MANY
 }
 
-// Does so with the long list.
-fn read_long(language: Language, quotes: Quotes, text: &[u8], output: &mut [u8]) -> Outcome
-    requires { (length text.now ≤ 65536) × Clear language quotes text.now }
+// Does so with a list that has room for N offsets, of which `listed` are kept.
+fn read_sized<const N: usize>(
+    language: Language,
+    quotes: Quotes,
+    listed: usize,
+    text: &[u8],
+    output: &mut [u8],
+) -> Outcome
+    requires { (listed ≤ N) × (N ≤ 65536) × (length text.now ≤ 65536) × Clear language quotes text.now }
     ensures { Reads (string_of language quotes) text.now output.old output.new result }
 {
-    let mut places = [0x100u16; MANY];
-    let many = list_of(text);
-    read_with(language, quotes, &mut places[..many], text, output)
+    let mut places = [0x100u16; N];
+    read_with(language, quotes, &mut places[..listed], text, output)
 }
 
 // Reads a text of a string, if it is ASCII and has none of the bytes that the string replaces but in its units.
@@ -91,7 +87,7 @@ pub fn read(language: Language, quotes: Quotes, text: &[u8], output: &mut [u8]) 
         return Outcome::Untried;
     }
     if text.len() <= MEDIUM {
-        return read_medium(language, quotes, text, output);
+        return read_sized::<FEW>(language, quotes, FEW, text, output);
     }
-    read_long(language, quotes, text, output)
+    read_sized::<MANY>(language, quotes, list_of(text), text, output)
 }

@@ -2,7 +2,6 @@
 ghost use Rattle.std.specs.Prelude.{true, ◌≡◌, ℕ, ◌≤◌, ◌<◌, length, get_or};
 ghost use Rattle.read_strings.specs.Clear.{Clear, keys_of, is_key, is_good, far_of, before_in};
 
-use plain::look::low;
 use rules::{Language, Quotes};
 
 // Bytes that are tested together before the outcome is looked at, as in plain/src/look.rt.
@@ -33,7 +32,7 @@ fn is_good(keys: &[u8; 2], before: u8, b: u8) -> bool
     base::is_within(b' ', 127, b) & (b != b'<') & ((before == b'\\') | !is_key(keys, b))
 }
 
-// Returns 255 for such a byte, else 0.
+// Returns 255 for such a byte, else 0: the least of many such numbers is vector code, an `and` of booleans is not.
 fn far(keys: &[u8; 2], before: u8, b: u8) -> u8
     ensures { result ≡ far_of keys.now before b }
 {
@@ -46,10 +45,8 @@ fn least(keys: &[u8; 2], before: u8, part: &[u8]) -> u8
     ensures { (i : ℕ) → i < length part.now → result ≤ far_of keys.now (before_in before part.now i) (get_or part.now i 0) }
 {
     let mut m = far(keys, before, part[0]);
-    let mut i: usize = 1;
-    while i < part.len() {
-        m = low(m, far(keys, part[i - 1], part[i]));
-        i += 1;
+    for i in 1..part.len() {
+        m = m.min(far(keys, part[i - 1], part[i]));
     }
     m
 }
@@ -61,6 +58,7 @@ pub fn is_clear(language: Language, quotes: Quotes, text: &[u8]) -> bool
     let keys = keys_of(quotes);
     let mut before: u8 = 0;
     let mut i: usize = 0;
+    // A cursor: each turn looks at a block with the byte before it, which an iterator of blocks does not tell.
     while i < text.len() {
         let end = base::clip(i, text.len(), BLOCK);
         if least(&keys, before, &text[i..end]) == 0 {

@@ -8,10 +8,9 @@ ghost use Rattle.read_strings.specs.Marks.{Told};
 use crate::{dense, look, units};
 use rules::{Language, Quotes};
 
-// What is found: whether the whole text is units and bytes that are kept, the length of the result, and how many units it has.
+// What is found of a text that is units and bytes that are kept: the length of the result, and how many units it has.
 #[derive(Clone, Copy)]
 pub struct Found {
-    pub whole: bool,
     pub length: usize,
     pub units: usize,
 }
@@ -30,35 +29,34 @@ fn next_mark(text: &[u8], from: usize) -> usize
 
 // Measures a text in which only backslashes are to be tested, and keeps the offsets of its first units in `places`. That a unit is none is told at the
 // end: a branch for each would be guessed wrongly too often, as it is made of several tests.
-pub fn measure(language: Language, quotes: Quotes, text: &[u8], places: &mut [u16]) -> Found
+pub fn measure(language: Language, quotes: Quotes, text: &[u8], places: &mut [u16]) -> Option<Found>
     requires { (length text.now ≤ 65536) × Clear language quotes text.now }
     ensures { Told language quotes text.now places.new result }
 {
     let keys = look::keys_of(quotes);
-    let begun = dense::begin(language, quotes, &keys, text, places.len());
-    let mut whole = begun.whole;
+    let begun = dense::begin(language, quotes, &keys, text, places.len())?;
+    let mut whole = true;
     let mut gain = begun.gain;
     let mut units = begun.units;
     let mut i = next_mark(text, begun.from);
+    // A cursor: each turn goes to the next backslash after the unit.
     while i < text.len() {
-        whole = whole & units::is_unit(language, quotes, &keys, text, i);
+        whole &= units::is_unit(language, quotes, &keys, text, i);
         marks::keep(places, units, i);
         let second = units::byte_at(text, i + 1);
         let n = units::length_of(second);
         if text.len() - i < n {
-            return Found {
-                whole: false,
-                length: 0,
-                units: 0,
-            };
+            return None;
         }
         gain += units::gain_of(second);
         units += 1;
         i = next_mark(text, i + n);
     }
-    Found {
-        whole,
+    if !whole {
+        return None;
+    }
+    Some(Found {
         length: text.len() - gain,
         units,
-    }
+    })
 }

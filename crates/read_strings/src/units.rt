@@ -1,4 +1,5 @@
 // The units of a string. What is read off a unit has no branch, as no branch could guess which unit comes next.
+// The bytes of an escape are handed on one by one: as a slice they would pass through memory at each unit.
 ghost use Rattle.std.specs.Prelude.{true, ◌≡◌, [], ◌∷◌, ◌+◌, ◌≤◌, ◌<◌, length, get_or};
 ghost use Rattle.rules.specs.Bytes.{over};
 ghost use Rattle.read_strings.specs.Clear.{keys_of, Fresh};
@@ -67,7 +68,7 @@ pub fn is_form(language: Language, keys: &[u8; 2], b: u8, c: u8, d: u8, e: u8, f
     is_slashed(keys, b, c) | is_hex(language, b, c, d) | is_separator(language, b, c, d, e, f)
 }
 
-// Returns the five bytes after an offset, 0 for those past the end.
+// Returns the five bytes after an offset, 0 for those past the end, since no escape has a NUL.
 fn bytes_after(text: &[u8], at: usize) -> [u8; 5]
     requires { at < length text.now }
     ensures { result ≡ get_or text.now (at + 1) 0 ∷ get_or text.now (at + 2) 0 ∷ get_or text.now (at + 3) 0 ∷ get_or text.now (at + 4) 0 ∷ get_or text.now (at + 5) 0 ∷ [] }

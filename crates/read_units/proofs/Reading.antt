@@ -17,7 +17,6 @@ use Rattle.rules.specs.Reading.{undo, unless}
 use Rattle.rules.specs.Encoding.{keep_byte}
 use Rattle.rules.specs.declared.Html.{Html}
 use Rattle.rules.specs.declared.Context.TheVariants.{InHtml}
-use Rattle.rules.specs.declared.Escape.TheVariants.{Nothing}
 use Rattle.rules.proofs.Tests.{and_left, and_right, all_in, first-sound, stands-split, same_bytes_lem}
 use Rattle.rules.proofs.Tables.{barred, row_first}
 use Rattle.rules.proofs.Every.{values-code}
@@ -106,4 +105,4 @@ module _ (h : Html) (t : List ℕ) (i : ℕ) where
     where
       go : (o : Option Row) → row_at value (html_rows h) (drop i t) ≡ o → UnitAt h t i
       go (some e) q = let (n, w) = first-sound (λ (row : Row). stands (value row)) (html_rows h) (drop i t) e q in unit-there (e, n, w) (omega arith)
-      go none q = absurd (live (from-stop (byte_step (InHtml h)) t i l (no-unit-here (InHtml h) t i l Nothing m refl (finds-none q))))
+      go none q = absurd (live (from-stop (byte_step (InHtml h)) t i l (no-unit-here (InHtml h) t i l m (finds-none q))))

@@ -11,7 +11,7 @@ use lib.Dec.{ltb, eqb}
 use lib.ListN.{length, take, drop, get_or, length-append, length-drop}
 use lib.Seq.{length-take-le}
 use Rattle.rules.specs.Bytes.{all}
-use Rattle.rules.specs.Answers.{Measures}
+use Rattle.rules.specs.Answers.{Measures, whole}
 use Rattle.rules.specs.Reading.{read_step}
 use Rattle.rules.specs.Moves.{keep, taken, place, before, through, from}
 use Rattle.rules.specs.Tables.{html_rows, replaced_chars}
@@ -20,8 +20,8 @@ use Rattle.rules.specs.declared.Context.TheVariants.{InHtml}
 use Rattle.rules.proofs.Tables.{barred}
 use Rattle.rules.proofs.Loops.{from-stop, from_end, drop-next}
 use Rattle.rules.proofs.Quiet.{Keeps, quiet-place}
-use Rattle.base.specs.Places.{Nearest, Holds}
-use Rattle.base.proofs.Filled.{Filled, Next, filled-room}
+use Rattle.base.specs.Places.{Nearest}
+use Rattle.base.proofs.Filled.{Next}
 use Rattle.base.proofs.Part.{part_length}
 use Rattle.base.proofs.Counted.{Counted, counted_start, counted-quiet, counted-swap, counted-end, step-swap, next-quiet, next-swap}
 use Rattle.utf8.proofs.Texts.{ascii-valid}
@@ -110,10 +110,6 @@ module _ (h : Html) (t : List ℕ) where
     pub next-mark : Next (Rest h t i) (take (r - i) (drop i t)) (Rest h t r)
     next-mark = next-quiet (byte_step (InHtml h)) t i r p.after p.within near-keeps
 
-  -- which have room where the result is being filled,
-  pub near-room : {whole out₀ out : List ℕ} {i at : ℕ} → Reaches h t i → Filled whole (Rest h t i) out₀ out at → Holds t i 38 (length (take (length out - at) (drop at out)))
-  near-room {i = i} e f r p = omega (arith, filled-room f (next-mark i r e p), near-length i r e p, p.after)
-
   -- and the character of a unit.
   pub next-unit : (i m : ℕ) → m ≡ length_of (get_or t (i + 1) 0) → UnitAt h t i → Next (Rest h t i) (char_at t i ∷ []) (Rest h t (i + m))
   next-unit i m e u =
@@ -175,12 +171,12 @@ module _ (h : Html) (t : List ℕ) where
 
   -- At the end of the text all is told.
   pub told-end : (places : List ℕ) (i gain k : ℕ) → Ascii t → Counted (byte_step (InHtml h)) t i (i - gain) k → i ≡ length t → Marked t places k
-      → Ascii t × Measures (record { length = length t - gain; place = length t; replaced = k; left = 0; reason = 0 }) (through (read_step (InHtml h)) t)
+      → Ascii t × Measures (whole (length t - gain) (length t) k) (through (read_step (InHtml h)) t)
       × (place (through (byte_step (InHtml h)) t) ≡ length t) × Marked t places k
   told-end places i gain k ascii c end marked =
       let none = from_end (byte_step (InHtml h)) t i (omega (arith, end)) in (
         ascii,
-        subst (λ (i : ℕ). Measures (record { length = i - gain; place = i; replaced = k; left = 0; reason = 0 }) (through (read_step (InHtml h)) t)) end
+        subst (λ (i : ℕ). Measures (whole (i - gain) i k) (through (read_step (InHtml h)) t)) end
             (read-measures (InHtml h) (λ k. refl) t i (i - gain) k (ascii-valid t ascii) c none),
         sym (counted-end c none).2 ∙ end,
         marked,

@@ -1,8 +1,8 @@
 -- Where the units of a text are, as they are kept, and what is measured.
 -- Assumes nothing.
-use Rattle.std.specs.Prelude.{true, ◌≡◌, List, ℕ, ◌+◌, length as size}
+use Rattle.std.specs.Prelude.{◌≡◌, List, ℕ, ◌+◌, length as size}
 use Rattle.rules.specs.Moves.{result, through, from, place as place_of}
-use Rattle.rules.specs.Answers.{Measures}
+use Rattle.rules.specs.Answers.{Measures, whole}
 use Rattle.rules.specs.Reading.{read_step}
 use Rattle.rules.specs.declared.Html.{Html}
 use Rattle.rules.specs.declared.Context.TheVariants.{InHtml}
@@ -24,11 +24,10 @@ Reaches h t i = i + place_of (from (byte_step (InHtml h)) t i) ≡ size t
 abbrev pub Marked : List ℕ → List ℕ → ℕ → Type 0
 Marked = MarkedBy length_of 38
 
--- Where the whole text can be read, it is ASCII, the numbers are those of the moves of read, byte by byte it is read to its end, and the units' places
+-- The whole text can be read: it is ASCII, the numbers are those of the moves of read, byte by byte it is read to its end, and the units' places
 -- are kept.
 abbrev pub Told : Html → List ℕ → List ℕ → Found → Type 0
 Told h t places r =
-    r.whole ≡ true
-    → Ascii t
-    × Measures (record { length = r.length; place = size t; replaced = r.units; left = 0; reason = 0 }) (through (read_step (InHtml h)) t)
+    Ascii t
+    × Measures (whole r.length (size t) r.units) (through (read_step (InHtml h)) t)
     × (place_of (through (byte_step (InHtml h)) t) ≡ size t) × Marked t places r.units

@@ -1,4 +1,5 @@
 // Writes what a text that can be read to its end reads back as. What stands between two units is copied at once, and a unit gives way to its character.
+// What measuring found of a text stands in each contract: it is its caller's text, and the places are lent beside it.
 ghost use Rattle.std.specs.Prelude.{◌≡◌, ◌≤◌, length};
 ghost use Rattle.rules.specs.Operations.{read_of};
 ghost use Rattle.rules.specs.declared.Context.TheVariants.{InHtml};
@@ -22,6 +23,7 @@ fn write_rest(h: Html, text: &[u8], from: usize, output: &mut [u8])
 {
     let mut at: usize = 0;
     let mut i = from;
+    // A cursor: each turn moves past the unit that it wrote.
     while i < text.len() {
         let mark = find_ascii::find_near(text, i, b'&');
         at += marks::put_ahead(text, i, mark, &mut output[at..]);
@@ -33,20 +35,18 @@ fn write_rest(h: Html, text: &[u8], from: usize, output: &mut [u8])
     }
 }
 
-// Writes a text, given the offsets of its first `kept` units.
-fn write_kept(h: Html, text: &[u8], places: &[u16], kept: usize, output: &mut [u8])
-    requires { Ascii text.now × Reaches h text.now 0 × (kept ≤ length places.now) × Marked text.now places.now kept × (length (Rest h text.now 0) ≡ length output.old) }
+// Writes a text, given the offsets of its first units.
+fn write_kept(h: Html, text: &[u8], places: &[u16], output: &mut [u8])
+    requires { Ascii text.now × Reaches h text.now 0 × Marked text.now places.now (length places.now) × (length (Rest h text.now 0) ≡ length output.old) }
     ensures { output.new ≡ Rest h text.now 0 }
 {
     let mut at: usize = 0;
     let mut i: usize = 0;
-    let mut k: usize = 0;
-    while k < kept {
-        let mark = marks::offset(places[k]);
+    for place in places {
+        let mark = usize::from(*place);
         at += base::put_run(&text[i..mark], &mut output[at..]);
         at += units::put_char(h, text, mark, &mut output[at..]);
         i = mark + units::length_of(text[mark + 1]);
-        k += 1;
     }
     write_rest(h, text, i, &mut output[at..]);
 }
@@ -58,6 +58,7 @@ fn write_steps(h: Html, text: &[u8], output: &mut [u8])
 {
     let mut at: usize = 0;
     let mut i: usize = 0;
+    // A cursor: each turn moves by the length of the byte or the unit that it read.
     while NEAR <= text.len() - i {
         at += units::put_step(text, i, &mut output[at..]);
         i += units::step_of(text[i], text[i + 1]);
@@ -75,5 +76,6 @@ pub fn write(h: Html, text: &[u8], places: &[u16], count: usize, output: &mut [u
         write_steps(h, text, output);
         return;
     }
-    write_kept(h, text, places, base::min(count, places.len()), output);
+    let kept = count.min(places.len());
+    write_kept(h, text, &places[..kept], output);
 }

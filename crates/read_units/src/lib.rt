@@ -5,10 +5,9 @@
 pub mod fill;
 pub mod units;
 
-// What is found: whether the whole text is units and bytes that are kept, the length of the result, and how many units it has.
+// What is found of a text that is as a whole units and bytes that are kept: the length of the result, and how many units it has.
 #[derive(Clone, Copy)]
 pub struct Found {
-    pub whole: bool,
     pub length: usize,
     pub units: usize,
 }

@@ -41,29 +41,7 @@ pub fn words_of(h: Html) -> [u64; 4]
 fn byte_at(text: &[u8], at: usize) -> u8
     ensures { result ≡ get_or text.now at 0 }
 {
-    if at < text.len() {
-        return text[at];
-    }
-    0
-}
-
-// Returns a byte as a wider number.
-fn wide(b: u8) -> u64
-    ensures { result ≡ b }
-{
-    b as u64
-}
-
-// Returns six bytes as a number.
-fn number(a: u8, b: u8, c: u8, d: u8, e: u8, f: u8) -> u64
-    ensures { result ≡ lowest 6 (a ∷ b ∷ c ∷ d ∷ e ∷ f ∷ []) }
-{
-    wide(a)
-        + wide(b) * 0x100
-        + wide(c) * 0x1_0000
-        + wide(d) * 0x100_0000
-        + wide(e) * 0x1_0000_0000
-        + wide(f) * 0x100_0000_0000
+    text.get(at).copied().unwrap_or(0)
 }
 
 // Returns the six bytes at an offset as a number; past the end they are 0.
@@ -72,23 +50,27 @@ pub fn six(text: &[u8], at: usize) -> u64
     ensures { result ≡ lowest 6 (drop at text.now) }
 {
     if text.len() - at < 6 {
-        return number(
+        return u64::from_le_bytes([
             byte_at(text, at),
             byte_at(text, at + 1),
             byte_at(text, at + 2),
             byte_at(text, at + 3),
             byte_at(text, at + 4),
             byte_at(text, at + 5),
-        );
+            0,
+            0,
+        ]);
     }
-    number(
+    u64::from_le_bytes([
         text[at],
         text[at + 1],
         text[at + 2],
         text[at + 3],
         text[at + 4],
         text[at + 5],
-    )
+        0,
+        0,
+    ])
 }
 
 // Whether six bytes start with a unit, given the numbers of the context's units.
@@ -119,7 +101,7 @@ pub fn length_of(second: u8) -> usize
     let more = base::when(second, b'a', 1)
         + base::when(second, b'q', 2)
         + base::when(second, b'#', 2);
-    4 + more as usize
+    4 + usize::from(more)
 }
 
 // Returns the number of two upper-case hex digits that is below 128. Of any other two bytes it is some number.

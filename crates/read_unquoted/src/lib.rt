@@ -5,29 +5,27 @@
 mod units;
 mod walk;
 
-ghost use Rattle.std.specs.Prelude.{◌≤◌, length};
+ghost use Rattle.std.specs.Prelude.{IfSome, ◌≤◌, length};
 ghost use Rattle.rules.specs.declared.Html.TheVariants.{Unquoted};
 ghost use Rattle.read_units.specs.Marks.{Told};
 
 use read_units::Found;
 use rules::Html;
 
-// Measures a text, and keeps the offsets of its first units in `places`.
-pub fn measure(text: &[u8], places: &mut [u16]) -> Found
+// Measures a text, and keeps the offsets of its first units in `places`; `None` if it is not as a whole units, letters and digits. It is no one function
+// with that of crates/read_html, which is given that the text is ASCII and looks for `&` alone: this one finds both out on its way.
+pub fn measure(text: &[u8], places: &mut [u16]) -> Option<Found>
     requires { length text.now ≤ 65536 }
-    ensures { Told Unquoted text.now places.new result }
+    ensures { IfSome result (λ found. Told Unquoted text.now places.new found) }
 {
     let words = read_units::units::words_of(Html::Unquoted);
     let mut gain: usize = 0;
     let mut units: usize = 0;
     let mut i = walk::next(text, 0);
+    // A cursor: each turn moves past a unit and the letters and digits after it.
     while i < text.len() {
         if !units::is_unit(&words, text, i) {
-            return Found {
-                whole: false,
-                length: 0,
-                units: 0,
-            };
+            return None;
         }
         marks::keep(places, units, i);
         let n = read_units::units::length_of(text[i + 1]);
@@ -35,9 +33,6 @@ pub fn measure(text: &[u8], places: &mut [u16]) -> Found
         units += 1;
         i = walk::next(text, i + n);
     }
-    Found {
-        whole: true,
-        length: text.len() - gain,
-        units,
-    }
+    let length = text.len() - gain;
+    Some(Found { length, units })
 }

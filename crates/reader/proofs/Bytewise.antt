@@ -19,6 +19,7 @@ use Rattle.rules.specs.Tables.{Row, row_at, value, rows, replaced_chars}
 use Rattle.rules.specs.Units.{IsRun}
 use Rattle.rules.specs.Encoding.{keep_byte}
 use Rattle.rules.specs.Answers.{Measures}
+use Rattle.std.specs.Prelude.{None}
 use Rattle.rules.specs.Ascii.{refer_to}
 use Rattle.rules.specs.Reading.{undo, unless, read_by, rule_back, read_step}
 use Rattle.rules.specs.Operations.{read_of, read_to}
@@ -155,7 +156,7 @@ module _ (c : Context) (ruleless : Ruleless c) where
 
   -- A loop that has counted all of the one reader's moves has found what a pass of the other finds.
   pub read-measures : (t : List ℕ) (i n k : ℕ) → valid_to t ≡ length t → Counted (byte_step c) t i n k → from (byte_step c) t i ≡ []
-      → Measures (record { length = n; place = i; replaced = k; left = 0; reason = 0 }) (through (read_step c) t)
+      → Measures (record { length = n; place = i; replaced = k; left = None }) (through (read_step c) t)
   read-measures t i n k h f e =
       let (long, many, far) = counted-end f e in
       let none : first_left (through (read_step c) t) ≡ (0, 0) = ap first_of (no-lefts (read_step c) (read-leaveless c) 0 0 0 t) in
@@ -163,5 +164,5 @@ module _ (c : Context) (ruleless : Ruleless c) where
         long = long ∙ ap length (byte-result t h);
         reach = far ∙ byte-place t h;
         many = many ∙ byte-replaced t h;
-        first = (ap (λ (p : ℕ × ℕ). p.0) (sym none), ap (λ (p : ℕ × ℕ). p.1) (sym none));
+        first = sym none;
       }

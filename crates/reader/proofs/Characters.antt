@@ -20,7 +20,7 @@ use Rattle.rules.specs.declared.Html.{Html}
 use Rattle.rules.specs.declared.Context.{Context}
 use Rattle.rules.specs.declared.Context.TheVariants.{InHtml, InScript, InStyle, InJson, InAscii}
 use Rattle.rules.specs.declared.Escape.{Escape}
-use Rattle.rules.specs.declared.Escape.TheVariants.{Taken, Nothing}
+use Rattle.std.specs.Prelude.{Some, None}
 use Rattle.rules.proofs.Tests.{and_left, and_right, is_false, all_in, any-in, any-intro, first-none, same_bytes_lem, same_in, stands_self, stands-split}
 use Rattle.rules.proofs.Tables.{barred}
 use Rattle.rules.proofs.Every.{every}
@@ -188,12 +188,12 @@ module _ (c : Context) (p : ℕ) where
   keeps-plain x s e = (λ i. undo (no_row c (x ∷ s) e i) (unless (e i) (keep (x ∷ []))))
 
   -- A unit that is found gives way to its character.
-  pub takes-unit : (s : List ℕ) (n ch : ℕ) → Finds (rows c) s (Taken n ch) → byte_step c p s ≡ swap (take n s) (utf8 ch)
+  pub takes-unit : (s : List ℕ) (e : Escape) → Finds (rows c) s (Some e) → byte_step c p s ≡ swap (take e.taken s) (utf8 e.character)
   unfolding byte_step
-  takes-unit s n ch f = f.undoes (unless (barred (replaced_chars c) s) (keep_byte s))
+  takes-unit s e f = f.undoes (unless (barred (replaced_chars c) s) (keep_byte s))
 
   -- Where one does and no unit is found, nothing can be taken.
-  pub stops-there : (s : List ℕ) → barred (replaced_chars c) s ≡ true → Finds (rows c) s Nothing → byte_step c p s ≡ stop 4
+  pub stops-there : (s : List ℕ) → barred (replaced_chars c) s ≡ true → Finds (rows c) s None → byte_step c p s ≡ stop 4
   unfolding byte_step
   stops-there s e f = f.undoes (unless (barred (replaced_chars c) s) (keep_byte s)) ∙ ap (λ (b : Bool). unless b (keep_byte s)) e
 
@@ -231,17 +231,14 @@ pub record UnitAt (c : Context) (t : List ℕ) (i n ch : ℕ) : Type 0 where
 
 module _ (c : Context) (t : List ℕ) (i : ℕ) (h : i < length t) where
   -- That is the move where one is found.
-  pub unit-here : (n ch : ℕ) (r : Escape) → r ≡ Taken n ch → Finds (rows c) (drop i t) r → UnitAt c t i n ch
-  unit-here n ch r same f =
-      let g : Finds (rows c) (drop i t) (Taken n ch) = rw (← same) f in
-      let w = within-rest t i n ch g.within in
-      record { moves = takes-unit c (before t i) (drop i t) n ch g; some = w.0; ends = w.1; shorter = w.2; scalar = w.3 }
+  pub unit-here : (e : Escape) → Finds (rows c) (drop i t) (Some e) → UnitAt c t i e.taken e.character
+  unit-here e f =
+      let w = within-rest t i e f.within in
+      record { moves = takes-unit c (before t i) (drop i t) e f; some = w.0; ends = w.1; shorter = w.2; scalar = w.3 }
 
   -- Where none stands at that byte, nothing can be taken,
-  pub no-unit-here : (r : Escape) → get_or t i 0 ≡ mark_of c → r ≡ Nothing → Finds (rows c) (drop i t) r → byte_step c (before t i) (drop i t) ≡ stop 4
-  no-unit-here r m same f =
-      let g : Finds (rows c) (drop i t) Nothing = rw (← same) f in
-      stops-there c (before t i) (drop i t) (rw (drop-next t i h, m) (mark-replaced c (drop (i + 1) t))) g
+  pub no-unit-here : get_or t i 0 ≡ mark_of c → Finds (rows c) (drop i t) None → byte_step c (before t i) (drop i t) ≡ stop 4
+  no-unit-here m f = stops-there c (before t i) (drop i t) (rw (drop-next t i h, m) (mark-replaced c (drop (i + 1) t))) f
 
   -- nor at another replaced character.
   pub no-mark-here : (bytes : (k : ℕ) → get_or t k 0 < 256) (leads : List ℕ) → Leads c (is_lead leads) → (get_or t i 0 ≡ mark_of c → ⊥) → First (replaced_at leads t) (length t) i i

@@ -6,7 +6,7 @@ use mathlib.Core.Logic.{inl, inr}
 use mathlib.Core.Option.{Option, none, some}
 use mathlib.Core.Path.{◌≡◌, refl, sym, ap, ◌∙◌, subst}
 use mathlib.Core.List.{List, [], ◌∷◌, map}
-use Prim.Native.Nat.{ℕ, zero, suc, ◌/◌, ◌%◌, ◌<◌}
+use Prim.Native.Nat.{ℕ, ◌<◌}
 use native.Mathlib.Omega.{arith}
 use lib.Dec.{T, ltb, ltb→lt}
 use lib.ListN.{take}
@@ -18,17 +18,17 @@ use Rattle.rules.specs.Reading.{undo}
 use Rattle.rules.specs.declared.Html.{Html}
 use Rattle.rules.specs.declared.Html.TheVariants.{TextMinimal, Text, DoubleQuoted, SingleQuoted, Quoted, Safe, Unquoted}
 use Rattle.rules.specs.declared.Context.TheVariants.{InHtml}
-use Rattle.rules.specs.declared.Escape.TheVariants.{Taken, Nothing}
+use Rattle.std.specs.Prelude.{Some, None}
+use Rattle.rules.specs.declared.Escape.{Escape}
 use Rattle.rules.proofs.Tests.{and_left, and_right, all_in, first-none, distinct, differ-law}
 use Rattle.rules.proofs.Tables.{unlike}
 use Rattle.rules.proofs.EveryByte.{every_byte_lem}
 use Rattle.decode_strings.specs.Finds.{Finds}
+use Rattle.rules.specs.Answers.{escape_for}
 use Rattle.decode_strings.specs.Hex.{hex_between}
-use Rattle.decode_strings.specs.Strings.{pack_of, escape_of}
 use Rattle.decode_strings.proofs.Finding.{Coded, finds-byte, finds-no-byte, utf8-ascii, one-of-in}
 use Rattle.rules.proofs.Below.{agree, agrees}
 use Rattle.decode_strings.proofs.Hex.{pair-digits, stands-between}
-use Rattle.decode_strings.proofs.Strings.{escape-packed}
 use Rattle.reader.specs.Replaced.{Leads, in_set}
 use Rattle.reader.specs.Units.{is_other}
 use Rattle.reader.proofs.Characters.{begins-alone}
@@ -74,34 +74,34 @@ module _ (q : List ℕ → Bool) (es : List Row) (d : T (distinct (unlike value)
   narrow-row o e = row-passed (λ (e : Row). q (key e)) es d s ∙ ap (passed (λ (e : Row). q (key e))) e
 
   -- What is not in the larger table is not in the smaller one.
-  finds-neither : Finds es s Nothing → Finds narrow s Nothing
+  finds-neither : Finds es s None → Finds narrow s None
   finds-neither f = go (row_at value es s) refl (f.undoes (stop 4))
     where
-      go : (o : Option Row) → row_at value es s ≡ o → undo o (stop 4) ≡ stop 4 → Finds narrow s Nothing
+      go : (o : Option Row) → row_at value es s ≡ o → undo o (stop 4) ≡ stop 4 → Finds narrow s None
       go none e h = finds-none (narrow-row none e)
       go (some row) e h = absurd (let z : ◌≡◌ {A = ℕ} 0 1 = cc in omega arith)
 
-  module _ (n c : ℕ) (f : Finds es s (Taken n c)) where
-    found : (e : Row) × (row_at value es s ≡ some e) × (key e ≡ utf8 c)
+  module _ (x : Escape) (f : Finds es s (Some x)) where
+    found : (e : Row) × (row_at value es s ≡ some e) × (key e ≡ utf8 x.character)
     found = go (row_at value es s) refl (f.undoes (stop 4))
       where
-        go : (o : Option Row) → row_at value es s ≡ o → undo o (stop 4) ≡ swap (take n s) (utf8 c) → (e : Row) × (row_at value es s ≡ some e) × (key e ≡ utf8 c)
+        go : (o : Option Row) → row_at value es s ≡ o → undo o (stop 4) ≡ swap (take x.taken s) (utf8 x.character) → (e : Row) × (row_at value es s ≡ some e) × (key e ≡ utf8 x.character)
         go none e h = absurd (let z : ◌≡◌ {A = ℕ} 0 1 = cc in omega arith)
         go (some row) e h = (row, e, cc)
 
-    narrow-found : (b : Bool) → q (utf8 c) ≡ b → row_at value narrow s ≡ elim b [ true ↦ some found.0 | false ↦ none ]
+    narrow-found : (b : Bool) → q (utf8 x.character) ≡ b → row_at value narrow s ≡ elim b [ true ↦ some found.0 | false ↦ none ]
     narrow-found b e =
         narrow-row (some found.0) found.1 ∙ ap (λ (b : Bool). elim b [ true ↦ some found.0 | false ↦ none ]) (ap q found.2 ∙ e)
 
     -- A row whose character is among those of the smaller table is found there,
-    finds-kept : q (utf8 c) ≡ true → Finds narrow s (Taken n c)
+    finds-kept : q (utf8 x.character) ≡ true → Finds narrow s (Some x)
     finds-kept e = record {
       undoes = λ other. ap (λ (o : Option Row). undo o other) (narrow-found true e ∙ sym found.1) ∙ f.undoes other;
       within = f.within;
     }
 
     -- and no other is.
-    finds-dropped : q (utf8 c) ≡ false → Finds narrow s Nothing
+    finds-dropped : q (utf8 x.character) ≡ false → Finds narrow s None
     finds-dropped e = finds-none (narrow-found false e)
 
 -- ---- the HTML contexts
@@ -123,15 +123,17 @@ module _ (h : Html) (s set : List ℕ) (right : Leads (InHtml h) (in_set set)) w
   replaced-byte : (b : ℕ) (r : Bool) → b < 128 → in_set set b ≡ r → replaces h (utf8 b) ≡ r
   replaced-byte b r l e = ap (replaces h) (utf8-ascii b l) ∙ sym (begins-alone h b (omega arith)) ∙ sym (right b (omega arith)) ∙ e
 
-  -- What a packed number is in the larger table it is in the smaller one, where its character is in the set,
-  pub html-kept : (code : ℕ) → code / 256 < 128 → in_set set (code / 256) ≡ true → Finds (html_rows Unquoted) s (escape_of code) → Finds (html_rows h) s (escape_of code)
-  html-kept zero l e f = rw (html-rows h) (finds-neither (replaces h) (html_rows Unquoted) tt s f)
-  html-kept (suc k) l e f = rw (html-rows h) (finds-kept (replaces h) (html_rows Unquoted) tt s (suc k % 256) (suc k / 256) f (replaced-byte (suc k / 256) true l e))
+  -- What is found in the larger table is found in the smaller one, where its character is in the set,
+  pub html-kept : (x : Escape) → x.character < 128 → in_set set x.character ≡ true → Finds (html_rows Unquoted) s (Some x) → Finds (html_rows h) s (Some x)
+  html-kept x l e f = rw (html-rows h) (finds-kept (replaces h) (html_rows Unquoted) tt s x f (replaced-byte x.character true l e))
 
-  -- and else nothing is found there.
-  pub html-dropped : (code : ℕ) → code / 256 < 128 → in_set set (code / 256) ≡ false → Finds (html_rows Unquoted) s (escape_of code) → Finds (html_rows h) s Nothing
-  html-dropped zero l e f = rw (html-rows h) (finds-neither (replaces h) (html_rows Unquoted) tt s f)
-  html-dropped (suc k) l e f = rw (html-rows h) (finds-dropped (replaces h) (html_rows Unquoted) tt s (suc k % 256) (suc k / 256) f (replaced-byte (suc k / 256) false l e))
+  -- and else nothing is found there;
+  pub html-dropped : (x : Escape) → x.character < 128 → in_set set x.character ≡ false → Finds (html_rows Unquoted) s (Some x) → Finds (html_rows h) s None
+  html-dropped x l e f = rw (html-rows h) (finds-dropped (replaces h) (html_rows Unquoted) tt s x f (replaced-byte x.character false l e))
+
+-- nor where the larger one has nothing.
+pub html-neither : (h : Html) (s : List ℕ) → Finds (html_rows Unquoted) s None → Finds (html_rows h) s None
+html-neither h s f = rw (html-rows h) (finds-neither (replaces h) (html_rows Unquoted) tt s f)
 
 -- ---- `&#xHH;`
 
@@ -145,7 +147,7 @@ reference-coded : Coded reference (hex_between (ascii "&#x") (ascii ";")) others
 unfolding hex_between
 reference-coded = record {
   finds = λ b i r. pair-digits b (other_byte b i);
-  sound = λ s i. stands-between (ascii "&#x") (ascii ";") s (other_byte (hex_between (ascii "&#x") (ascii ";") s) i);
+  sound = λ s b e i. stands-between (ascii "&#x") (ascii ";") s b e;
   keys = λ b. refl;
   sizes = λ b. refl;
   small = others-small;
@@ -164,13 +166,9 @@ other-out : (v : ℕ) → is_other v ≡ false → In v others → ⊥
 other-out v e i = subst T e (all_in is_other others tt v i)
 
 -- So where the two digits are those of such a byte, its unit is found,
-pub finds-other : (s : List ℕ) (v : ℕ) → v ≡ hex_between (ascii "&#x") (ascii ";") s → is_other v ≡ true → Finds (map reference others) s (escape_of (pack_of 6 v))
-finds-other s v e t =
-    rw (escape-packed 6 v (omega arith) (omega (arith, other-small v t)))
-    (subst (λ (v : ℕ). Finds (map reference others) s (Taken 6 v)) (sym e)
-    (finds-byte reference-coded s (other-in (hex_between (ascii "&#x") (ascii ";") s) (subst (λ (v : ℕ). is_other v ≡ true) e t))))
+pub finds-other : (s : List ℕ) (v : ℕ) → hex_between (ascii "&#x") (ascii ";") s ≡ Some v → is_other v ≡ true → Finds (map reference others) s (escape_for 6 v)
+finds-other s v e t = finds-byte reference-coded s v e (other-in v t)
 
 -- and else nothing is.
-pub finds-no-other : (s : List ℕ) (v : ℕ) → v ≡ hex_between (ascii "&#x") (ascii ";") s → is_other v ≡ false → Finds (map reference others) s Nothing
-finds-no-other s v e t =
-    finds-no-byte reference-coded s (other-out (hex_between (ascii "&#x") (ascii ";") s) (subst (λ (v : ℕ). is_other v ≡ false) e t))
+pub finds-no-other : (s : List ℕ) → ((v : ℕ) → hex_between (ascii "&#x") (ascii ";") s ≡ Some v → is_other v ≡ false) → Finds (map reference others) s None
+finds-no-other s h = finds-no-byte reference-coded s (λ v e. other-out v (h v e))

@@ -6,7 +6,7 @@ use mathlib.Core.Logic.{inl, inr}
 use mathlib.Core.Option.{Option, none, some}
 use mathlib.Core.Path.{◌≡◌, refl, sym, ap, ◌∙◌, subst}
 use mathlib.Core.List.{List, [], ◌∷◌, map}
-use Prim.Native.Nat.{ℕ, zero, suc, ◌/◌, ◌<◌}
+use Prim.Native.Nat.{ℕ, zero, suc, ◌<◌}
 use native.Mathlib.Omega.{arith}
 use lib.Dec.{T, ltb, eqb, eqb→eq, eqb_refl, ltb→lt}
 use lib.ListN.{length, get_or}
@@ -14,11 +14,11 @@ use Rattle.rules.specs.Bytes.{ascii, In, all, only, stands, one_of}
 use Rattle.rules.specs.Tables.{Row, row_at, value, reference, others, html_rows}
 use Rattle.rules.specs.Reading.{undo}
 use Rattle.rules.specs.declared.Html.TheVariants.{Unquoted}
+use Rattle.std.specs.Prelude.{Option as Maybe, None}
 use Rattle.rules.specs.declared.Escape.{Escape}
-use Rattle.rules.specs.declared.Escape.TheVariants.{Nothing}
 use Rattle.rules.proofs.Tests.{and_left, and_right, all_in, first-none}
 use Rattle.decode_strings.specs.Finds.{Finds}
-use Rattle.decode_strings.specs.Strings.{escape_of}
+use Rattle.rules.specs.Answers.{escape_for}
 use Rattle.decode_strings.proofs.Finding.{finds-later, finds-end}
 
 byte-stands : (k : ℕ) (v s : List ℕ) → k < length v → T (stands v s) → get_or v k 0 ≡ get_or s k 0
@@ -28,7 +28,7 @@ byte-stands zero (a ∷ v) (y ∷ s) h t = eqb→eq a y (and_left (eqb a y) (sta
 byte-stands (suc k) (a ∷ v) (y ∷ s) h t = byte-stands k v s (omega arith) (and_right (eqb a y) (stands v s) t)
 
 -- A table that has no row there has nothing.
-pub finds-none : {es : List Row} {s : List ℕ} → row_at value es s ≡ none → Finds es s Nothing
+pub finds-none : {es : List Row} {s : List ℕ} → row_at value es s ≡ none → Finds es s None
 finds-none e = record { undoes = λ other. ap (λ (o : Option Row). undo o other) e; within = tt }
 
 -- The value has a byte at place k, and it passes the test.
@@ -69,7 +69,7 @@ rows_by x = only (λ (e : Row). eqb (get_or (value e) 1 0) x) (html_rows Unquote
 
 module _ (s : List ℕ) where
   -- Only they count.
-  finds-by : (x : ℕ) {r : Escape} → get_or s 1 0 ≡ x → Finds (rows_by x) s r → Finds (html_rows Unquoted) s r
+  finds-by : (x : ℕ) {r : Maybe Escape} → get_or s 1 0 ≡ x → Finds (rows_by x) s r → Finds (html_rows Unquoted) s r
   finds-by x h f = record {
     undoes = λ other. ap (λ (o : Option Row). undo o other)
         (sym (only-there (λ (e : Row). eqb (get_or (value e) 1 0) x) (html_rows Unquoted) s
@@ -79,20 +79,20 @@ module _ (s : List ℕ) where
   }
 
   -- A second byte that only the row e has: that row, or nothing.
-  pub finds-named : (e : Row) (x code r : ℕ) → get_or s 1 0 ≡ x → rows_by x ≡ e ∷ [] → (stands (value e) s ≡ true → Finds (e ∷ []) s (escape_of code)) → code / 256 < 128
-      → r ≡ cond (stands (value e) s) code 0 → Finds (html_rows Unquoted) s (escape_of r) × (r / 256 < 128)
-  finds-named e x code r h o f l q = rw q (go (stands (value e) s) refl)
+  pub finds-named : (e : Row) (x n ch : ℕ) (r : Maybe Escape) → get_or s 1 0 ≡ x → rows_by x ≡ e ∷ [] → (stands (value e) s ≡ true → Finds (e ∷ []) s (escape_for n ch))
+      → r ≡ cond (stands (value e) s) (escape_for n ch) None → Finds (html_rows Unquoted) s r
+  finds-named e x n ch r h o f q = rw q (go (stands (value e) s) refl)
     where
-      go : (b : Bool) → stands (value e) s ≡ b → Finds (html_rows Unquoted) s (escape_of (cond b code 0)) × (cond b code 0 / 256 < 128)
-      go true t = (finds-by x h (rw o (f t)), l)
-      go false t = (finds-by x h (rw o (finds-later t finds-end)), omega arith)
+      go : (b : Bool) → stands (value e) s ≡ b → Finds (html_rows Unquoted) s (cond b (escape_for n ch) None)
+      go true t = finds-by x h (rw o (f t))
+      go false t = finds-by x h (rw o (finds-later t finds-end))
 
   -- `#`: one of those with digits.
-  pub finds-numbered : {r : Escape} → get_or s 1 0 ≡ 0x23 → Finds (map reference others) s r → Finds (html_rows Unquoted) s r
+  pub finds-numbered : {r : Maybe Escape} → get_or s 1 0 ≡ 0x23 → Finds (map reference others) s r → Finds (html_rows Unquoted) s r
   finds-numbered h f = finds-by 0x23 h f
 
   -- Any other byte: nothing.
-  pub finds-no-unit : one_of seconds (get_or s 1 0) ≡ false → Finds (html_rows Unquoted) s Nothing
+  pub finds-no-unit : one_of seconds (get_or s 1 0) ≡ false → Finds (html_rows Unquoted) s None
   finds-no-unit h = finds-none (none-there 1 (one_of seconds) (html_rows Unquoted) tt s h)
 
 -- A text of one byte or none has no second one.

@@ -3,12 +3,12 @@
 use mathlib.Core.Bool.{Bool, true, false, ◌&&◌, and-false}
 use mathlib.Core.Path.{◌≡◌, sym, ap, ◌∙◌}
 use mathlib.Core.List.{List}
-use Prim.Native.Nat.{ℕ, ◌+◌, ◌-◌, ◌≤◌, ◌<◌}
+use Prim.Native.Nat.{ℕ, ◌+◌, ◌-◌, ◌≤◌}
 use native.Mathlib.Omega.{arith}
 use lib.ListN.{length, take, drop, get_or}
-use Rattle.base.specs.First.{Free, First}
+use Rattle.base.specs.First.{Free}
 use Rattle.base.proofs.Part.{part_length, part_at}
-use Rattle.reader.specs.Replaced.{is_lead, Same, is_whole, begins_at, member_at, replaced_at}
+use Rattle.reader.specs.Replaced.{is_lead, is_whole, begins_at, replaced_at}
 
 -- A part in which the count is 0.
 pub out-part : (leads t : List ℕ) (i e : ℕ) → i ≤ e → e ≤ length t
@@ -18,15 +18,6 @@ out-part leads t i e h l f k a b =
     ap (λ (n : ℕ). is_lead leads (get_or t n 0)) (sym s)
     ∙ ap (is_lead leads) (sym (part_at t i e (k - i) (omega arith)))
     ∙ f (k - i) (omega arith) (omega (arith, part_length t i e h l))
-
--- The first place of a byte of the set is the first where one begins.
-pub first-same : (leads set t : List ℕ) (end a r : ℕ) → Same leads set → ((k : ℕ) → get_or t k 0 < 256) → First (member_at set t) end a r → First (begins_at leads t) end a r
-first-same leads set t end a r e bytes f = record {
-  after = f.after;
-  within = f.within;
-  none = λ k h l. sym (e (get_or t k 0) (bytes k)) ∙ f.none k h l;
-  here = λ h. sym (e (get_or t r 0) (bytes r)) ∙ f.here h;
-}
 
 -- Where none begins with the byte, no replaced character stands.
 pub out-plain : (leads t : List ℕ) (a e : ℕ) → Free (begins_at leads t) a e → Free (replaced_at leads t) a e
@@ -39,7 +30,3 @@ part-plain leads t k e = ap (λ (b : Bool). is_lead leads (get_or t k 0) && b) e
 -- One stands where one begins with the byte and it is not such another.
 pub whole-replaced : (leads t : List ℕ) (k : ℕ) → is_lead leads (get_or t k 0) ≡ true → is_whole (drop k t) ≡ true → replaced_at leads t k ≡ true
 whole-replaced leads t k e f = λ i. e i && f i
-
--- A count that is 0 had no part that was not.
-pub sum-zero : (n m : ℕ) → n + m ≡ 0 → (n ≡ 0) × (m ≡ 0)
-sum-zero n m e = (omega arith, omega arith)

@@ -10,62 +10,42 @@ ghost use Rattle.rules.specs.Reading.{read_step};
 ghost use Rattle.rules.specs.Operations.{read_of};
 ghost use Rattle.reader.specs.Units.{Ruleless};
 
-use decode_strings::rows;
-use rules::{Context, Escape, Measured};
+use replaced::Special;
+use rules::{Context, Measured};
 
 pub mod replaced;
 pub mod units;
 
 // Measures the result of read of a valid text without writing it. At the byte that units start with there must be one. From any other byte on the text
-// is plain up to the next replaced character; if that is the byte itself, the reader stops there. The packed unit is used here and `read_unit` in
-// `write`: with one user the compiler puts `read_unit` in line.
+// is plain up to the next replaced character; if that is the byte itself, the reader stops there.
 pub fn measure(c: Context, text: &[u8]) -> Measured
     requires { (length text.now ≤ 65536) × (valid_to text.now ≡ length text.now) × Ruleless c }
     ensures { Measures result (through (read_step c) text.now) }
 {
-    let leads = replaced::leads_of(c);
-    let set = replaced::set_of(c);
+    let special = Special::of(c);
     let mark = units::mark_of(c);
     let mut length: usize = 0;
     let mut units: usize = 0;
     let mut i: usize = 0;
+    // A cursor: each turn moves by the length of what it read.
     while i < text.len() {
         if text[i] != mark {
-            let e = replaced::next_replaced(&leads, &set, text, i);
+            let e = special.next_replaced(text, i);
             if e == i {
-                return Measured {
-                    length,
-                    place: i,
-                    replaced: units,
-                    left: 0,
-                    reason: 0,
-                };
+                break;
             }
             length += e - i;
             i = e;
             continue;
         }
-        let code = units::unit(c, &set, text, i);
-        let Escape::Taken(n, ch) = rows::escape_of(code) else {
-            return Measured {
-                length,
-                place: i,
-                replaced: units,
-                left: 0,
-                reason: 0,
-            };
+        let Some(unit) = units::read_unit(c, &special.set, text, i) else {
+            break;
         };
-        length += base::chars::char_length(ch);
+        length += base::chars::char_length(unit.character);
         units += 1;
-        i += n;
+        i += unit.taken;
     }
-    Measured {
-        length,
-        place: i,
-        replaced: units,
-        left: 0,
-        reason: 0,
-    }
+    Measured::whole(length, i, units)
 }
 
 // Writes the result of read of a valid text to the start of `output`, leaves the bytes after it as they were, and returns what `measure` does. It goes
@@ -74,46 +54,28 @@ pub fn write(c: Context, text: &[u8], output: &mut [u8]) -> Measured
     requires { (valid_to text.now ≡ length text.now) × (length (read_of c text.now) ≤ length output.old) × Ruleless c }
     ensures { Measures result (through (read_step c) text.now) × (output.new ≡ over (read_of c text.now) output.old) }
 {
-    let leads = replaced::leads_of(c);
-    let set = replaced::set_of(c);
+    let special = Special::of(c);
     let mark = units::mark_of(c);
     let mut at: usize = 0;
     let mut units: usize = 0;
     let mut i: usize = 0;
+    // A cursor: each turn moves by the length of what it read.
     while i < text.len() {
         if text[i] != mark {
-            let e = replaced::next_replaced(&leads, &set, text, i);
+            let e = special.next_replaced(text, i);
             if e == i {
-                return Measured {
-                    length: at,
-                    place: i,
-                    replaced: units,
-                    left: 0,
-                    reason: 0,
-                };
+                break;
             }
             at += base::put(&text[i..e], &mut output[at..]);
             i = e;
             continue;
         }
-        let Escape::Taken(n, ch) = units::read_unit(c, &set, text, i) else {
-            return Measured {
-                length: at,
-                place: i,
-                replaced: units,
-                left: 0,
-                reason: 0,
-            };
+        let Some(unit) = units::read_unit(c, &special.set, text, i) else {
+            break;
         };
-        at += base::chars::put_char(ch, &mut output[at..]);
+        at += base::chars::put_char(unit.character, &mut output[at..]);
         units += 1;
-        i += n;
+        i += unit.taken;
     }
-    Measured {
-        length: at,
-        place: i,
-        replaced: units,
-        left: 0,
-        reason: 0,
-    }
+    Measured::whole(at, i, units)
 }

@@ -1,4 +1,5 @@
 // Finds the next replaced character. Stretches without one are skipped by counts over 32 bytes, which compile to vector code.
+// Text and offset stand in each contract: each call goes on from another offset.
 ghost use Rattle.std.specs.Prelude.{false, ◌≡◌, ◌≤◌, ◌<◌, length};
 ghost use Rattle.rules.specs.Contexts.{string_of};
 ghost use Rattle.rules.specs.declared.Context.TheVariants.{InHtml};
@@ -6,6 +7,38 @@ ghost use Rattle.base.specs.First.{Free, First};
 ghost use Rattle.reader.specs.Replaced.{is_lead, in_set, Leads, Same, bit_of, bits_of, separator_lead, separator_word, is_whole, begins_at, member_at, replaced_at};
 
 use rules::{Context, Html, Language, Quotes};
+
+// The replaced characters of a context, by the bytes that start them: as a list, which tells of many bytes at once, and as a set, which is quicker for one.
+// Each is written out, as one made from the other would take a loop in every call.
+#[derive(Clone, Copy)]
+pub struct Special {
+    pub context: Context,
+    pub leads: [u8; 8],
+    pub set: [u64; 4],
+    ghost listed: { Leads context (is_lead leads) },
+    ghost kept: { Leads context (in_set set) },
+}
+
+impl Special {
+    // Returns those of a context.
+    pub fn of(c: Context) -> Special
+        ensures { result.context ≡ c }
+    {
+        Special {
+            context: c,
+            leads: leads_of(c),
+            set: set_of(c),
+        }
+    }
+
+    // Returns the first offset from `from` on of a replaced character, or the text's length.
+    pub fn next_replaced(&self, text: &[u8], from: usize) -> usize
+        requires { from ≤ length text.now }
+        ensures { First (replaced_at self.now.leads text.now) (length text.now) from result }
+    {
+        next_replaced(&self.leads, &self.set, text, from)
+    }
+}
 
 // Returns the bytes that start a replaced character in an HTML context: the first and the last of a range, five more bytes (some of them twice), and
 // 1 if every ASCII byte but letters and digits is one instead.
@@ -165,25 +198,15 @@ pub fn is_in(set: &[u64; 4], b: u8) -> bool
     (word >> ((b % 64) as u32)) % 2 == 1
 }
 
-// Returns 1 if the byte starts a replaced character, else 0.
-fn hit(leads: &[u8; 8], b: u8) -> u8
-    ensures { (result ≤ 1) × (result ≡ 0 → is_lead leads.now b ≡ false) }
+// Reports whether a byte of the part starts a replaced character. The loop has no early exit, so that it becomes vector code.
+fn has_lead(leads: &[u8; 8], part: &[u8]) -> bool
+    ensures { result ≡ false → Free (begins_at leads.now part.now) 0 (length part.now) }
 {
-    if is_lead(leads, b) { 1 } else { 0 }
-}
-
-// Counts the bytes of a part that start a replaced character: 0 only if none does.
-fn count(leads: &[u8; 8], part: &[u8]) -> u8
-    requires { length part.now ≤ 32 }
-    ensures { result ≡ 0 → Free (begins_at leads.now part.now) 0 (length part.now) }
-{
-    let mut n: u8 = 0;
-    let mut j: usize = 0;
-    while j < part.len() {
-        n += hit(leads, part[j]);
-        j += 1;
+    let mut hit = false;
+    for b in part {
+        hit |= is_lead(leads, *b);
     }
-    n
+    hit
 }
 
 // Skips parts of 32 bytes without such a byte, from offset `from` on.
@@ -192,9 +215,10 @@ fn pass(leads: &[u8; 8], text: &[u8], from: usize) -> usize
     ensures { (from ≤ result) × (result ≤ length text.now) × Free (begins_at leads.now text.now) from result }
 {
     let mut i = from;
+    // A cursor: the place where a part begins is what is returned, and an iterator of parts does not tell it.
     while i < text.len() {
         let e = base::clip(i, text.len(), 32);
-        if count(leads, &text[i..e]) != 0 {
+        if has_lead(leads, &text[i..e]) {
             return i;
         }
         i = e;
@@ -207,14 +231,26 @@ fn walk(set: &[u64; 4], text: &[u8], from: usize, end: usize) -> usize
     requires { (from ≤ end) × (end ≤ length text.now) }
     ensures { First (member_at set.now text.now) end from result }
 {
-    let mut i = from;
-    while i < end {
+    for i in from..end {
         if is_in(set, text[i]) {
             return i;
         }
-        i += 1;
     }
-    i
+    end
+}
+
+// Reports whether `rest` starts with another byte than E2, or with U+2028 or U+2029.
+fn is_whole(rest: &[u8]) -> bool
+    requires { 0 < length rest.now }
+    ensures { result ≡ is_whole rest.now }
+{
+    if rest[0] != 0xE2 {
+        return true;
+    }
+    if base::prefix::starts(b"\xE2\x80\xA8", rest) {
+        return true;
+    }
+    base::prefix::starts(b"\xE2\x80\xA9", rest)
 }
 
 // Returns the first offset from `from` on of a byte that starts a replaced character, or the text's length. It is often among the next sixteen bytes,
@@ -234,26 +270,13 @@ fn find(leads: &[u8; 8], set: &[u64; 4], text: &[u8], from: usize) -> usize
     walk(set, text, pass(leads, text, near), text.len())
 }
 
-// Reports whether `rest` starts with another byte than E2, or with U+2028 or U+2029.
-fn is_whole(rest: &[u8]) -> bool
-    requires { 0 < length rest.now }
-    ensures { result ≡ is_whole rest.now }
-{
-    if rest[0] != 0xE2 {
-        return true;
-    }
-    if base::prefix::starts(b"\xE2\x80\xA8", rest) {
-        return true;
-    }
-    base::prefix::starts(b"\xE2\x80\xA9", rest)
-}
-
-// Returns the first offset from `from` on of a replaced character, or the text's length.
+// Returns the same for any list and set that tell of the same bytes.
 pub fn next_replaced(leads: &[u8; 8], set: &[u64; 4], text: &[u8], from: usize) -> usize
     requires { Same leads.now set.now × (from ≤ length text.now) }
     ensures { First (replaced_at leads.now text.now) (length text.now) from result }
 {
     let mut i = find(leads, set, text, from);
+    // A cursor: each turn goes on after an E2 that starts another character.
     while i < text.len() {
         if is_whole(&text[i..]) {
             return i;

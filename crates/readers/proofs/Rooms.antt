@@ -9,7 +9,7 @@ use lib.Seq.{take-append_seam}
 use Rattle.rules.specs.Bytes.{over}
 use Rattle.rules.specs.Moves.{first_of, through}
 use Rattle.rules.specs.Utf8.{valid_to}
-use Rattle.rules.specs.Answers.{Measures}
+use Rattle.rules.specs.Answers.{Measures, whole as whole_of}
 use Rattle.rules.specs.Reading.{read_step}
 use Rattle.rules.specs.Operations.{read_of}
 use Rattle.rules.specs.declared.Context.{Context}
@@ -29,14 +29,13 @@ module _ (c : Context) (t : List ℕ) (short : size t ≤ 64) where
     whole valid h = (omega (arith, short), valid, omega (arith, h, m.reach, form-within c t))
 
     -- The measure, in the words of an outcome: the strict reader leaves nothing as it is.
-    pub measured : size t ≤ found.place → Measures (record { length = found.length; place = size t; replaced = found.replaced; left = 0; reason = 0 }) (through (read_step c) t)
+    pub measured : size t ≤ found.place → Measures (whole_of found.length (size t) found.replaced) (through (read_step c) t)
     measured h =
-        let e = ap first_of (no-lefts (read_step c) (read-leaveless c) 0 0 0 t) in
         record {
           long = m.long;
           reach = omega (arith, h, m.reach, form-within c t);
           many = m.many;
-          first = (sym (ap (λ (p : ℕ × ℕ). p.0) e), sym (ap (λ (p : ℕ × ℕ). p.1) e));
+          first = sym (ap first_of (no-lefts (read_step c) (read-leaveless c) 0 0 0 t));
         }
 
     module _ (out room : List ℕ) (e : room ≡ over (read_of c t) out) where

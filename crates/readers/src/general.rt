@@ -1,4 +1,5 @@
 // The strict reader in every context, for texts of any length: measuring, and writing.
+// That the text is valid stands in each contract: it is what the frame has found, and nothing here is kept from call to call.
 ghost use Rattle.std.specs.Prelude.{◌≡◌, ◌≤◌, length};
 ghost use Rattle.rules.specs.Bytes.{over};
 ghost use Rattle.rules.specs.Moves.{through};

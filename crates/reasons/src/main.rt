@@ -9,20 +9,21 @@ use std::io;
 
 // Prints the line of a refusal, and returns whether there is one.
 fn refused(rt: &HostRuntime, text: &[u8]) -> io::Result<bool> {
-    let mut output = [0u8; reports::LINE_ROOM];
-    let n = reports::refuse(text, &mut output);
+    let mut output = [0; reports::LINE_ROOM];
+    let Some(n) = reports::refuse(text, &mut output) else {
+        return Ok(false);
+    };
     pipes::write(rt, &output[..n])?;
-    Ok(n != 0)
+    Ok(true)
 }
 
 // Prints the lines of the references that stay, one after the other.
 fn print_lines(rt: &HostRuntime, text: &[u8]) -> io::Result<()> {
-    let mut output = [0u8; reports::LINE_ROOM];
-    let mut from: usize = 0;
-    while from < text.len() {
-        let line = reports::report(text, from, &mut output);
-        let n = line.length;
-        pipes::write(rt, &output[..n])?;
+    let mut output = [0; reports::LINE_ROOM];
+    let mut from = 0;
+    // A cursor: each turn moves it past the reference that it reported.
+    while let Some(line) = reports::report(text, from, &mut output) {
+        pipes::write(rt, &output[..line.length])?;
         from = line.next;
     }
     Ok(())
@@ -38,11 +39,11 @@ fn print_report(rt: &HostRuntime, text: &[u8]) -> io::Result<()> {
 
 // Reads a text, prints its lines, and drops what follows it.
 fn main(rt: HostRuntime) -> io::Result<()> {
-    let mut input = [0u8; reports::ENOUGH];
-    let n = pipes::read_into(&rt, &mut input)?;
-    let printed = print_report(&rt, &input[..n]);
-    if reports::is_enough(n) {
-        pipes::drop_rest(&rt);
-    }
-    printed
+    let mut input = [0; reports::ENOUGH];
+    pipes::answer(
+        &rt,
+        &mut input,
+        reports::is_enough,
+        |text| print_report(&rt, text),
+    )
 }

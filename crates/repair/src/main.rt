@@ -9,18 +9,18 @@ use std::io;
 
 // Prints the reply to a request.
 fn print_reply(rt: &HostRuntime, input: &[u8]) -> io::Result<()> {
-    let mut output = [0u8; repairs::REPLY_ROOM];
+    let mut output = [0; repairs::REPLY_ROOM];
     let n = repairs::reply(input, &mut output);
     pipes::write(rt, &output[..n])
 }
 
 // Reads a request, prints the reply, and drops what follows it.
 fn main(rt: HostRuntime) -> io::Result<()> {
-    let mut input = [0u8; repairs::ENOUGH];
-    let n = pipes::read_into(&rt, &mut input)?;
-    let printed = print_reply(&rt, &input[..n]);
-    if repairs::is_enough(n) {
-        pipes::drop_rest(&rt);
-    }
-    printed
+    let mut input = [0; repairs::ENOUGH];
+    pipes::answer(
+        &rt,
+        &mut input,
+        repairs::is_enough,
+        |request| print_reply(&rt, request),
+    )
 }

@@ -1,25 +1,23 @@
 -- What the functions of this crate return, and what one asks of its text.
 -- Assumes nothing.
 use Rattle.std.proofs.Math.Option.{Option, none, some}
-use Rattle.std.specs.Prelude.{◌≡◌, List, ℕ, ◌≤◌, length as size, take}
+use Rattle.std.specs.Prelude.{◌≡◌, List, ℕ, ◌≤◌, length as size, take, Option as Maybe, Some, None}
 use Rattle.rules.specs.Utf8.{IsText}
 use Rattle.rules.specs.Operations.{rule_of}
 use Rattle.rules.specs.declared.AnyContext.{AnyContext}
 use Rattle.rules.specs.declared.Operation.TheVariants.{Encode}
 use Rattle.repairs.specs.Repair.{writing, layers, core}
-use Rattle.repairs.specs.declared.Layer.{Layer}
-use Rattle.repairs.specs.declared.Layer.TheVariants.{Off, Nothing}
 use Rattle.repairs.specs.declared.Peeled.{Peeled}
 
 -- The text below a layer, which stands at the start of an output.
-abbrev pub below : Layer → List ℕ → Option (List ℕ)
-below (Off n) out = some (take n out)
-below Nothing out = none
+abbrev pub below : Maybe ℕ → List ℕ → Option (List ℕ)
+below (Some n) out = some (take n out)
+below None out = none
 
 -- Its length.
-abbrev pub below_length : Layer → ℕ
-below_length (Off n) = n
-below_length Nothing = 0
+abbrev pub below_length : Maybe ℕ → ℕ
+below_length (Some n) = n
+below_length None = 0
 
 -- All layers of a text t are off: how many, and the last text at the start of a buffer.
 abbrev pub PeeledOff : AnyContext → List ℕ → Peeled → List ℕ → Type 0

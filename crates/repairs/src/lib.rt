@@ -1,9 +1,10 @@
 // Repairs of stored fields that were escaped more than once: reads the request of the program `repair`, takes the layers off, and writes what the
 // program prints. `reply` does all of it, in memory; crates/repair reads and prints the bytes. Which bytes are printed for a request is `repair_of` of
 // specs/Repair.antt.
+// The room for a reply stands in each contract: the output is its caller's, and each part is written behind the other.
 #![tactic(auto)]
 
-ghost use Rattle.std.specs.Prelude.{true, List, ◌++◌, ◌≡◌, ℕ, ◌≤◌, length, take};
+ghost use Rattle.std.specs.Prelude.{true, List, ◌++◌, ◌≡◌, ◌≢◌, ℕ, ◌≤◌, length, take, MatchResult};
 ghost use Rattle.rules.specs.Bytes.{ascii, over};
 ghost use Rattle.rules.specs.Contexts.{context_of};
 ghost use Rattle.rules.specs.Program.{context_line, decimal};
@@ -13,7 +14,6 @@ ghost use Rattle.requests.specs.Asked.{Prints};
 ghost use Rattle.repairs.specs.Repair.{writing, peel, is_html, status_of, status_line, mended, repaired, repaired_by, repair_of};
 ghost use Rattle.repairs.specs.Layers.{below, below_length, PeeledOff, Writable, reply_room};
 
-use requests::lines::Line;
 use requests::print::put_field;
 use requests::{TEXT_LIMIT, lines};
 use rules::{AnyContext, Context};
@@ -29,13 +29,6 @@ const HEADER_LIMIT: usize = 22 + 5;
 
 // How much of a request has to be read: the longest header, the longest field, and a byte more, which makes the field too long.
 pub const ENOUGH: usize = HEADER_LIMIT + TEXT_LIMIT + 1;
-
-// What one reading takes off: the length of the text below, or nothing.
-#[derive(Clone, Copy)]
-pub enum Layer {
-    Off(usize),
-    Nothing,
-}
 
 // What is left of a field: the length of the last text, and how many layers were taken off.
 #[derive(Clone, Copy)]
@@ -55,13 +48,7 @@ pub fn is_enough(n: usize) -> bool
 fn is_html(context: Context) -> bool
     ensures { result ≡ is_html (Units context) }
 {
-    match context {
-        Context::InHtml(_) => true,
-        Context::InScript(_) => false,
-        Context::InStyle(_) => false,
-        Context::InJson => false,
-        Context::InAscii => true,
-    }
+    matches!(context, Context::InHtml(_) | Context::InAscii)
 }
 
 // Reports whether a number is that of an HTML context.
@@ -70,39 +57,42 @@ fn names_html(number: u32) -> bool
 {
     match rules::context_of(number) {
         AnyContext::Units(context) => is_html(context),
-        AnyContext::ScriptRaw => false,
-        AnyContext::Unknown => false,
+        _ => false,
     }
 }
 
-// Returns the status of a stored field: 0, or why it cannot be repaired.
-fn status_of(context: u32, text: &[u8]) -> usize
-    ensures { result ≡ status_of (context_of context) text.now }
+// Judges a stored field; the error is the status that says why it cannot be repaired.
+fn judge(context: u32, text: &[u8]) -> Result<(), usize>
+    ensures { MatchResult result (λ _. status_of (context_of context) text.now ≡ 0) (λ status. (status ≡ status_of (context_of context) text.now) × (status ≢ 0)) }
 {
     if !names_html(context) {
-        return lintelrye::BAD_CONTEXT;
+        return Err(lintelrye::BAD_CONTEXT);
     }
     if TEXT_LIMIT < text.len() {
-        return lintelrye::TOO_LONG;
+        return Err(lintelrye::TOO_LONG);
     }
     let checked = lintelrye::check(context, text);
-    checked.status
+    if checked.status != lintelrye::PASSED {
+        return Err(checked.status);
+    }
+    Ok(())
 }
 
-// Reads a text strictly: writes the text below to `output`, if the reading passes and replaces something.
-fn peel_one(context: u32, text: &[u8], output: &mut [u8; TEXT_LIMIT]) -> Layer
+// Reads a text strictly: writes the text below to `output` and returns its length, if the reading
+// passes and replaces something.
+fn peel_one(context: u32, text: &[u8], output: &mut [u8; TEXT_LIMIT]) -> Option<usize>
     requires { length text.now ≤ 8192 }
     ensures { (below result output.new ≡ peel (context_of context) text.now) × (below_length result ≤ length output.new) × (below_length result ≤ 8192) }
 {
     let checked = lintelrye::check(context, text);
     if checked.status != lintelrye::PASSED {
-        return Layer::Nothing;
+        return None;
     }
     let answer = lintelrye::take(context, text, output);
     if answer.replaced == 0 {
-        return Layer::Nothing;
+        return None;
     }
-    Layer::Off(answer.length)
+    Some(answer.length)
 }
 
 // Reads the text of `size` bytes at the start of `field` again and again, at most four times: the last text stands there afterwards.
@@ -112,15 +102,16 @@ fn peel_all(context: u32, size: usize, field: &mut [u8]) -> Peeled
 {
     let mut next = [0u8; TEXT_LIMIT];
     let mut n = size;
-    let mut layers = 0;
-    while layers < READINGS {
-        let Layer::Off(m) = peel_one(context, &field[..n], &mut next) else {
+    for layers in 0..READINGS {
+        let Some(m) = peel_one(context, &field[..n], &mut next) else {
             return Peeled { length: n, layers };
         };
         n = base::put(&next[..m], field);
-        layers += 1;
     }
-    Peeled { length: n, layers }
+    Peeled {
+        length: n,
+        layers: READINGS,
+    }
 }
 
 // Writes the line of the layers, and the last text, encoded once.
@@ -158,11 +149,10 @@ fn repair(context: u32, text: &[u8], output: &mut [u8]) -> usize
     requires { reply_room ≤ length output.old }
     ensures { Prints (repaired (context_of context) text.now) result output.old output.new }
 {
-    let status = status_of(context, text);
-    if status != lintelrye::PASSED {
-        return refuse(status, output);
+    match judge(context, text) {
+        Ok(()) => mend(context, text, output),
+        Err(status) => refuse(status, output),
     }
-    mend(context, text, output)
 }
 
 // Answers a request, in an output that is long enough.
@@ -170,10 +160,10 @@ fn answer(input: &[u8], output: &mut [u8]) -> usize
     requires { reply_room ≤ length output.old }
     ensures { Prints (repaired_by (context_line Read input.now)) result output.old output.new }
 {
-    let Line::Names(context, n) = lines::find_text(input) else {
+    let Some(line) = lines::find_text(input) else {
         return refuse(rules::BAD_REQUEST, output);
     };
-    repair(context, &input[n..], output)
+    repair(line.number, &input[line.length..], output)
 }
 
 // Answers a request: writes to the start of `output` what the program prints for `input`, and returns how many bytes they are; the rest of `output`

@@ -18,94 +18,83 @@ ghost use Rattle.std.specs.Prelude.{◌≡◌, length};
 
 use lintelrye::Operation;
 use replay_cases::cases::{Case, Expected};
+use replay_cases::report::Tally;
 use replay_cases::{State, cases, report};
-use replay_list::{after, byte_at, read_number};
+use replay_list::{after, byte_at, past_letters, read_number};
+use rules::Answer;
 use std::io;
 
-// Returns the state after a line that is malformed.
-fn malformed(state: State) -> State {
-    let mut after = state;
-    after.right = false;
-    after
-}
-
-// Returns the state at the start of the next line, where a line ends at a place; malformed where none ends there.
-fn next_line(list: &[u8], state: State, end: usize) -> State {
-    if byte_at(list, end) != b'\n' {
-        return malformed(state);
+// Returns the state at the start of the next line, where a line ends at a place. As each function
+// that reads a line, it gives None where that is malformed.
+fn next_line(list: &[u8], state: State, end: usize) -> Option<State> {
+    if byte_at(list, end)? != b'\n' {
+        return None;
     }
-    let mut next = state;
-    next.at = after(end);
-    next.line = std::num::wrapping_add_u64(state.line, 1);
-    next
+    Some(State {
+        at: after(end),
+        line: state.line.wrapping_add(1),
+        ..state
+    })
 }
 
 // Skips a remark.
-fn remark(list: &[u8], state: State) -> State {
+fn remark(list: &[u8], state: State) -> Option<State> {
     next_line(list, state, replay_list::line_end(list, state.at))
 }
 
 // Reads a t line: the text goes into both buffers.
-fn text_line(list: &[u8], state: State, text: &mut [u8], res: &mut [u8]) -> State {
+fn text_line(list: &[u8], state: State, text: &mut [u8], res: &mut [u8]) -> Option<State> {
     let start = after(state.at);
-    let read = replay_list::text(list, start, text);
-    let again = replay_list::text(list, start, res);
-    if !read.right || !again.right {
-        return malformed(state);
-    }
-    let mut next = state;
-    next.text = read.length;
-    next.result = again.length;
+    let read = replay_list::text(list, start, text)?;
+    let again = replay_list::text(list, start, res)?;
+    let next = State {
+        text: read.length,
+        result: again.length,
+        ..state
+    };
     next_line(list, next, read.next)
 }
 
 // Reads an r line: the result goes into its buffer.
-fn result_line(list: &[u8], state: State, res: &mut [u8]) -> State {
-    let read = replay_list::text(list, after(state.at), res);
-    if !read.right {
-        return malformed(state);
-    }
-    let mut next = state;
-    next.result = read.length;
+fn result_line(list: &[u8], state: State, res: &mut [u8]) -> Option<State> {
+    let read = replay_list::text(list, after(state.at), res)?;
+    let next = State {
+        result: read.length,
+        ..state
+    };
     next_line(list, next, read.next)
 }
 
 // Reads the last line: its count must be that of the cases that ran, and nothing may follow it.
-fn end_line(list: &[u8], state: State, ran: u64) -> State {
-    let start = replay_list::past_letters(list, state.at);
-    let count = read_number(list, after(start));
-    let mut next = next_line(list, state, count.next);
-    if !count.found || count.value as u64 != ran || next.at != list.len() {
-        return malformed(state);
+fn end_line(list: &[u8], state: State, ran: u64) -> Option<State> {
+    let count = read_number(list, after(past_letters(list, state.at)));
+    let next = next_line(list, state, count.next)?;
+    if count.value? as u64 != ran || next.at != list.len() {
+        return None;
     }
-    next.ended = true;
-    next
+    Some(State {
+        ended: true,
+        ..next
+    })
 }
 
-// The operation of a letter.
-#[derive(Clone, Copy)]
-enum Letter {
-    Means(Operation),
-    Nothing,
-}
-
-// Reads the letter of an operation.
-fn operation_of(letter: u8) -> Letter {
+// Returns the operation of a letter.
+fn operation_of(letter: u8) -> Option<Operation> {
     match letter {
-        b'E' => Letter::Means(Operation::Encode),
-        b'D' => Letter::Means(Operation::Decode),
-        b'R' => Letter::Means(Operation::Read),
-        b'B' => Letter::Means(Operation::Browse),
-        _ => Letter::Nothing,
+        b'E' => Some(Operation::Encode),
+        b'D' => Some(Operation::Decode),
+        b'R' => Some(Operation::Read),
+        b'B' => Some(Operation::Browse),
+        _ => None,
     }
 }
 
 // Returns the context of a letter: 0 for `a`, 1 for `b` and so on, and the largest number for `z`.
-fn context_of(letter: u8) -> u32 {
-    if letter == b'z' || letter < b'a' {
-        return 4294967295;
+fn context_of(letter: Option<u8>) -> u32 {
+    match letter {
+        Some(letter) if b'a' <= letter && letter != b'z' => u32::from(letter - b'a'),
+        _ => u32::MAX,
     }
-    (letter - b'a') as u32
 }
 
 // The places of the letters of a line's next case, and where the line's contexts and kinds begin.
@@ -118,47 +107,48 @@ struct Letters {
     kinds: usize,
 }
 
-// A case by its letters, or none where a letter is wrong.
-#[derive(Clone, Copy)]
-enum Asked {
-    Names(Case),
-    Nothing,
+impl Letters {
+    // Reads the letters of a case.
+    fn case(self, list: &[u8]) -> Option<Case> {
+        let borrows = match byte_at(list, self.kind)? {
+            b'b' => true,
+            b'c' => false,
+            _ => return None,
+        };
+        Some(Case {
+            operation: operation_of(byte_at(list, self.operation)?)?,
+            context: context_of(byte_at(list, self.context)),
+            borrows,
+        })
+    }
+
+    // Returns the letters of the next case: the next kind; else the first kind in the next context;
+    // else the first of both in the next operation.
+    fn next(self, list: &[u8]) -> Letters {
+        let kind = after(self.kind);
+        if byte_at(list, kind) != Some(b' ') {
+            return Letters { kind, ..self };
+        }
+        let context = after(self.context);
+        if byte_at(list, context) != Some(b' ') {
+            return Letters {
+                context,
+                kind: self.kinds,
+                ..self
+            };
+        }
+        Letters {
+            operation: after(self.operation),
+            context: self.contexts,
+            kind: self.kinds,
+            ..self
+        }
+    }
 }
 
-// Reads the letters of a case.
-fn case_at(list: &[u8], letters: Letters) -> Asked {
-    let kind = byte_at(list, letters.kind);
-    if kind != b'b' && kind != b'c' {
-        return Asked::Nothing;
-    }
-    let Letter::Means(operation) = operation_of(byte_at(list, letters.operation)) else {
-        return Asked::Nothing;
-    };
-    Asked::Names(Case {
-        operation,
-        context: context_of(byte_at(list, letters.context)),
-        borrows: kind == b'b',
-    })
-}
-
-// Returns the letters of the next case: the next kind; else the first kind in the next context; else the first of both in the next operation.
-fn next_case(list: &[u8], letters: Letters) -> Letters {
-    let mut next = letters;
-    next.kind = after(letters.kind);
-    if byte_at(list, next.kind) != b' ' {
-        return next;
-    }
-    next.kind = letters.kinds;
-    next.context = after(letters.context);
-    if byte_at(list, next.context) != b' ' {
-        return next;
-    }
-    next.context = letters.contexts;
-    next.operation = after(letters.operation);
-    next
-}
-
-// Runs the cases of a line, of which there are at most 4 times 26 times 2. Answers whether the letters are right.
+// Runs the cases of a line, of which there are at most 4 times 26 times 2. Answers whether the
+// letters are right. The buffers are lent one by one, since a case reads two of them while it
+// writes the third.
 fn each_case(
     rt: &HostRuntime,
     list: &[u8],
@@ -168,60 +158,59 @@ fn each_case(
     text: &[u8],
     res: &[u8],
     output: &mut [u8],
-    tally: &mut [u64],
+    tally: &mut Tally,
 ) -> io::Result<bool> {
     let mut letters = first;
-    let mut left: usize = 209;
-    while 0 < left {
-        if byte_at(list, letters.operation) == b' ' {
+    for _ in 0..209 {
+        if byte_at(list, letters.operation) == Some(b' ') {
             return Ok(true);
         }
-        let Asked::Names(case) = case_at(list, letters) else {
+        let Some(case) = letters.case(list) else {
             return Ok(false);
         };
-        let fault = cases::run(case, expected, text, res, output);
-        report::count(rt, line, case, fault, tally)?;
-        letters = next_case(list, letters);
-        left -= 1;
+        let compared = cases::run(case, expected, text, res, output);
+        report::count(rt, line, case, compared, tally)?;
+        letters = letters.next(list);
     }
     Ok(false)
 }
 
-// The seven numbers of a line of cases, and the place past them; `found` is false where one is missing.
-#[derive(Clone, Copy)]
-struct Numbers {
-    found: bool,
-    expected: Expected,
-    next: usize,
-}
-
-// Reads the nine numbers of a line of cases.
-fn read_numbers(list: &[u8], at: usize) -> Numbers {
-    let room = read_number(list, at);
-    let status = read_number(list, after(room.next));
-    let length = read_number(list, after(status.next));
-    let same = read_number(list, after(length.next));
-    let replaced = read_number(list, after(same.next));
-    let place = read_number(list, after(replaced.next));
-    let left = read_number(list, after(place.next));
-    let reason = read_number(list, after(left.next));
-    let written = read_number(list, after(reason.next));
-    let expected = Expected {
-        room: room.value,
-        status: status.value,
-        length: length.value,
-        same: same.value,
-        replaced: replaced.value,
-        place: place.value,
-        left: left.value,
-        reason: reason.value,
-        written: written.value,
-    };
-    Numbers {
-        found: written.found,
-        expected,
-        next: written.next,
+// Reads the nine numbers of a line of cases, and returns the place past them too. One that is
+// missing is 0, but for the last, which must be there.
+fn read_numbers(list: &[u8], at: usize) -> Option<(Expected, usize)> {
+    let mut number = read_number(list, at);
+    let mut values = [number.value.unwrap_or(0); 9];
+    for value in values[1..].iter_mut() {
+        number = read_number(list, after(number.next));
+        *value = number.value.unwrap_or(0);
     }
+    number.value?;
+    let [
+        room,
+        status,
+        length,
+        same,
+        replaced,
+        place,
+        left,
+        reason,
+        written,
+    ] = values;
+    let answer = Answer {
+        status,
+        length,
+        same,
+        replaced,
+        place,
+        left,
+        reason,
+    };
+    let expected = Expected {
+        room,
+        answer,
+        written,
+    };
+    Some((expected, number.next))
 }
 
 // Reads a line of cases and runs them.
@@ -232,19 +221,19 @@ fn case_line(
     text: &[u8],
     res: &[u8],
     output: &mut [u8],
-    tally: &mut [u64],
-) -> io::Result<State> {
-    let contexts = after(replay_list::past_letters(list, state.at));
-    let kinds = after(replay_list::past_letters(list, contexts));
-    let numbers = read_numbers(list, after(replay_list::past_letters(list, kinds)));
-    let expected = numbers.expected;
-    if !numbers.found || output.len() <= expected.room {
-        return Ok(malformed(state));
+    tally: &mut Tally,
+) -> io::Result<Option<State>> {
+    let contexts = after(past_letters(list, state.at));
+    let kinds = after(past_letters(list, contexts));
+    let Some((expected, end)) = read_numbers(list, after(past_letters(list, kinds))) else {
+        return Ok(None);
+    };
+    if output.len() <= expected.room {
+        return Ok(None);
     }
-    let next = next_line(list, state, numbers.next);
-    if !next.right {
-        return Ok(next);
-    }
+    let Some(next) = next_line(list, state, end) else {
+        return Ok(None);
+    };
     let first = Letters {
         operation: state.at,
         context: contexts,
@@ -255,10 +244,7 @@ fn case_line(
     let right = each_case(
         rt, list, state.line, first, expected, text, res, output, tally,
     )?;
-    if right {
-        return Ok(next);
-    }
-    Ok(malformed(state))
+    Ok(if right { Some(next) } else { None })
 }
 
 // Goes through one line.
@@ -269,35 +255,29 @@ fn one_line(
     text: &mut [u8],
     res: &mut [u8],
     output: &mut [u8],
-    tally: &mut [u64],
-) -> io::Result<State> {
-    let n = state.text;
-    let m = state.result;
+    tally: &mut Tally,
+) -> io::Result<Option<State>> {
     match byte_at(list, state.at) {
-        b'#' => Ok(remark(list, state)),
-        b't' => Ok(text_line(list, state, text, res)),
-        b'r' => Ok(result_line(list, state, res)),
-        b'e' => Ok(end_line(list, state, report::count_at(tally, report::RAN))),
-        _ => {
-            if text.len() < n {
-                return Ok(malformed(state));
-            }
-            if res.len() < m {
-                return Ok(malformed(state));
-            }
-            case_line(rt, list, state, &text[..n], &res[..m], output, tally)
-        }
+        Some(b'#') => Ok(remark(list, state)),
+        Some(b't') => Ok(text_line(list, state, text, res)),
+        Some(b'r') => Ok(result_line(list, state, res)),
+        Some(b'e') => Ok(end_line(list, state, tally.all.ran)),
+        _ => match (text.get(..state.text), res.get(..state.result)) {
+            (Some(text), Some(res)) => case_line(rt, list, state, text, res, output, tally),
+            _ => Ok(None),
+        },
     }
 }
 
-// Goes through the list, which has no more lines than bytes, until its end or until a line is malformed.
+// Goes through the list, which has no more lines than bytes, until its end or until a line is
+// malformed, and returns the state at that line.
 fn replay(
     rt: &HostRuntime,
     list: &[u8],
     text: &mut [u8],
     res: &mut [u8],
     output: &mut [u8],
-    tally: &mut [u64],
+    tally: &mut Tally,
 ) -> io::Result<State> {
     let mut state = State {
         at: 0,
@@ -305,15 +285,13 @@ fn replay(
         text: 0,
         result: 0,
         ended: false,
-        right: true,
     };
-    let mut lines = list.len();
-    while 0 < lines {
-        if !state.right || state.ended {
-            return Ok(state);
+    for _ in list {
+        match one_line(rt, list, state, text, res, output, tally)? {
+            Some(next) if !next.ended => state = next,
+            Some(last) => return Ok(last),
+            None => return Ok(state),
         }
-        state = one_line(rt, list, state, text, res, output, tally)?;
-        lines -= 1;
     }
     Ok(state)
 }
@@ -338,7 +316,7 @@ fn main(rt: HostRuntime) -> io::Result<()> {
     let mut text = room();
     let mut result = room();
     let mut output = room();
-    let mut tally: [u64; 258] = [0; 258];
+    let mut tally = report::no_cases();
     let n = pipes::read_into(&rt, &mut list)?;
     let state = replay(
         &rt,

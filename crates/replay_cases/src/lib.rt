@@ -4,8 +4,8 @@
 pub mod cases;
 pub mod report;
 
-// How far the list is read: the place and the number of the line, the lengths of the text and of the result, whether the last line was met, and whether
-// the list is right so far.
+// How far the list is read: the place and the number of the line, the lengths of the text and of
+// the result, and whether the last line was met.
 #[derive(Clone, Copy)]
 pub struct State {
     pub at: usize,
@@ -13,5 +13,4 @@ pub struct State {
     pub text: usize,
     pub result: usize,
     pub ended: bool,
-    pub right: bool,
 }

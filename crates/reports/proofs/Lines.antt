@@ -20,6 +20,8 @@ use Rattle.rules.specs.Program.{decimal, decoding, left_lines, reasons_of}
 use Rattle.rules.specs.declared.Html.TheVariants.{Text}
 use Rattle.rules.specs.declared.Context.TheVariants.{InHtml}
 use Rattle.rules.proofs.Reasons.{lefts-here}
+use Rattle.rules.specs.Moves.{reason_number}
+use Rattle.rules.specs.declared.Left.{Left}
 use Rattle.decode_html.specs.Taking.{NextLeft}
 use Rattle.requests.proofs.Digits.{digits-length}
 use Rattle.reports.specs.Lines.{status_of, refusal_line, line_of, lines_from, Reported}
@@ -92,31 +94,15 @@ line-room i r =
       digits-length 20 r,
     )
 
--- No reference stays from place i on.
-pub none_left : (t out : List ℕ) (i p n : ℕ) → i ≤ size t → NextLeft t i p n → n ≡ 0 → Reported t i 0 (size t) out out
-none_left t out i p n h next z =
-    let ended : lefts_in reference_step (size t) (drop (size t) t) ≡ [] = rw (drop_of_length-le t {i = size t} (omega arith)) in
-    record {
-      lines = [];
-      splits = ap left_lines (next.none z) ∙ sym (ap left_lines ended);
-      long = refl;
-      holds = refl;
-      fits = omega arith;
-      on = λ l. l;
-      within = omega arith;
-    }
-
--- One does: its line, and then those from behind its `&` on.
-pub one_left : (t out₀ out : List ℕ) (i p n k : ℕ) → NextLeft t i p n → (n ≡ 0 → ⊥) → k ≡ size (line_of p n) → out ≡ over (line_of p n) out₀
-    → Reported t i k (p + 1) out₀ out
-one_left t out₀ out i p n k next z e w =
-    let (a, b, r, q, lines) = next.some z in
-    record {
-      lines = line_of p n;
-      splits = ap left_lines lines ∙ ap (λ (m : ℕ). line_of p m ++ lines_from t (p + 1)) (sym q);
-      long = e;
-      holds = w;
-      fits = written-within (line_of p n) out₀ out k e w;
-      on = λ l. omega arith;
-      within = omega arith;
-    }
+-- A reference stays: its line, and then those from behind its `&` on.
+pub one_left : (t out₀ out : List ℕ) (i k : ℕ) (l : Left) → NextLeft t i l → k ≡ size (line_of l.place (reason_number l.reason))
+    → out ≡ over (line_of l.place (reason_number l.reason)) out₀ → Reported t i k (l.place + 1) out₀ out
+one_left t out₀ out i k l next e w = record {
+  lines = line_of l.place (reason_number l.reason);
+  splits = ap left_lines next.2;
+  long = e;
+  holds = w;
+  fits = written-within (line_of l.place (reason_number l.reason)) out₀ out k e w;
+  on = omega (arith, next.0);
+  within = omega (arith, next.1);
+}

@@ -30,5 +30,5 @@ pub record Reported (t : List ℕ) (i n j : ℕ) (out₀ out : List ℕ) : Type 
   pub long : n ≡ size lines
   pub holds : out ≡ over lines out₀
   pub fits : n ≤ size out
-  pub on : i < size t → i < j
+  pub on : i < j
   pub within : j ≤ size t

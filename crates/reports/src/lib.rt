@@ -2,10 +2,10 @@
 // crates/rules/specs/Program.antt; crates/reasons reads and prints the bytes.
 #![tactic(auto)]
 
-ghost use Rattle.std.specs.Prelude.{true, List, ◌++◌, ◌≡◌, ℕ, ◌+◌, ◌≤◌, length, take};
-ghost use Rattle.rules.specs.Bytes.{ascii, over};
-ghost use Rattle.rules.specs.Program.{decimal, reasons_of};
-ghost use Rattle.reports.specs.Lines.{status_of, refusal_line, line_of, Reported};
+ghost use Rattle.std.specs.Prelude.{true, List, [], ◌≡◌, ℕ, ◌≤◌, length, take, MatchOption};
+ghost use Rattle.rules.specs.Bytes.{over};
+ghost use Rattle.rules.specs.Program.{reasons_of};
+ghost use Rattle.reports.specs.Lines.{status_of, refusal_line, line_of, lines_from, Reported};
 
 use lintelrye::Operation;
 use requests::print;
@@ -39,15 +39,16 @@ fn status(text: &[u8]) -> usize
     answer.status
 }
 
-// Writes the line of a refusal to the start of `output` and returns how many bytes it is; nothing where decode passes.
-pub fn refuse(text: &[u8], output: &mut [u8; LINE_ROOM]) -> usize
-    ensures { (result ≡ length (refusal_line text.now)) × (output.new ≡ over (refusal_line text.now) output.old) × (result ≤ length output.new) }
+// Writes the line of a refusal to the start of `output` and returns how many bytes it is. None
+// where decode passes.
+pub fn refuse(text: &[u8], output: &mut [u8; LINE_ROOM]) -> Option<usize>
+    ensures { MatchOption result ((refusal_line text.now ≡ []) × (output.new ≡ output.old)) (λ n. (n ≡ length (refusal_line text.now)) × (output.new ≡ over (refusal_line text.now) output.old) × (n ≤ length output.new)) }
 {
     let status = status(text);
-    if status == 0 {
-        return 0;
+    if status == lintelrye::PASSED {
+        return None;
     }
-    print::put_field(b"status=", status, b"\n", output)
+    Some(print::put_field(b"status=", status, b"\n", output))
 }
 
 // Writes the line of a reference that stays.
@@ -59,20 +60,15 @@ fn put_line(place: usize, reason: usize, output: &mut [u8]) -> usize
     at + print::put_field(b" reason=", reason, b"\n", &mut output[at..])
 }
 
-// Writes the line of the first reference from `from` on that decode leaves to the start of `output`; nothing where there is none.
-pub fn report(text: &[u8], from: usize, output: &mut [u8; LINE_ROOM]) -> Line
+// Writes the line of the first reference from `from` on that decode leaves to the start of
+// `output`. None where it leaves none.
+pub fn report(text: &[u8], from: usize, output: &mut [u8; LINE_ROOM]) -> Option<Line>
     requires { from ≤ length text.now }
-    ensures { Reported text.now from result.length result.next output.old output.new }
+    ensures { MatchOption result ((lines_from text.now from ≡ []) × (output.new ≡ output.old)) (λ line. Reported text.now from line.length line.next output.old output.new) }
 {
-    let left = decode_html::next_left(text, from);
-    if left.reason == 0 {
-        return Line {
-            length: 0,
-            next: text.len(),
-        };
-    }
-    Line {
-        length: put_line(left.place, left.reason, output),
+    let left = decode_html::next_left(text, from)?;
+    Some(Line {
+        length: put_line(left.place, usize::from(left.reason), output),
         next: left.place + 1,
-    }
+    })
 }

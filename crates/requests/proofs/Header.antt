@@ -1,15 +1,17 @@
 -- The lines of the header: the first name that fits is found, and the request goes on after its line.
 -- Assumes nothing.
-use mathlib.Core.Bool.{Bool, true, false, ◌&&◌, and_assoc, cond}
+use mathlib.Core.Bool.{Bool, true, false, not, ◌&&◌, and_assoc, cond}
 use mathlib.Core.Option.{Option, none, some, some-ne-none}
 use mathlib.Core.Path.{◌≡◌, refl, sym, ap, ◌∙◌, subst}
 use mathlib.Core.List.{List, [], ◌∷◌, ◌++◌, append_assoc}
-use Prim.Native.Nat.{ℕ, suc, ◌+◌, ◌-◌, ◌≤◌, ◌<◌}
-use native.Mathlib.Numerals.{add-one}
+use Prim.Native.Nat.{ℕ, suc, ◌+◌, ◌-◌, ◌≤◌, ◌<◌, min}
 use native.Mathlib.Omega.{arith}
-use lib.Dec.{T, eqb}
+use borrow.Author.Tests.{ltb-true, ltb-false}
+use lib.Dec.{T, eqb, ltb}
+use Rattle.std.specs.Prelude.{Option as Maybe, Some, None, MatchOption, ◌==◌}
+use Rattle.std.specs.List.{position, position_or_len}
 use lib.ListN.{length as size, take, drop, get_or, length-append, length-drop, drop_of_length-le}
-use lib.Seq.{drop-cons, drop-drop, length-take-le}
+use lib.Seq.{drop-drop, length-take-le}
 use Rattle.rules.specs.Bytes.{ascii, first, stands}
 use Rattle.rules.specs.Contexts.{Label, label, context_names, context_of}
 use Rattle.rules.specs.Program.{line, text_of, context_line}
@@ -40,20 +42,24 @@ stands_on a b s e = stands-append a b s ∙ rw e
 
 -- ---- the lines of a table
 
--- The line that ends here has one byte.
-pub line-here : (s : List ℕ) (i : ℕ) → i < size s → eqb (get_or s i 0) 10 ≡ true → line_length (drop i s) ≡ 1
+-- The first line ends behind the first 0A, or is all there is.
+line-runs : (s : List ℕ) → (position_or_len (λ b. b == 10) s ≤ size s) × (line_length s ≡ min (position_or_len (λ b. b == 10) s + 1) (size s))
 unfolding line_length
-line-here s i h e = rw (drop-cons s i 0, e)
+line-runs [] = (omega arith, refl)
+line-runs (x ∷ s) = go (x == 10) (position_or_len (λ b. b == 10) s) (line_length s) (line-runs s)
+  where
+    go : (b : Bool) (k l : ℕ) → (k ≤ size s) × (l ≡ min (k + 1) (size s))
+        → (cond (not b) (1 + k) 0 ≤ suc (size s)) × (cond b 1 (suc l) ≡ min (cond (not b) (1 + k) 0 + 1) (suc (size s)))
+    go true k l h = (omega arith, omega arith)
+    go false k l h = (omega arith, omega arith)
 
--- Another has one more than from the next byte on.
-pub line_on : (s : List ℕ) (i : ℕ) → i < size s → eqb (get_or s i 0) 10 ≡ false → line_length (drop i s) ≡ suc (line_length (drop (i + 1) s))
-unfolding line_length
-line_on s i h e = rw (add-one, drop-cons s i 0, e)
-
--- No line is left at the end.
-pub line-end : (s : List ℕ) (i : ℕ) → size s ≤ i → line_length (drop i s) ≡ 0
-unfolding line_length
-line-end s i h = rw (drop_of_length-le s h)
+pub line-feed : (s : List ℕ) (o : Maybe ℕ) → o ≡ position (λ b. b == 10) s → MatchOption o (size s ≡ line_length s) (λ n. (n + 1 ≡ line_length s) × (n < size s))
+line-feed s o e = rw e (go (ltb (position_or_len (λ b. b == 10) s) (size s)) refl)
+  where
+    go : (b : Bool) → ltb (position_or_len (λ b. b == 10) s) (size s) ≡ b
+        → MatchOption (cond b (Some (position_or_len (λ b. b == 10) s)) None) (size s ≡ line_length s) (λ n. (n + 1 ≡ line_length s) × (n < size s))
+    go true q = let l = ltb-true (position_or_len (λ b. b == 10) s) (size s) q in let r = line-runs s in (omega arith, l)
+    go false q = let l = ltb-false (position_or_len (λ b. b == 10) s) (size s) q in let r = line-runs s in omega arith
 
 -- The lines of bytes are the first one and those of the rest.
 pub lines_next : (s : List ℕ) → 0 < size s → lines_of s ≡ take (line_length s) s ∷ lines_of (drop (line_length s) s)

@@ -1,6 +1,6 @@
 -- The call that a request asks for, as the refusal table takes it, and what is printed for it.
 -- Assumes nothing.
-use Rattle.std.specs.Prelude.{false, cond, ◌≡◌, List, [], ◌++◌, ℕ, eqb, length as size, drop}
+use Rattle.std.specs.Prelude.{false, cond, ◌≡◌, List, [], ◌++◌, ℕ, eqb, length as size, drop, Option as Maybe, Some, None}
 use Rattle.std.proofs.Math.Option.{Option, none, some}
 use Rattle.rules.specs.Bytes.{ascii, over}
 use Rattle.rules.specs.Contexts.{context_of}
@@ -9,7 +9,6 @@ use Rattle.rules.specs.Program.{result_room, decimal, printed, printed_call}
 use Rattle.rules.specs.declared.Answer.{Answer}
 use Rattle.rules.specs.declared.Operation.{Operation}
 use Rattle.requests.specs.declared.lines.Line.{Line}
-use Rattle.requests.specs.declared.lines.Line.TheVariants.{Names, Nothing}
 
 -- The first three lines of an answer: status, length and same.
 abbrev pub first_lines : Answer → List ℕ
@@ -32,14 +31,14 @@ abbrev pub asked : Operation → ℕ → List ℕ → ℕ → Call
 asked op number t room = record { operation = op; context = context_of number; borrows = false; limit = 8192; text = t; room = room }
 
 -- The call of an operation that a request s asks for, where the reader of its header found the context's number and the place of the text.
-abbrev pub call_at : Operation → List ℕ → Line → Option Call
-call_at op s (Names number n) = some (asked op number (drop n s) result_room)
-call_at op s Nothing = none
+abbrev pub call_at : Operation → List ℕ → Maybe Line → Option Call
+call_at op s (Some line) = some (asked op line.number (drop line.length s) result_room)
+call_at op s None = none
 
 -- That place; the start where there is none.
-abbrev pub text_start : Line → ℕ
-text_start (Names number n) = n
-text_start Nothing = 0
+abbrev pub text_start : Maybe Line → ℕ
+text_start (Some line) = line.length
+text_start None = 0
 
 -- What the table answers to a call.
 abbrev pub answer_to : Call → Answer

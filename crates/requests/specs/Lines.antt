@@ -1,11 +1,10 @@
 -- Header lines: the first of a table's lines that follows a field at the head of a request.
 -- Assumes nothing.
-use Rattle.std.specs.Prelude.{cond, List, [], ◌∷◌, ◌++◌, ℕ, suc, ◌+◌, eqb, length as size}
+use Rattle.std.specs.Prelude.{cond, List, [], ◌∷◌, ◌++◌, ℕ, suc, ◌+◌, eqb, length as size, Option as Maybe, Some, None}
 use Rattle.std.proofs.Math.Option.{Option, none, some}
 use Rattle.rules.specs.Bytes.{stands}
 use Rattle.rules.specs.Contexts.{Label}
 use Rattle.requests.specs.declared.lines.Line.{Line}
-use Rattle.requests.specs.declared.lines.Line.TheVariants.{Names, Nothing}
 
 -- The byte x before the first of some lines.
 abbrev pub before : ℕ → List (List ℕ) → List (List ℕ)
@@ -38,6 +37,6 @@ line_found field [] s = none
 line_found field (l ∷ ls) s = cond (stands (field ++ l) s) (some (0, size (field ++ l))) (later 1 (line_found field ls s))
 
 -- What the reader of a line returns.
-abbrev pub line_read : Line → Option (ℕ × ℕ)
-line_read (Names k n) = some (k, n)
-line_read Nothing = none
+abbrev pub line_read : Maybe Line → Option (ℕ × ℕ)
+line_read (Some line) = some (line.number, line.length)
+line_read None = none

@@ -1,5 +1,6 @@
 // Requests to the program `entity`: reads the header lines, makes the call that they ask for, and writes the lines of the answer. `reply` does all of
 // it, in memory; crates/entity reads and prints the bytes. Which bytes are printed for a request is `entity_of` of crates/rules/specs/Program.antt.
+// The room for a reply stands in each contract, as do operation, context, text and output: they are those of the call that a request asks for, and go on to it.
 #![tactic(auto)]
 
 pub mod lines;
@@ -14,7 +15,7 @@ ghost use Rattle.rules.specs.Program.{result_room, entity_of, request_of, contex
 ghost use Rattle.rules.specs.declared.Operation.TheVariants.{Read};
 ghost use Rattle.requests.specs.Asked.{reply_room, asked, answer_to, output_of, refused, printed_by, Prints};
 
-use crate::lines::Line;
+use frame::Refusal;
 use lintelrye::{Answer, Operation, labels};
 
 // The longest text of a request, in bytes.
@@ -46,7 +47,7 @@ fn too_long(empty: Answer) -> Answer
     if empty.status == lintelrye::BAD_CONTEXT {
         return empty;
     }
-    frame::refusal(lintelrye::TOO_LONG, 0, 0)
+    Answer::from(Refusal::TooLong)
 }
 
 // Reads a text by the two calls: check judges it, and only a form is taken.
@@ -55,7 +56,7 @@ fn read(context: u32, text: &[u8], output: &mut [u8]) -> Answer
 {
     let checked = lintelrye::check(context, text);
     if checked.status != lintelrye::PASSED {
-        return frame::refusal(checked.status, checked.length, checked.place);
+        return Answer::refusal(checked.status, checked.length, checked.place);
     }
     lintelrye::take(context, text, output)
 }
@@ -64,10 +65,10 @@ fn read(context: u32, text: &[u8], output: &mut [u8]) -> Answer
 fn copying(operation: Operation, context: u32, text: &[u8], output: &mut [u8]) -> Answer
     ensures { Allowed operation (context_of context) false text.now output.old result output.new }
 {
-    let Operation::Read = operation else {
-        return lintelrye::call(operation, context, false, text, output);
-    };
-    read(context, text, output)
+    match operation {
+        Operation::Read => read(context, text, output),
+        _ => lintelrye::call(operation, context, false, text, output),
+    }
 }
 
 // Makes the call that a request asks for, with the program's limit.
@@ -103,7 +104,7 @@ fn refuse(output: &mut [u8]) -> usize
     requires { reply_room ≤ length output.old }
     ensures { Prints (printed_by none) result output.old output.new }
 {
-    print::put_answer(frame::refusal(rules::BAD_REQUEST, 0, 0), output)
+    print::put_answer(Answer::from(Refusal::BadRequest), output)
 }
 
 // Answers a request from the line of the context on.
@@ -111,10 +112,10 @@ fn with_context(operation: Operation, rest: &[u8], output: &mut [u8]) -> usize
     requires { reply_room ≤ length output.old }
     ensures { Prints (printed_by (context_line operation rest.now)) result output.old output.new }
 {
-    let Line::Names(context, n) = lines::find_text(rest) else {
+    let Some(line) = lines::find_text(rest) else {
         return refuse(output);
     };
-    converse(operation, context, &rest[n..], output)
+    converse(operation, line.number, &rest[line.length..], output)
 }
 
 // Answers a whole request, in an output that is long enough.
@@ -122,10 +123,11 @@ fn with_operation(input: &[u8], output: &mut [u8]) -> usize
     requires { reply_room ≤ length output.old }
     ensures { Prints (printed_by (request_of input.now)) result output.old output.new }
 {
-    let Line::Names(number, n) = lines::find_line(&labels::OPERATION_NAMES, b"op=", input) else {
+    let Some(line) = lines::find_line(&labels::OPERATION_NAMES, b"op=", input) else {
         return refuse(output);
     };
-    with_context(labels::operation_of(number), &input[n..], output)
+    let operation = labels::operation_of(line.number);
+    with_context(operation, &input[line.length..], output)
 }
 
 // Answers a request: writes to the start of `output` what the program prints for `input`, and returns how many bytes they are; the rest of `output`

@@ -1,4 +1,5 @@
 // Writes the lines of an answer.
+// Digits are put one by one: each byte of the lent output is promised, and `write!` has no such output to write to.
 ghost use Rattle.std.specs.Prelude.{◌≡◌, [], ◌++◌, ◌+◌, ◌≤◌, ◌<◌, length};
 ghost use Rattle.rules.specs.Bytes.{over};
 ghost use Rattle.rules.specs.Program.{last_digits, decimal, printed};
@@ -14,7 +15,9 @@ fn digit(n: usize) -> u8
     b'0' + n as u8
 }
 
-// Writes the last `most` digits of a number, without leading zeros, to the start of `output` and returns how many; the rest keeps its values.
+// Writes the last `most` digits of a number, without leading zeros, to the start of `output` and
+// returns how many; the rest keeps its values. By hand, since the contract says each byte of a
+// buffer that is lent; `write!` has no such one to write to.
 fn put_digits(most: usize, n: usize, output: &mut [u8]) -> usize
     requires { most ≤ length output.old }
     ensures { (result ≡ length (last_digits most n)) × (output.new ≡ over (last_digits most n) output.old) × (result ≤ most) }

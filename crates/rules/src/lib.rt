@@ -1,8 +1,12 @@
 // The types of the library: contexts, operations, the answer record, and what the readers and the string writer find. specs/ holds the rules.
 #![tactic(auto)]
 
-ghost use Rattle.std.specs.Prelude.{◌≡◌};
+ghost use Rattle.std.specs.Prelude.{◌≡◌, ◌≤◌, length};
 ghost use Rattle.rules.specs.Contexts.{context_of};
+ghost use Rattle.rules.specs.Answers.{whole};
+ghost use Rattle.rules.specs.Refusals.{refusal as refusal_of};
+ghost use Rattle.rules.specs.Stream.{held_in};
+ghost use Rattle.rules.specs.Moves.{reason_number};
 
 // The longest text that a call takes, in bytes.
 pub const TEXT_LIMIT: usize = 65536;
@@ -118,7 +122,8 @@ pub enum Context {
     InAscii,
 }
 
-// The context that a call names: one of the fifteen, script_raw, or none.
+// The context that a call names: one of the fifteen, script_raw, or none. RULES 4 and the definitions over it
+// speak of three cases side by side; an Option of two would nest them in each.
 #[derive(Clone, Copy)]
 pub enum AnyContext {
     Units(Context),
@@ -146,6 +151,23 @@ pub struct Answer {
     pub place: usize,
     pub left: usize,
     pub reason: usize,
+}
+
+impl Answer {
+    // Returns a refusal by its three numbers; the others are 0.
+    pub fn refusal(status: usize, length: usize, place: usize) -> Answer
+        ensures { result ≡ refusal_of status length place }
+    {
+        Answer {
+            status,
+            length,
+            same: 0,
+            replaced: 0,
+            place,
+            left: 0,
+            reason: 0,
+        }
+    }
 }
 
 // What `check` answers, laid out as C lays it out.
@@ -176,15 +198,35 @@ pub struct Filled {
     pub passed: usize,
 }
 
-// What a pass over a text finds: the length of the result, how far the text is taken, how many places are replaced, and place and reason of the first
-// reference that stays, 0 and 0 where none does.
+// A reference that decode leaves: the place of its `&`, and why it stays.
+#[derive(Clone, Copy)]
+pub struct Left {
+    pub place: usize,
+    pub reason: Reason,
+}
+
+// What a pass over a text finds: the length of the result, how far the text is taken, how many
+// places are replaced, and the first reference that stays.
 #[derive(Clone, Copy)]
 pub struct Measured {
     pub length: usize,
     pub place: usize,
     pub replaced: usize,
-    pub left: usize,
-    pub reason: usize,
+    pub left: Option<Left>,
+}
+
+impl Measured {
+    // Returns what a pass finds that leaves no reference.
+    pub fn whole(length: usize, place: usize, replaced: usize) -> Measured
+        ensures { result ≡ whole length place replaced }
+    {
+        Measured {
+            length,
+            place,
+            replaced,
+            left: None,
+        }
+    }
 }
 
 // How far a raw script by parts has come: the first `count` bytes of `held` are held back (all eight where `count` is more), `done` bytes of the text
@@ -197,6 +239,15 @@ pub struct RawState {
     pub finished: bool,
 }
 
+impl RawState {
+    // Returns the bytes that are held back.
+    pub fn held_bytes(&self) -> &[u8]
+        ensures { (result.now ≡ held_in self.now) × (length result.now ≤ 8) }
+    {
+        &self.held[..self.count.min(8)]
+    }
+}
+
 // What a call of a raw script by parts gives: its answer, and the state after it.
 #[derive(Clone, Copy)]
 pub struct RawPart {
@@ -204,18 +255,11 @@ pub struct RawPart {
     pub state: RawState,
 }
 
-// What a reference stands for: a text of the table of names, its bytes packed into one number, or a character by its number.
+// What a reference stands for: a text of the table of names, its bytes packed into one number, or a character by its number. No Result: neither fails.
 #[derive(Clone, Copy)]
 pub enum DecodedEntityValue {
     Named(u64),
     Character(u32),
-}
-
-// What the body of a reference stands for.
-#[derive(Clone, Copy)]
-pub enum Meaning {
-    Value(DecodedEntityValue),
-    Nothing,
 }
 
 // A found reference: where its `&` is, the place past its `;`, and what it stands for.
@@ -237,19 +281,26 @@ pub enum Reason {
     NotAllowed,
 }
 
-// What a reference reader finds at an `&`: a reference; why decode leaves it; or that browse leaves it, which needs no reason.
-#[derive(Clone, Copy)]
-pub enum Reference {
-    Found(DecodedEntity),
-    Left(Reason),
-    Nothing,
+// The number of a reason in an answer record.
+impl From<Reason> for usize {
+    ghost from_gives = { λ reason number. number ≡ reason_number reason };
+
+    fn from(reason: Reason) -> usize {
+        match reason {
+            Reason::NoEnd => 1,
+            Reason::Empty => 2,
+            Reason::UnknownName => 3,
+            Reason::NoDigit => 4,
+            Reason::NotAllowed => 5,
+        }
+    }
 }
 
-// What the reader of string escapes finds: how many bytes the escape takes, and the number of its character.
+// An escape or a unit that a reader found: how many bytes it takes, and the number of its character.
 #[derive(Clone, Copy)]
-pub enum Escape {
-    Taken(usize, u32),
-    Nothing,
+pub struct Escape {
+    pub taken: usize,
+    pub character: u32,
 }
 
 // How a string encoder escapes a character: a backslash before it, its two hex digits, `\u2028` or `\u2029`, or U+FFFD in place of NUL.
@@ -261,26 +312,12 @@ pub enum Replacement {
     Substitute,
 }
 
-// What a string encoder finds at a place.
-#[derive(Clone, Copy)]
-pub enum Replaced {
-    By(Replacement),
-    Nothing,
-}
-
 // How the text of a script element is read: as it is, escaped once (after `<!--`), or escaped twice (after a start tag `<script` in that).
 #[derive(Clone, Copy)]
 pub enum ScriptMode {
     Plain,
     Once,
     Twice,
-}
-
-// The place of the `<` of the end tag that ends a script element's text.
-#[derive(Clone, Copy)]
-pub enum ClosingTag {
-    At(usize),
-    Nothing,
 }
 
 // The answer about a script element's text, laid out as C lays it out.

@@ -9,6 +9,7 @@ use native.Mathlib.Omega.{arith}
 use borrow.Author.Tests.{ne_eqb, eqb-false}
 use lib.Dec.{T, eqb, leb, leb→le}
 use lib.ListN.{length, take, drop, get_or, drop_of_length-le}
+use lib.Seq.{get_or-take, get_or-drop}
 use Rattle.rules.specs.Bytes.{ascii, stands, between}
 use Rattle.rules.specs.ScriptData.{lower, spells, ends, turn, end_from, closing_tag}
 use Rattle.rules.specs.declared.ScriptMode.{ScriptMode}
@@ -19,6 +20,7 @@ use Rattle.rules.proofs.Loops.{drop-next}
 use Rattle.rules.proofs.ScriptModes.{modes-agree}
 use Rattle.base.specs.First.{Free}
 use Rattle.base.proofs.Filled.{lent-rest}
+use Rattle.base.proofs.Part.{part_at, part_length}
 use Rattle.scripts.specs.Marks.{letter_of, dash_of, mark, mark_at, stop_at, Passed}
 
 -- ---- bytes
@@ -106,6 +108,20 @@ mark-stays Twice a b c at s e =
     let (l, d) = or_off (eqb a 60 && ((eqb b 47 || eqb b 83) || eqb b 47)) ((eqb a 45 && eqb b 45) && eqb c 62) e in
     λ i. end_from (cond (no-end-tag a b c s 47 l i) Once (cond (no-escape-end a b c s d i) Plain Twice)) (at + 1) (b ∷ c ∷ s)
 
+-- A mark at the head of a window of three bytes is one at its place in the text.
+pub mark-window : (letter dash : ℕ) (t w : List ℕ) (k : ℕ) → w ≡ take 3 (drop k t) → mark letter dash (get_or w 0 0) (get_or w 1 0) (get_or w 2 0) ≡ false → mark_at letter dash t k ≡ false
+mark-window letter dash t w k e f = rw (at 0 k (omega arith) (omega arith), at 1 (k + 1) (omega arith) (omega arith), at 2 (k + 2) (omega arith) (omega arith)) at f
+  where
+    at : (j p : ℕ) → j < 3 → k + j ≡ p → get_or w j 0 ≡ get_or t p 0
+    at j p l q = ap (λ (x : List ℕ). get_or x j 0) e ∙ get_or-take 3 (drop k t) j 0 l ∙ get_or-drop k t j 0 ∙ ap (λ (n : ℕ). get_or t n 0) q
+
+-- Where none begins in a block, none does in the text there.
+pub marks-in-block : (letter dash : ℕ) (t : List ℕ) (i n : ℕ) → i + n ≤ length t → Free (mark_at letter dash (take n (drop i t))) 0 (n - 2) → Free (mark_at letter dash t) i (i + (n - 2))
+marks-in-block letter dash t i n h f k x y = rw (at (k - i) k (omega arith) (omega arith), at (k - i + 1) (k + 1) (omega arith) (omega arith), at (k - i + 2) (k + 2) (omega arith) (omega arith)) at (f (k - i) (omega arith) (omega arith))
+  where
+    at : (j p : ℕ) → j < n → i + j ≡ p → get_or (take n (drop i t)) j 0 ≡ get_or t p 0
+    at j p l e = get_or-take n (drop i t) j 0 l ∙ get_or-drop i t j 0 ∙ ap (λ (q : ℕ). get_or t q 0) e
+
 -- ---- stretches where nothing happens
 
 module _ (m : ScriptMode) (t : List ℕ) where
@@ -131,6 +147,17 @@ module _ (m : ScriptMode) (t : List ℕ) where
         within = k;
         same = p.same ∙ others (r - i) i (omega arith) (λ j x y. f j x (omega arith)) ∙ ap from q;
       }
+
+  -- The same where the bytes are looked at in what is left of the text.
+  pub passed-rest : (a i n : ℕ) → Passed m t a i → n ≤ length (take (length t - i) (drop i t))
+      → ((j d : ℕ) → 0 ≤ j → j < n → (get_or (take (length t - i) (drop i t)) j d ≡ 60 → ⊥) × (get_or (take (length t - i) (drop i t)) j d ≡ 45 → ⊥)) → Passed m t a (i + n)
+  passed-rest a i n p k f =
+      let long = part_length t i (length t) p.within (omega arith) in
+      passed-others a i (i + n) p (omega arith) (omega (arith, k, p.within, long)) (λ j x y.
+      let q : i + (j - i) ≡ j = omega arith in
+      let e : get_or (take (length t - i) (drop i t)) (j - i) 0 ≡ get_or t j 0 = part_at t i (length t) (j - i) (omega (arith, k, long)) ∙ ap (λ (n : ℕ). get_or t n 0) q in
+      let no = f (j - i) 0 (omega arith) (omega arith) in
+      rw (ne_eqb (get_or t j 0) 60 (λ w. no.0 (e ∙ w)), ne_eqb (get_or t j 0) 45 (λ w. no.1 (e ∙ w))))
 
   -- Bytes at which no mark begins, two bytes before the end or earlier.
   unmarked : (n i : ℕ) → (0 < n → i + n + 2 ≤ length t) → Free (mark_at (letter_of m) (dash_of m) t) i (i + n) → from i ≡ from (i + n)
@@ -163,12 +190,6 @@ module _ (m : ScriptMode) (t : List ℕ) where
       }
 
 -- ---- where something may
-
--- No end tag begins with another byte than `<`.
-pub no_end : (m : ScriptMode) (b : ℕ) (s : List ℕ) → eqb b 60 ≡ false → ends m b s ≡ false
-no_end Plain b s e = rw e
-no_end Once b s e = rw e
-no_end Twice b s e = refl
 
 module _ (t : List ℕ) (m : ScriptMode) (e : ℕ) (h : e < length t) where
   abbrev rest : List ℕ

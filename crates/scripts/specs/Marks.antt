@@ -1,12 +1,10 @@
 -- What the search for the end of a script element stops at, how it goes on, and what it finds.
 -- Assumes nothing.
-use Rattle.std.specs.Prelude.{Bool, ◌&&◌, ◌||◌, ◌≡◌, List, ℕ, ◌+◌, ◌≤◌, eqb, length, drop, get_or}
+use Rattle.std.specs.Prelude.{Option as Maybe, Some, None, Bool, ◌&&◌, ◌||◌, ◌≡◌, List, ℕ, ◌+◌, ◌≤◌, eqb, length, drop, get_or}
 use Rattle.std.proofs.Math.Option.{Option, none, some}
 use Rattle.rules.specs.ScriptData.{end_from}
 use Rattle.rules.specs.declared.ScriptMode.{ScriptMode}
 use Rattle.rules.specs.declared.ScriptMode.TheVariants.{Plain, Once, Twice}
-use Rattle.rules.specs.declared.ClosingTag.{ClosingTag}
-use Rattle.rules.specs.declared.ClosingTag.TheVariants.{At, Nothing}
 
 -- What matters after a `<` beside `/` and `S`: `!` in a plain text, `s` where it is escaped once, nothing where it is escaped twice.
 abbrev pub letter_of : ScriptMode → ℕ
@@ -39,6 +37,6 @@ pub record Passed (m : ScriptMode) (t : List ℕ) (a r : ℕ) : Type 0 where
   pub same : end_from m a (drop a t) ≡ end_from m r (drop r t)
 
 -- The place that was found, if any.
-abbrev pub found_at : ClosingTag → Option ℕ
-found_at (At p) = some p
-found_at Nothing = none
+abbrev pub found_at : Maybe ℕ → Option ℕ
+found_at (Some p) = some p
+found_at None = none

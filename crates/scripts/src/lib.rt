@@ -1,8 +1,9 @@
 // Where the text of a script element ends. The rule has eighteen states and a step for each byte; the code has three modes, goes from one `<` (or, where
 // the text is escaped, dash) to the next, and looks at what stands there.
+// A tag's name is compared letter by letter in either case: std's comparison without case takes slices of one length, and the text may be shorter.
 #![tactic(auto)]
 
-ghost use Rattle.std.specs.Prelude.{false, ◌&&◌, cond, ◌≡◌, ◌+◌, ◌≤◌, ◌<◌, length};
+ghost use Rattle.std.specs.Prelude.{false, ◌&&◌, cond, ◌≡◌, ◌-◌, ◌≤◌, ◌<◌, length};
 ghost use Rattle.rules.specs.Bytes.{is};
 ghost use Rattle.rules.specs.ScriptData.{lower, ends_name, spells, ends, dashed, turn, closing_tag};
 ghost use Rattle.rules.specs.Closings.{closing_at, closing_of};
@@ -10,47 +11,34 @@ ghost use Rattle.rules.specs.declared.ScriptMode.TheVariants.{Plain};
 ghost use Rattle.base.specs.First.{Free};
 ghost use Rattle.scripts.specs.Marks.{letter_of, dash_of, mark, mark_at, Passed, found_at};
 
-use plain::look::low;
-use rules::{Closing, ClosingTag, PASSED, ScriptMode, TEXT_LIMIT, TOO_LONG};
+use rules::{Closing, PASSED, ScriptMode, TEXT_LIMIT, TOO_LONG};
 
 // The bytes that are tested together: one vector.
 const BLOCK: usize = 16;
-
-// Returns the lower-case letter of an upper-case one, and any other byte as it is.
-fn to_lower(b: u8) -> u8
-    ensures { result ≡ lower b }
-{
-    if base::is_within(b'A', b'Z', b) {
-        return b + 32;
-    }
-    b
-}
 
 // Reports whether the byte ends the name of a tag: tab, line feed, form feed, carriage return, space, `/`, `>`.
 fn ends_name(b: u8) -> bool
     ensures { result ≡ ends_name b }
 {
-    (b == 9) | (b == 10) | (b == 12) | (b == 13) | (b == b' ') | (b == b'/') | (b == b'>')
+    matches!(b, 9 | 10 | 12 | 13 | b' ' | b'/' | b'>')
 }
 
 // Reports whether `rest` starts with `name`, its letters in either case, and a byte that ends a name.
 fn starts_with_name(name: &[u8], rest: &[u8]) -> bool
     ensures { result ≡ spells name.now rest.now }
 {
-    let mut i = 0;
-    while i < name.len() {
+    for (i, a) in name.iter().enumerate() {
         if rest.len() <= i {
             return false;
         }
-        if to_lower(rest[i]) != name[i] {
+        if rest[i].to_ascii_lowercase() != *a {
             return false;
         }
-        i += 1;
     }
-    if rest.len() <= i {
-        return false;
+    match rest.get(name.len()) {
+        Some(b) => ends_name(*b),
+        None => false,
     }
-    ends_name(rest[i])
 }
 
 // Returns the byte after a `<` that matters in the mode, beside `/` and `S`.
@@ -80,35 +68,23 @@ fn dash_of(mode: ScriptMode) -> u8
 fn far(letter: u8, dash: u8, a: u8, b: u8, c: u8) -> u8
     ensures { 0 < result → mark letter dash a b c ≡ false }
 {
-    let next = low(low(b ^ b'/', b ^ b'S'), b ^ letter);
-    low((a ^ b'<') | next, (a ^ dash) | (b ^ b'-') | (c ^ b'>'))
+    let next = (b ^ b'/').min(b ^ b'S').min(b ^ letter);
+    ((a ^ b'<') | next).min((a ^ dash) | (b ^ b'-') | (c ^ b'>'))
 }
 
-// Reports whether the mode may change, or the element end, within the block at `at`. The loop has no early exit, so that it becomes vector code.
-fn has_mark(text: &[u8], at: usize, letter: u8, dash: u8) -> bool
-    requires { at + 18 ≤ length text.now }
-    ensures { result ≡ false → Free (mark_at letter dash text.now) at (at + 16) }
+// Reports whether the mode may change, or the element end, at one of the bytes of a block but its last two. The loop has no early exit, so that it becomes
+// vector code.
+fn has_mark(block: &[u8], letter: u8, dash: u8) -> bool
+    ensures { result ≡ false → Free (mark_at letter dash block.now) 0 (length block.now - 2) }
 {
     let mut m: u8 = 255;
-    let mut j: usize = 0;
-    while j < BLOCK {
-        m = low(
-            m,
-            far(
-                letter,
-                dash,
-                text[at + j],
-                text[at + j + 1],
-                text[at + j + 2],
-            ),
-        );
-        j += 1;
+    for three in block.windows(3) {
+        m = m.min(far(letter, dash, three[0], three[1], three[2]));
     }
     m == 0
 }
 
-// Skips blocks in which nothing happens from `from` on and returns the start of the first other one, or of what is left after the last block. The two
-// bytes after a block are read as well.
+// Skips blocks in which nothing happens from `from` on and returns the start of the first other one, or of what is left after the last block.
 fn skip_blocks(text: &[u8], from: usize, mode: ScriptMode) -> usize
     requires { from ≤ length text.now }
     ensures { Passed mode text.now from result }
@@ -116,8 +92,9 @@ fn skip_blocks(text: &[u8], from: usize, mode: ScriptMode) -> usize
     let letter = letter_of(mode);
     let dash = dash_of(mode);
     let mut i = from;
+    // A cursor: the two bytes after a block are read with it, so that blocks overlap.
     while BLOCK + 2 <= text.len() - i {
-        if has_mark(text, i, letter, dash) {
+        if has_mark(&text[i..i + BLOCK + 2], letter, dash) {
             return i;
         }
         i += BLOCK;
@@ -130,17 +107,11 @@ fn next_mark(text: &[u8], from: usize, mode: ScriptMode) -> usize
     requires { from ≤ length text.now }
     ensures { Passed mode text.now from result }
 {
-    let mut i = skip_blocks(text, from, mode);
-    while i < text.len() {
-        if text[i] == b'<' {
-            return i;
-        }
-        if text[i] == b'-' {
-            return i;
-        }
-        i += 1;
+    let start = skip_blocks(text, from, mode);
+    match text[start..].iter().position(|b| *b == b'<' || *b == b'-') {
+        Some(k) => start + k,
+        None => text.len(),
     }
-    i
 }
 
 // Reports whether the element ends at the byte `b`, where `rest` follows.
@@ -207,36 +178,37 @@ fn next_mode(mode: ScriptMode, b: u8, rest: &[u8]) -> ScriptMode
 }
 
 // Returns the offset of the `<` of the first end tag that ends the element.
-pub fn find_end(text: &[u8]) -> ClosingTag
+pub fn find_end(text: &[u8]) -> Option<usize>
     ensures { found_at result ≡ closing_tag text.now }
 {
     let mut mode = ScriptMode::Plain;
     let mut i: usize = 0;
+    // A cursor: each turn goes on behind the byte that was looked at.
     while i < text.len() {
         let e = next_mark(text, i, mode);
         if e == text.len() {
-            return ClosingTag::Nothing;
+            return None;
         }
         if is_end(mode, text[e], &text[e + 1..]) {
-            return ClosingTag::At(e);
+            return Some(e);
         }
         mode = next_mode(mode, text[e], &text[e + 1..]);
         i = e + 1;
     }
-    ClosingTag::Nothing
+    None
 }
 
 // Returns the answer where the text ends at an end tag, or does not.
-fn answer(found: ClosingTag) -> Closing
+fn answer(found: Option<usize>) -> Closing
     ensures { result ≡ closing_at (found_at found) }
 {
     match found {
-        ClosingTag::At(place) => Closing {
+        Some(place) => Closing {
             status: PASSED,
             found: 1,
             place: place,
         },
-        ClosingTag::Nothing => Closing {
+        None => Closing {
             status: PASSED,
             found: 0,
             place: 0,

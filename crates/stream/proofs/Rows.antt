@@ -7,10 +7,10 @@ use mathlib.Core.Path.{◌≡◌, refl, sym, ap, ◌∙◌, subst}
 use mathlib.Core.List.{List, [], ◌∷◌, ◌++◌, append_assoc, append-nil}
 use Prim.Native.Nat.{ℕ, zero, suc, ◌+◌, ◌-◌, ◌*◌, ◌/◌, ◌≤◌, ◌<◌}
 use native.Mathlib.Omega.{arith}
-use borrow.Author.Tests.{ltb-true, ltb-false, lt-ltb, le-ltb}
+use borrow.Author.Tests.{lt-ltb, le-ltb}
 use lib.Dec.{ltb}
 use lib.ListN.{length, take, drop, length-append, take-append-drop, drop_of_length-le}
-use lib.Seq.{take_at, drop_at, drop-drop, drop-append-le, take_all, length-take-le}
+use lib.Seq.{drop_at, drop-drop, drop-append-le, take_all, length-take-le}
 use Rattle.rules.specs.Bytes.{over}
 use Rattle.rules.specs.Moves.{Move, gives, through, result, replaced}
 use Rattle.rules.specs.Utf8.{IsText, valid_to, is_cut}
@@ -28,7 +28,7 @@ use Rattle.rules.proofs.Released.{settled-text, valid-after, broken-place, broke
 use Rattle.rules.proofs.Quarter.{raw-quarter}
 use Rattle.rules.proofs.Parts.{chosen, case-chosen}
 use Rattle.base.proofs.Filled.{lent-rest}
-use Rattle.stream.specs.Seams.{Sound, front, both, Needed, Released, Leaves, Joined, Clipped}
+use Rattle.stream.specs.Seams.{Sound, front, both, Needed, Released, Leaves, Joined}
 
 -- ---- what becomes of a call, by its tests
 
@@ -266,54 +266,6 @@ module _ (st : RawState) (seam rest u out : List ℕ) (s : ℕ) (p : s ≡ settl
                 (y ∙ (λ i. part_success (sym m i) (sym r i)) ∙ w.0, x ∙ after ∙ w.1, g ∙ ap (λ (l : List ℕ). over l out) (sym writes) ∙ w.2)
 
 -- ---- the seam of a part
-
--- Eight bytes, of which a count of more than eight takes all.
-clip-take : (h : List ℕ) (n r : ℕ) → length h ≡ 8 → Clipped n r → take r h ≡ take n h
-clip-take h n r l c = go (ltb n 8) refl
-  where
-    go : (x : Bool) → ltb n 8 ≡ x → take r h ≡ take n h
-    go true e = let m = ltb-true n 8 e in ap (λ (k : ℕ). take k h) (c.2 (omega (arith, m)))
-    go false e =
-        let m = ltb-false n 8 e in
-        let q = c.3 m in
-        take_all r h (omega (arith, q, l)) ∙ sym (take_all n h (omega (arith, m, l)))
-
--- The bytes that a state holds, by its eight bytes and its clipped count.
-pub held-clip : (st : RawState) (h : List ℕ) (r : ℕ) → h ≡ st.held → length h ≡ 8 → Clipped st.count r → take r h ≡ held_in st
-held-clip st h r e l c = clip-take h st.count r l c ∙ ap (take st.count) e
-
-pub held-size : (st : RawState) (h : List ℕ) (r : ℕ) → h ≡ st.held → length h ≡ 8 → Clipped st.count r → r ≡ length (held_in st)
-held-size st h r e l c =
-    let m = c.0 in
-    sym (length-take-le r h (omega (arith, m, l))) ∙ ap length (held-clip st h r e l c)
-
--- The first bytes of a text, at most eight.
-clip-text : (t : List ℕ) (r : ℕ) → Clipped (length t) r → take r t ≡ take 8 t
-clip-text t r c = go (ltb (length t) 8) refl
-  where
-    go : (x : Bool) → ltb (length t) 8 ≡ x → take r t ≡ take 8 t
-    go true e =
-        let m = ltb-true (length t) 8 e in
-        let q = c.2 (omega (arith, m)) in
-        take_all r t (omega (arith, q)) ∙ sym (take_all 8 t (omega (arith, m)))
-    go false e = ap (λ (k : ℕ). take k t) (c.3 (ltb-false (length t) 8 e))
-
--- The seam is written with them.
-pub seam-filled : (h t out : List ℕ) (r : ℕ) {n : ℕ} {o : List ℕ} → Clipped (length t) r → (n ≡ length (h ++ take r t)) × (o ≡ over (h ++ take r t) out)
-    → (n ≡ length (h ++ take 8 t)) × (o ≡ over (h ++ take 8 t) out)
-seam-filled h t out r {n} {o} c w = subst (λ (l : List ℕ). (n ≡ length (h ++ l)) × (o ≡ over (h ++ l) out)) (clip-text t r c) w
-
--- Its bytes are lent of the sixteen.
-pub lent-front : (w r : List ℕ) {o : List ℕ} {n : ℕ} → n ≡ length w → o ≡ w ++ r → (take n o ≡ w) × (n ≤ length o)
-lent-front w r {o} {n} e p = let l = ap length p ∙ length-append w r in ((λ i. take (e i) (p i)) ∙ take_at w r (length w) refl, omega (arith, e, l))
-
--- The test of the limit without a sum.
-pub limit-test : (d c n : ℕ) → d ≤ 65536 → c ≤ 65536 - d → ltb (65536 - d - c) n ≡ ltb 65536 (d + (c + n))
-limit-test d c n h k = go (ltb (65536 - d - c) n) refl
-  where
-    go : (x : Bool) → ltb (65536 - d - c) n ≡ x → x ≡ ltb 65536 (d + (c + n))
-    go true e = let l = ltb-true (65536 - d - c) n e in sym (lt-ltb 65536 (d + (c + n)) (omega (arith, h, k, l)))
-    go false e = let l = ltb-false (65536 - d - c) n e in sym (le-ltb 65536 (d + (c + n)) (omega (arith, h, k, l)))
 
 module _ (h t : List ℕ) where
   abbrev seam : List ℕ

@@ -50,7 +50,3 @@ abbrev pub Joined : RawState → List ℕ → List ℕ → List ℕ → Answer �
 Joined st seam rest out a next o =
     (u : List ℕ) → rest ≡ held seam ++ u → st.finished ≡ false
     → Leaves (record { last = false; state = st; joined = seam ++ u; room = length out }) out a next o
-
--- The number r is n, or 8 where n is more.
-abbrev pub Clipped : ℕ → ℕ → Type 0
-Clipped n r = (r ≤ 8) × (r ≤ n) × (n ≤ 8 → r ≡ n) × (8 ≤ n → r ≡ 8)

@@ -1,34 +1,20 @@
 // Raw script by parts: script_raw's encoder with a state, for scripts that are longer than a buffer. A part call writes what is settled and holds back
 // the few bytes that more could still change. It copies the seam alone: what was held and the first eight bytes of the part, at most sixteen bytes.
 // What the seam does not settle lies in the part, and is encoded there, sixteen bytes at a time.
+// That a state is not finished, and how much of the seam is settled, stand in each contract: each state is used once, and every value of it is C's.
 #![tactic(auto)]
 
-ghost use Rattle.std.specs.Prelude.{true, false, ◌≡◌, [], ◌++◌, ℕ, ◌+◌, ◌≤◌, ◌<◌, ltb, length, take};
+ghost use Rattle.std.specs.Prelude.{MatchOption, true, false, ◌≡◌, [], ◌++◌, ℕ, ◌+◌, ◌≤◌, ◌<◌, ltb, length, take};
 ghost use Rattle.rules.specs.Bytes.{over};
-ghost use Rattle.rules.specs.Refusals.{refusal as refusal_of, part_success};
+ghost use Rattle.rules.specs.Refusals.{part_success};
 ghost use Rattle.rules.specs.Stream.{begins as begins_of, settled as settled_of, held_in, started, holding as holding_of, PartAllowed};
 ghost use Rattle.plain.specs.Plain.{Without};
-ghost use Rattle.stream.specs.Seams.{opens_name, Sound, Joined, Needed, Released, Clipped};
+ghost use Rattle.stream.specs.Seams.{opens_name, Sound, Joined, Needed, Released};
 
 use rules::{Answer, RawPart, RawState};
 
 // The most bytes that are held.
 const HELD: usize = 8;
-
-// Returns a refusal by its three numbers; the other numbers are 0.
-fn refusal(status: usize, length: usize, place: usize) -> Answer
-    ensures { result ≡ refusal_of status length place }
-{
-    Answer {
-        status,
-        length,
-        same: 0,
-        replaced: 0,
-        place,
-        left: 0,
-        reason: 0,
-    }
-}
 
 // Returns the answer of a call that passed, by how many bytes it wrote and how many backslashes are among them; `same` is 0.
 fn passed(length: usize, replaced: usize) -> Answer
@@ -49,15 +35,13 @@ fn passed(length: usize, replaced: usize) -> Answer
 fn opens_name(name: &[u8], rest: &[u8]) -> bool
     ensures { result ≡ opens_name name.now rest.now }
 {
-    let mut i: usize = 0;
-    while i < rest.len() {
+    for (i, b) in rest.iter().enumerate() {
         if name.len() <= i {
             return false;
         }
-        if !base::prefix::is_either_case(name[i], rest[i]) {
+        if !base::prefix::is_either_case(name[i], *b) {
             return false;
         }
-        i += 1;
     }
     true
 }
@@ -67,59 +51,45 @@ fn begins(rest: &[u8]) -> bool
     requires { 0 < length rest.now }
     ensures { result ≡ begins_of rest.now }
 {
-    if utf8::is_cut(rest) {
-        return true;
-    }
-    if opens_name(b"<!-", rest) {
-        return true;
-    }
-    opens_name(b"</script", rest)
-}
-
-// Returns where the last eight bytes of a text of `n` bytes start, or 0 if it has fewer.
-fn last_eight(n: usize) -> usize
-    ensures { (result ≤ n) × (n ≤ result + 8) × ((k : ℕ) → n ≤ k + 8 → result ≤ k) }
-{
-    if n < HELD { 0 } else { n - HELD }
+    utf8::is_cut(rest) || opens_name(b"<!-", rest) || opens_name(b"</script", rest)
 }
 
 // Returns how many bytes of a text are settled. At most its last eight are not.
 fn settled(text: &[u8]) -> usize
     ensures { (result ≡ settled_of text.now) × (result ≤ length text.now) }
 {
-    let mut i = last_eight(text.len());
-    while i < text.len() {
+    let from = text.len().saturating_sub(HELD);
+    for i in from..text.len() {
         if begins(&text[i..]) {
             return i;
         }
-        i += 1;
     }
-    i
+    text.len()
 }
 
-// Returns the length of the longest valid prefix if what follows it is no start of a character; else the text's length.
-fn sound_to(text: &[u8]) -> usize
-    ensures { Sound text.now result }
+// Returns where a text is broken: the length of its longest valid prefix, if what follows that is no start of a character.
+fn broken_at(text: &[u8]) -> Option<usize>
+    ensures { MatchOption result (Sound text.now (length text.now)) (λ r. Sound text.now r × (r < length text.now)) }
 {
     let valid = utf8::valid_to(text);
     if valid == text.len() {
-        return valid;
+        return None;
     }
     if utf8::is_cut(&text[valid..]) {
-        return text.len();
+        return None;
     }
-    valid
+    Some(valid)
 }
 
 // Returns the same; a text that is `clear`, ASCII without `<`, is not looked at.
-fn sound_with(clear: bool, text: &[u8]) -> usize
+fn broken_with(clear: bool, text: &[u8]) -> Option<usize>
     requires { clear ≡ true → Without 60 text.now }
-    ensures { Sound text.now result }
+    ensures { MatchOption result (Sound text.now (length text.now)) (λ r. Sound text.now r × (r < length text.now)) }
 {
     if clear {
-        return text.len();
+        return None;
     }
-    sound_to(text)
+    broken_at(text)
 }
 
 // Returns a length that is above `room` exactly if the settled bytes of the seam and of the rest need more, and is then what they need. The result is
@@ -142,7 +112,7 @@ fn release(seam: &[u8], s: usize, clear: bool, rest: &[u8], e: usize, output: &m
 {
     let length = needed(seam, s, rest, e, output.len());
     if output.len() < length {
-        return refusal(rules::NO_ROOM, length, 0);
+        return Answer::refusal(rules::NO_ROOM, length, 0);
     }
     let at = encode_raw::write_to(seam, s, output);
     let n = at + encode_raw::write_with(clear, rest, e, &mut output[at..]);
@@ -170,15 +140,13 @@ fn joined(state: RawState, seam: &[u8], s: usize, rest: &[u8], output: &mut [u8]
     ensures { Joined state seam.now rest.now output.old result.answer result.state output.new }
 {
     let done = state.done;
-    let v = sound_to(seam);
-    if v < seam.len() {
-        let answer = refusal(rules::NOT_UTF8, 0, done + v);
+    if let Some(v) = broken_at(seam) {
+        let answer = Answer::refusal(rules::NOT_UTF8, 0, done + v);
         return RawPart { answer, state };
     }
     let clear = plain::look::is_without(b'<', rest);
-    let w = sound_with(clear, rest);
-    if w < rest.len() {
-        let answer = refusal(rules::NOT_UTF8, 0, done + s + w);
+    if let Some(w) = broken_with(clear, rest) {
+        let answer = Answer::refusal(rules::NOT_UTF8, 0, done + s + w);
         return RawPart { answer, state };
     }
     let e = settled(rest);
@@ -193,24 +161,11 @@ fn joined(state: RawState, seam: &[u8], s: usize, rest: &[u8], output: &mut [u8]
     }
 }
 
-// Returns a number, or 8 if it is more.
-fn clipped(n: usize) -> usize
-    ensures { Clipped n result }
-{
-    if HELD < n { HELD } else { n }
-}
-
-// Reports whether `done` bytes, `count` more and `n` more are above the limit. It adds nothing, so that no state overflows it.
+// Reports whether `done` bytes, `count` more and `n` more are above the limit.
 fn is_long(done: usize, count: usize, n: usize) -> bool
     ensures { result ≡ ltb 65536 (done + (count + n)) }
 {
-    if rules::TEXT_LIMIT < done {
-        return true;
-    }
-    if rules::TEXT_LIMIT - done < count {
-        return true;
-    }
-    rules::TEXT_LIMIT - done - count < n
+    rules::TEXT_LIMIT < done.saturating_add(count).saturating_add(n)
 }
 
 // Encodes a part within the limit, by its seam: the `count` bytes that are held and the first bytes of the part, at most eight.
@@ -231,21 +186,22 @@ fn fill(held: &[u8], text: &[u8], seam: &mut [u8]) -> usize
     ensures { (result ≡ length (held.now ++ take 8 text.now)) × (seam.new ≡ over (held.now ++ take 8 text.now) seam.old) }
 {
     let n = base::put(held, seam);
-    n + base::put(&text[..clipped(text.len())], &mut seam[n..])
+    n + base::put(&text[..text.len().min(HELD)], &mut seam[n..])
 }
 
-// Encodes a part in a state that is not finished; `held` is its eight bytes, of which `count` are held.
-fn begun(state: RawState, held: &[u8], count: usize, text: &[u8], output: &mut [u8]) -> RawPart
-    requires { (held.now ≡ state.held) × (length held.now ≡ 8) × Clipped state.count count × (state.finished ≡ false) }
+// Encodes a part in a state that is not finished.
+fn begun(state: RawState, text: &[u8], output: &mut [u8]) -> RawPart
+    requires { state.finished ≡ false }
     ensures { PartAllowed false state text.now output.old result.answer result.state output.new }
 {
-    if is_long(state.done, count, text.len()) {
-        let answer = refusal(rules::TOO_LONG, 0, 0);
+    let held = state.held_bytes();
+    if is_long(state.done, held.len(), text.len()) {
+        let answer = Answer::refusal(rules::TOO_LONG, 0, 0);
         return RawPart { answer, state };
     }
     let mut seam: [u8; 16] = [0; 16];
-    let n = fill(&held[..count], text, &mut seam);
-    sewn(state, count, &seam[..n], text, output)
+    let n = fill(held, text, &mut seam);
+    sewn(state, held.len(), &seam[..n], text, output)
 }
 
 // Encodes a part: writes what is settled of what the state holds and the part, and returns the answer and the next state. A refused call writes nothing
@@ -254,11 +210,10 @@ pub fn script_raw_part(state: RawState, text: &[u8], output: &mut [u8]) -> RawPa
     ensures { PartAllowed false state text.now output.old result.answer result.state output.new }
 {
     if state.finished {
-        let answer = refusal(rules::FINISHED, 0, 0);
+        let answer = Answer::refusal(rules::FINISHED, 0, 0);
         return RawPart { answer, state };
     }
-    let held = state.held;
-    begun(state, &held, clipped(state.count), text, output)
+    begun(state, text, output)
 }
 
 // Ends the script within the limit: writes what is held as the end of the text.
@@ -269,12 +224,12 @@ fn end_with(state: RawState, held: &[u8], output: &mut [u8]) -> RawPart
     let done = state.done;
     let valid = utf8::valid_to(held);
     if valid < held.len() {
-        let answer = refusal(utf8::status(&held[valid..]), 0, done + valid);
+        let answer = Answer::refusal(utf8::status(&held[valid..]), 0, done + valid);
         return RawPart { answer, state };
     }
     let length = encode_raw::measure(held);
     if output.len() < length {
-        let answer = refusal(rules::NO_ROOM, length, 0);
+        let answer = Answer::refusal(rules::NO_ROOM, length, 0);
         return RawPart { answer, state };
     }
     encode_raw::write(held, output);
@@ -286,16 +241,17 @@ fn end_with(state: RawState, held: &[u8], output: &mut [u8]) -> RawPart
     }
 }
 
-// Ends the script in a state that is not finished; `held` is its eight bytes, of which `count` are held.
-fn ended(state: RawState, held: &[u8], count: usize, output: &mut [u8]) -> RawPart
-    requires { (held.now ≡ state.held) × (length held.now ≡ 8) × Clipped state.count count × (state.finished ≡ false) }
+// Ends the script in a state that is not finished.
+fn ended(state: RawState, output: &mut [u8]) -> RawPart
+    requires { state.finished ≡ false }
     ensures { PartAllowed true state [] output.old result.answer result.state output.new }
 {
-    if is_long(state.done, count, 0) {
-        let answer = refusal(rules::TOO_LONG, 0, 0);
+    let held = state.held_bytes();
+    if is_long(state.done, held.len(), 0) {
+        let answer = Answer::refusal(rules::TOO_LONG, 0, 0);
         return RawPart { answer, state };
     }
-    end_with(state, &held[..count], output)
+    end_with(state, held, output)
 }
 
 // Ends the script: writes what is held as the end of the text, and returns the answer and the finished state.
@@ -303,11 +259,10 @@ pub fn script_raw_finish(state: RawState, output: &mut [u8]) -> RawPart
     ensures { PartAllowed true state [] output.old result.answer result.state output.new }
 {
     if state.finished {
-        let answer = refusal(rules::FINISHED, 0, 0);
+        let answer = Answer::refusal(rules::FINISHED, 0, 0);
         return RawPart { answer, state };
     }
-    let held = state.held;
-    ended(state, &held, clipped(state.count), output)
+    ended(state, output)
 }
 
 // Returns the started state: nothing is given, nothing is held.

@@ -1,5 +1,6 @@
 -- The word of a byte as the code makes it, by the rule for its escape.
 -- Assumes nothing.
+use Rattle.std.specs.Prelude.{Option, Some, None}
 use mathlib.Core.Bool.{Bool, true, false, cond}
 use mathlib.Core.Path.{◌≡◌, refl, sym, ap, ◌∙◌}
 use mathlib.Core.List.{[], ◌∷◌}
@@ -11,8 +12,7 @@ use Rattle.rules.specs.Answers.{replacement_move, replaced_move}
 use Rattle.rules.specs.declared.Notation.{Notation}
 use Rattle.rules.specs.declared.Notation.TheVariants.{Script, Style, Json}
 use Rattle.rules.specs.declared.Quotes.{Quotes}
-use Rattle.rules.specs.declared.Replaced.{Replaced}
-use Rattle.rules.specs.declared.Replaced.TheVariants.{By, Nothing}
+use Rattle.rules.specs.declared.Replacement.{Replacement}
 use Rattle.rules.specs.declared.Replacement.TheVariants.{Slashed}
 use Rattle.rules.proofs.Stream.{true-false}
 use Rattle.base.specs.Words.{word_of}
@@ -51,7 +51,7 @@ slashed-spelt b = omega arith
 module _ (notation : Notation) (quotes : Quotes) (b : ℕ) (ne : b ≡ 0xE2 → ⊥) where
   -- The rule, by the two tests.
   abbrev ruled : Bool → Bool → ℕ
-  ruled t u = word_of (gives (replaced_move notation (b ∷ []) (cond t (By Slashed) (cond u (By (hex_by notation b)) Nothing))))
+  ruled t u = word_of (gives (replaced_move notation (b ∷ []) (cond t (Some Slashed) (cond u (Some (hex_by notation b)) None))))
 
   word-ruled : ruled (is_slashed (single_key notation quotes) (double_key notation quotes) b) (is_hexed b) ≡ word_in notation quotes b
   unfolding word_in
@@ -71,7 +71,7 @@ module _ (notation : Notation) (quotes : Quotes) (b : ℕ) (ne : b ≡ 0xE2 → 
   pub word-high : 93 ≤ b → word_of (b ∷ []) ≡ word_in notation quotes b
   word-high h =
       let other = ruled-other notation (quotes_in notation quotes) b (omega arith) (λ e. omega arith) (λ e. omega arith) (λ e. omega arith) (λ e. omega arith) in
-      ap (λ (r : Replaced). word_of (gives (replaced_move notation (b ∷ []) r))) (sym other) ∙ word-ruled
+      ap (λ (r : Option Replacement). word_of (gives (replaced_move notation (b ∷ []) r))) (sym other) ∙ word-ruled
 
 -- The word of E2.
 pub word-lead : (notation : Notation) (quotes : Quotes) → 0x800000000000000 ≡ word_in notation quotes 0xE2

@@ -1,5 +1,6 @@
 -- The turns of the writer that copies ahead: each takes some of what is left of the text and writes what that gives, and spills up to sixteen bytes past it.
 -- Assumes nothing.
+use Rattle.std.specs.Prelude.{None}
 use mathlib.Core.Bool.{false}
 use mathlib.Core.Path.{◌≡◌, refl, sym, ap, ◌∙◌, subst}
 use mathlib.Core.List.{List, [], ◌∷◌, ◌++◌}
@@ -141,7 +142,7 @@ module _ (notation : Notation) (quotes : Quotes) where
 
   -- Most of a text, and then the rest: what a pass over the whole finds.
   pub both-measured : (t : List ℕ) (i n k : ℕ) (found : Measured) → Reached notation quotes t i n k → Measures found (through (encode_step (written_in notation quotes)) (drop i t))
-      → Measures (record { length = n + found.length; place = i + found.place; replaced = k + found.replaced; left = 0; reason = 0 }) (through (encode_step (written_in notation quotes)) t)
+      → Measures (record { length = n + found.length; place = i + found.place; replaced = k + found.replaced; left = None }) (through (encode_step (written_in notation quotes)) t)
   both-measured t i n k found r m =
       let whole = ap length (encode-whole (written_in notation quotes) t) in
       let rest = ap length (encode-whole (written_in notation quotes) (drop i t)) in

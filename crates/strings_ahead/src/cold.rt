@@ -4,19 +4,15 @@ ghost use Rattle.std.specs.Prelude.{◌≡◌, ℕ, ◌≤◌, ◌<◌, length, 
 ghost use Rattle.strings_ahead.specs.Ahead.{far_in};
 
 use encode_strings::rule;
-use plain::look::low;
 
-// Returns 0 if the byte is below the space, `<`, the backslash, E2 or one of the quotes, else more.
+// Returns 0 if the byte is below the space, `<`, the backslash, E2 or one of the quotes, else more: the least of sixteen such numbers is vector code.
 fn far(single: u8, double: u8, b: u8) -> u8
     ensures { result ≡ far_in single double b }
 {
-    low(
-        low(
-            low(b & 0xE0, b ^ b'<'),
-            low(b ^ b'\\', b ^ rule::SEPARATOR_LEAD),
-        ),
-        low(b ^ single, b ^ double),
-    )
+    let fixed = (b & 0xE0)
+        .min(b ^ b'<')
+        .min((b ^ b'\\').min(b ^ rule::SEPARATOR_LEAD));
+    fixed.min((b ^ single).min(b ^ double))
 }
 
 // Returns 0 if one of the first sixteen bytes of a text is such a byte, else more.
@@ -25,10 +21,8 @@ pub fn least(single: u8, double: u8, text: &[u8]) -> u8
     ensures { 0 < result → (i : ℕ) → i < 16 → 0 < far_in single double (get_or text.now i 0) }
 {
     let mut m: u8 = 255;
-    let mut i: usize = 0;
-    while i < 16 {
-        m = low(m, far(single, double, text[i]));
-        i += 1;
+    for b in &text[..16] {
+        m = m.min(far(single, double, *b));
     }
     m
 }

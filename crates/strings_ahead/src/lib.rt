@@ -13,30 +13,11 @@ ghost use Rattle.rules.specs.Moves.{through};
 ghost use Rattle.rules.specs.Answers.{Measures};
 ghost use Rattle.rules.specs.Operations.{encode_of};
 
+use ahead::Words;
 use rules::{Measured, Notation, Quotes};
 
 // A text above this length is written by a table of the words of all bytes, which takes longer to make than it saves on a shorter one.
 const LONG: usize = 4096;
-
-// Does the same as `write` for a text of sixteen bytes or more: most of it by copying ahead, the rest part by part.
-fn write_long(notation: Notation, quotes: Quotes, text: &[u8], output: &mut [u8]) -> Measured
-    requires { (16 ≤ length text.now) × (length text.now ≤ 65536) × (length (encode_of (written_in notation quotes) text.now) ≤ length output.old) }
-    ensures { Measures result (through (encode_step (written_in notation quotes)) text.now) × (output.new ≡ over (encode_of (written_in notation quotes) text.now) output.old) }
-{
-    let mut table: [u64; 256] = [0x0100_0000_0000_0000; 256];
-    words::fill(notation, quotes, &mut table);
-    let most = ahead::write_most(notation, quotes, &table, text, output);
-    let i = most.place;
-    let at = most.length;
-    let rest = encode_strings::write(notation, quotes, &text[i..], &mut output[at..]);
-    Measured {
-        length: at + rest.length,
-        place: i + rest.place,
-        replaced: most.replaced + rest.replaced,
-        left: 0,
-        reason: 0,
-    }
-}
 
 // Writes the escaped text to the start of `output`, leaves the bytes after it as they were, and returns what `encode_strings::measure` does.
 pub fn write(notation: Notation, quotes: Quotes, text: &[u8], output: &mut [u8]) -> Measured
@@ -44,7 +25,7 @@ pub fn write(notation: Notation, quotes: Quotes, text: &[u8], output: &mut [u8])
     ensures { Measures result (through (encode_step (written_in notation quotes)) text.now) × (output.new ≡ over (encode_of (written_in notation quotes) text.now) output.old) }
 {
     if LONG < text.len() {
-        return write_long(notation, quotes, text, output);
+        return Words::of(notation, quotes).write(text, output);
     }
     encode_strings::write(notation, quotes, text, output)
 }

@@ -75,9 +75,7 @@ pub fn fill(notation: Notation, quotes: Quotes, table: &mut [u64; 256])
     requires { length table.old ≡ 256 }
     ensures { Table notation quotes table.new }
 {
-    let mut b: usize = 0;
-    while b < 256 {
+    for b in 0..256 {
         table[b] = word(notation, quotes, b as u8);
-        b += 1;
     }
 }

@@ -9,8 +9,9 @@ use native.Mathlib.Nat.{le_of_suc-le-suc, not-suc-le-zero}
 use native.Mathlib.Omega.{arith}
 use borrow.Author.Tests.{lt-ltb, le-ltb, le-leb, lt-leb, ne_eqb, ltb-true, ltb-false}
 use lib.Dec.{T, eqb, leb, ltb, leb→le}
-use lib.ListN.{length, take, get_or, length-append}
+use lib.ListN.{length, take, drop, get_or, length-append}
 use lib.Seq.{take_at}
+use Rattle.base.proofs.Part.{window_at}
 use Rattle.rules.specs.Bytes.{inside}
 use Rattle.rules.specs.Utf8.{IsChar, IsText}
 use Rattle.rules.proofs.Tests.{and_right}
@@ -195,12 +196,12 @@ pending-at w h =
 abbrev pub FitsAt : List ℕ → ℕ → Type 0
 FitsAt w k = fits_after (get_or w k 0) (get_or w (suc k) 0) (get_or w (suc (suc k)) 0) (get_or w (suc (suc (suc k))) 0) ≡ true
 
-pub fits-here : (w : List ℕ) (k : ℕ) → fits_after (get_or w k 0) (get_or w (k + 1) 0) (get_or w (k + 2) 0) (get_or w (k + 3) 0) ≡ true → FitsAt w k
-fits-here w k f =
-    let e1 : k + 1 ≡ suc k = omega arith in
-    let e2 : k + 2 ≡ suc (suc k) = omega arith in
-    let e3 : k + 3 ≡ suc (suc (suc k)) = omega arith in
-    rw (e1, e2, e3) at f
+-- A window of four bytes from place k on.
+pub fits-window : (w v : List ℕ) (k : ℕ) → v ≡ take 4 (drop k w) → fits_after (get_or v 0 0) (get_or v 1 0) (get_or v 2 0) (get_or v 3 0) ≡ true → FitsAt w k
+fits-window w v k e f = rw (at 0 k (omega arith) (omega arith), at 1 (suc k) (omega arith) (omega arith), at 2 (suc (suc k)) (omega arith) (omega arith), at 3 (suc (suc (suc k))) (omega arith) (omega arith)) at f
+  where
+    at : (j i : ℕ) → j < 4 → k + j ≡ i → get_or v j 0 ≡ get_or w i 0
+    at j i h s = window_at w v k 4 j e h ∙ ap (λ (n : ℕ). get_or w n 0) s
 
 all_from : (a b c : ℕ) (w : List ℕ) → ((k : ℕ) → k < length w → FitsAt (a ∷ b ∷ c ∷ w) k) → AllFit a b c w
 all_from a b c [] f = tt

@@ -1,26 +1,36 @@
 -- `browse_html::find_ended` meets its contract: what decode takes for a name is the reference; where it takes none, no name with its `;` stands there.
 -- Assumes nothing.
-use mathlib.Core.Path.{sym, ap, ◌∙◌, subst}
-use borrow.Author.Tests.{not-true, not-false}
+use borrow.Author.Rules.{rules}
+use mathlib.Core.Path.{◌≡◌, sym, ap, ◌∙◌, subst}
 use lib.Dec.{T}
 use Rattle.rules.specs.Tables.{letter_or_digit}
+use Prim.Native.Nat.{◌+◌}
+use lib.ListN.{get_or, get_or-eq_default}
 use Rattle.rules.specs.declared.Kind.TheVariants.{InText}
-use Rattle.browse_html.proofs.Readings.{reads-decoded, left-named, wordless}
+use Rattle.browse_html.proofs.Readings.{gives-decoded, left-named, wordless}
 use Rattle.browse_html.proofs.find_ended.Goals as goal
 
-pub returns-then-not-is_name : goal.returns-then-not-is_name
-returns-then-not-is_name c =
+pub returns-in_err-get : goal.returns-in_err-get
+returns-in_err-get c =
     let a = c.args in
-    let pre = c.requires in
-    λ h. wordless InText a.text.now a.start pre.0 pre.1 h (sym c.is_name.ensures ∙ not-true _ c.if-not-is_name.true-raw)
+    let t = a.text.now in
+    let past : get_or t (a.start + 1) 0 ≡ 0 = get_or-eq_default t 0 {n = a.start + 1} (search rules) in
+    rw c.from_residual.ensures (λ plain. wordless InText t a.start c.requires.0 c.requires.1 plain (rw past))
+
+pub returns-then-not-is_letter_or_digit : goal.returns-then-not-is_letter_or_digit
+returns-then-not-is_letter_or_digit c =
+    let a = c.args in
+    let here : c.in_ok-get.field-0.now ≡ get_or a.text.now (a.start + 1) 0 = search rules in
+    λ plain. wordless InText a.text.now a.start c.requires.0 c.requires.1 plain (rw here at (sym c.if-not-is_letter_or_digit.ensures))
 
 pub returns-in_default : goal.returns-in_default
 returns-in_default c =
     let a = c.args in
-    let f = c.find_decoded_entity in
-    λ h. left-named InText a.text.now a.start c.requires.0 c.requires.1 h f.result (c.in_default.not-Found) f.ensures
+    λ plain. left-named InText a.text.now a.start c.requires.0 c.requires.1 plain c.in_default.field-0 c.in_default.ensures
 
 pub returns : goal.returns
 returns c =
     let a = c.args in
-    λ kind. reads-decoded kind a.text.now a.start c.requires.0 c.requires.1 (λ e. subst T (sym (sym c.is_name.ensures ∙ not-false _ c.if-not-is_name.false-raw) ∙ ap letter_or_digit e) tt) _ (rw c.in-Found.is at c.find_decoded_entity.ensures)
+    let here : c.in_ok-get.field-0.now ≡ get_or a.text.now (a.start + 1) 0 = search rules in
+    let word = rw here at (sym c.if-not-is_letter_or_digit.ensures) in
+    λ kind. gives-decoded kind a.text.now a.start c.requires.0 c.requires.1 (λ e. subst T (sym word ∙ ap letter_or_digit e) tt) c.in-Ok.found c.in-Ok.ensures

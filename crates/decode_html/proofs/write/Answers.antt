@@ -5,27 +5,14 @@ use native.Mathlib.Omega.{arith}
 use mathlib.Core.Path.{sym, ap}
 use borrow.Author.Rules.{rules}
 use Rattle.rules.specs.Moves.{result}
-use Rattle.rules.specs.declared.Reference.TheVariants.{Found}
 use Rattle.rules.proofs.Loops.{from_end}
 use Rattle.base.proofs.Places.{nearest-past}
 use Rattle.base.proofs.Part.{part_length}
 use Rattle.base.proofs.Filled.{filled-start, filled_next, filled-room, filled_put}
 use Rattle.base.proofs.Counted.{counted_start, counted-quiet, counted-measures, noted-start, noted-quiet, noted-end, filled-all}
 use Rattle.rules.specs.References.{reference_step}
-use Rattle.decode_html.specs.Taking.{Reads}
-use Rattle.decode_html.proofs.Turns.{decoding, Unfound, quiet, quiet_next, counted-stays, noted-stays, stays-next, counted-found, noted-found, found-next}
+use Rattle.decode_html.proofs.Turns.{decoding, quiet, quiet_next, counted-stays, noted-stays, stays-next, counted-found, noted-found, found-next}
 use Rattle.decode_html.proofs.write.Goals as goal
-use Rattle.decode_html.proofs.write.Goals.{In-Found, In_default}
-
--- The reference that was found.
-
-found_here : (c : In-Found) → Reads reference_step c.args.text.now c.loop-i.i (Found c.in-Found.found)
-found_here c = rw c.in-Found.is at c.find_decoded_entity-reference.ensures
-
--- Where it is none.
-
-unfound : (c : In_default) → Unfound c.find_decoded_entity-reference.result
-unfound c e q = c.in_default.not-Found e q
 
 pub loop-i-init : goal.loop-i-init
 loop-i-init c =
@@ -66,69 +53,55 @@ loop-i-preserved-then-text-i-ne38 c =
       noted-quiet l.invariant.2 w.result near.after near.within (quiet decoding t l.i w.result near),
     )
 
-pub find_decoded_entity-reference-requires : goal.find_decoded_entity-reference-requires
-find_decoded_entity-reference-requires c = (search rules, c.if-text-i-ne38.false)
-
-pub put-at-requires : goal.put-at-requires
-put-at-requires c =
-    let a = c.args in
-    let l = c.loop-i in
-    let f = c.find_decoded_entity-reference in
-    filled-room l.invariant.1 (stays-next a.text.now l.i (search rules) c.if-text-i-ne38.false f.result (unfound (goal.at.put-at-requires c).In_default) f.ensures)
-
-pub overflow_add-at-in_default : goal.overflow_add-at-in_default
-overflow_add-at-in_default c =
-    let a = c.args in
-    let l = c.loop-i in
-    let f = c.find_decoded_entity-reference in
-    let next = stays-next a.text.now l.i (search rules) c.if-text-i-ne38.false f.result (unfound (goal.at.overflow_add-at-in_default c).In_default) f.ensures in
-    omega (arith, c.put-at.ensures.0, filled_next l.invariant.1 next)
-
-pub loop-i-preserved-in_default : goal.loop-i-preserved-in_default
-loop-i-preserved-in_default c =
-    let a = c.args in
-    let l = c.loop-i in
-    let f = c.find_decoded_entity-reference in
-    let amp = c.if-text-i-ne38.false in
-    let none = unfound (goal.at.loop-i-preserved-in_default c).In_default in
-    let p = c.put-at in (
-      rw p.ensures.0 (counted-stays a.text.now l.i (search rules) amp f.result none f.ensures l.invariant.0),
-      filled_put l.invariant.1 (stays-next a.text.now l.i (search rules) amp f.result none f.ensures) p.new.output p.result p.ensures.0 p.ensures.1,
-      rw (c.kept-reason.ensures, c.number_of.ensures, c.kept-left.ensures)
-          (noted-stays a.text.now l.i (search rules) amp f.result none f.ensures l.invariant.2),
-    )
+pub find_decoded_entity-requires : goal.find_decoded_entity-requires
+find_decoded_entity-requires c = (search rules, c.if-text-i-ne38.false)
 
 pub put_value-at-requires : goal.put_value-at-requires
 put_value-at-requires c =
-    let a = c.args in
     let l = c.loop-i in
-    let reads = found_here (goal.at.put_value-at-requires c).In-Found in
-    (reads.lies.3, filled-room l.invariant.1 (found-next decoding a.text.now l.i c.in-Found.found reads))
+    (c.in-Ok.ensures.lies.3, filled-room l.invariant.1 (found-next decoding c.args.text.now l.i c.in-Ok.found c.in-Ok.ensures))
 
-pub overflow_add-at-in-loop-i : goal.overflow_add-at-in-loop-i
-overflow_add-at-in-loop-i c =
-    let a = c.args in
+pub overflow_add-at-in-Ok : goal.overflow_add-at-in-Ok
+overflow_add-at-in-Ok c =
     let l = c.loop-i in
-    let next = found-next decoding a.text.now l.i c.in-Found.found (found_here (goal.at.overflow_add-at-in-loop-i c).In-Found) in
-    omega (arith, c.put_value-at.ensures.0, filled_next l.invariant.1 next)
+    omega (arith, c.put_value-at.ensures.0, filled_next l.invariant.1 (found-next decoding c.args.text.now l.i c.in-Ok.found c.in-Ok.ensures))
 
-pub loop-i-smaller : goal.loop-i-smaller
-loop-i-smaller c = let reads = found_here (goal.at.loop-i-smaller c).In-Found in omega (arith, reads.lies.1, reads.lies.2)
+pub loop-i-smaller-in-Ok : goal.loop-i-smaller-in-Ok
+loop-i-smaller-in-Ok c = let lies = c.in-Ok.ensures.lies in omega (arith, lies.1, lies.2)
+
+pub loop-i-preserved-in-Ok : goal.loop-i-preserved-in-Ok
+loop-i-preserved-in-Ok c =
+    let t = c.args.text.now in
+    let l = c.loop-i in
+    let p = c.put_value-at in
+    let e = c.in-Ok.found in
+    let gives = c.in-Ok.ensures in (
+      rw p.ensures.0 (counted-found decoding t l.i e gives l.invariant.0),
+      filled_put l.invariant.1 (found-next decoding t l.i e gives) p.new.output p.result p.ensures.0 p.ensures.1,
+      noted-found decoding t l.i e gives l.invariant.2,
+    )
+
+pub put-at-requires : goal.put-at-requires
+put-at-requires c = let l = c.loop-i in filled-room l.invariant.1 (stays-next c.args.text.now l.i c.in-Err.reason (search rules) c.in-Err.ensures)
+
+pub overflow_add-at-in-Err : goal.overflow_add-at-in-Err
+overflow_add-at-in-Err c =
+    let l = c.loop-i in
+    omega (arith, c.put-at.ensures.0, filled_next l.invariant.1 (stays-next c.args.text.now l.i c.in-Err.reason (search rules) c.in-Err.ensures))
 
 pub loop-i-preserved : goal.loop-i-preserved
 loop-i-preserved c =
     let t = c.args.text.now in
     let l = c.loop-i in
-    let p = c.put_value-at in
-    let e = c.in-Found.found in
-    let reads = found_here (goal.at.loop-i-preserved c).In-Found in (
-      rw p.ensures.0 (counted-found decoding t l.i e reads l.invariant.0),
-      filled_put l.invariant.1 (found-next decoding t l.i e reads) p.new.output p.result p.ensures.0 p.ensures.1,
-      noted-found decoding t l.i e reads l.invariant.2,
+    let w = c.in-Err.reason in
+    let p = c.put-at in (
+      rw p.ensures.0 (counted-stays t l.i w (search rules) c.in-Err.ensures l.invariant.0),
+      filled_put l.invariant.1 (stays-next t l.i w (search rules) c.in-Err.ensures) p.new.output p.result p.ensures.0 p.ensures.1,
+      noted-stays t l.i w (search rules) c.in-Err.ensures l.left l.invariant.2 c.unwrap_or.result c.unwrap_or.ensures,
     )
 
 pub returns : goal.returns
 returns c =
     let a = c.args in
     let l = c.loop-i in
-    let none = from_end reference_step a.text.now l.i (search rules) in record { fact = counted-measures l.invariant.0 _ _ none (noted-end l.invariant.2 none); output_after = (filled-all l.invariant.1 (ap result none)).1 }
+    let none = from_end reference_step a.text.now l.i (search rules) in record { fact = counted-measures l.invariant.0 l.left none (noted-end l.left l.invariant.2 none); output_after = (filled-all l.invariant.1 (ap result none)).1 }

@@ -12,7 +12,7 @@ abbrev pub invariant-loop-i : goal.invariant-loop-i
 invariant-loop-i l =
     Counted reference_step l.text l.i l.at l.references
     × Filled (result (through reference_step l.text)) (result (from reference_step l.text l.i)) l.initial.output l.output l.at
-    × Noted reference_step l.text l.i l.left l.reason
+    × Noted reference_step l.text l.i l.left
 
 abbrev pub decreases-loop-i : goal.decreases-loop-i
 decreases-loop-i l = length l.text - l.i

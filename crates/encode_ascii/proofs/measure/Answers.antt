@@ -29,4 +29,4 @@ pub loop-i-preserved : goal.loop-i-preserved
 loop-i-preserved c = (grown-next c.loop-i.invariant.0 (search rules) c.put_next-put.result.written c.put_next-put.result c.loop-i.room c.put_next-put.new.room c.put_next-put.ensures refl, c.put_next-put.auto.room ∙ c.loop-i.invariant.1)
 
 pub returns : goal.returns
-returns c = grown-end c.loop-i.invariant.0 (omega arith)
+returns c = rw c.whole.ensures (grown-end c.loop-i.invariant.0 (omega arith))

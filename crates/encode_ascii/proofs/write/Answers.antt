@@ -52,4 +52,4 @@ loop-i-preserved c =
     )
 
 pub returns : goal.returns
-returns c = (grown-end c.loop-i.invariant.0 (omega arith), (filled-all c.loop-i.invariant.1 (rest-empty c.args.text.now c.loop-i.i (omega arith))).1)
+returns c = (rw c.whole.ensures (grown-end c.loop-i.invariant.0 (omega arith)), (filled-all c.loop-i.invariant.1 (rest-empty c.args.text.now c.loop-i.i (omega arith))).1)

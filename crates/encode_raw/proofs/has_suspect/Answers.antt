@@ -1,24 +1,25 @@
--- `encode_raw::has_suspect` meets its contract. The invariant: the answer so far is false only where no backslash goes in after a byte that is passed.
+-- `encode_raw::has_suspect` meets its contract. The invariant: the answer so far is false only where no pair that is passed is suspect.
 -- Assumes nothing.
-use borrow.Author.Rules.{rules}
-use mathlib.Core.Path.{◌≡◌}
-use Prim.Native.Nat.{◌+◌}
-use native.Mathlib.Omega.{arith}
-use Rattle.encode_raw.proofs.Cuts.{uncut-more}
+use Rattle.std.proofs.Common.{[], ◌∷◌, ◌∙◌, ap, arith, length, drop, length-append, length-drop}
+use lib.Seq.{drop-drop}
+use Rattle.encode_raw.proofs.Cuts.{pair-more}
 use Rattle.encode_raw.proofs.has_suspect.Goals as goal
 
-pub loop-j-init : goal.loop-j-init
-loop-j-init c = (search rules, λ z k a b. absurd (omega arith))
-
-pub loop-j-preserved : goal.loop-j-preserved
-loop-j-preserved c =
-    let a = c.args in
-    let l = c.loop-j in
-    let e : a.at + (l.j + 1) ≡ a.at + l.j + 1 = omega arith in
-    (search rules, rw e (uncut-more a.text.now a.at (a.at + l.j) l.hit c.is_suspect-hit.result (search rules) c.is_suspect-hit.ensures l.invariant.1))
+pub loop-pair-preserved : goal.loop-pair-preserved
+loop-pair-preserved c =
+    let l = c.loop-pair in
+    let i = l.invariant in
+    let s = c.in-Some.ensures.steps in
+    let k = length l.yielded in
+    let b = c.args.block.now in
+    rw (length-append l.yielded (c.in-Some.pair ∷ [])) (
+      s.0 ∙ i.0,
+      s.1.2 ∙ ap (drop 1) i.1 ∙ drop-drop 1 k b,
+      pair-more b c.in-Some.pair.now k l.hit c.is_suspect-hit.result (s.1.1 ∙ rw (i.0, i.1)) c.is_suspect-hit.ensures i.2,
+    )
 
 pub returns : goal.returns
 returns c =
-    let l = c.loop-j in
-    let e : l.j ≡ 16 = omega arith in
-    rw e at l.invariant.1
+    let i = c.loop-pair.invariant in
+    let b = c.args.block.now in
+    λ e k h. i.2 e k (omega (arith, c.in-None.ensures.steps.1.0, i.0, ap length i.1, length-drop (length c.loop-pair.yielded) b))

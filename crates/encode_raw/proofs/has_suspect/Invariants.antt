@@ -1,14 +1,11 @@
--- `encode_raw::has_suspect` meets its contract. The invariant: the answer so far is false only where no backslash goes in after a byte that is passed.
+-- `encode_raw::has_suspect` meets its contract. The invariant: the answer so far is false only where no pair that is passed is suspect.
 -- Assumes nothing.
-use mathlib.Core.Bool.{false}
-use mathlib.Core.Path.{◌≡◌}
-use Prim.Native.Nat.{◌≤◌, ◌+◌, ◌-◌}
-use Rattle.base.specs.First.{Free}
-use Rattle.encode_raw.specs.Cuts.{cut_at}
+use Rattle.std.proofs.Common.{false, ◌≡◌, ℕ, ◌+◌, ◌<◌, length, drop, get_or}
+use Rattle.std.specs.Slice.Iter.{windows_rest, windows_size}
+use Rattle.encode_raw.specs.Cuts.{suspect}
 use Rattle.encode_raw.proofs.has_suspect.Given as goal
 
-abbrev pub invariant-loop-j : goal.invariant-loop-j
-invariant-loop-j l = (l.j ≤ 16) × (l.hit ≡ false → Free (cut_at l.text) l.at (l.at + l.j))
-
-abbrev pub decreases-loop-j : goal.decreases-loop-j
-decreases-loop-j l = 16 - l.j
+abbrev pub invariant-loop-pair : goal.invariant-loop-pair
+invariant-loop-pair l =
+    (windows_size l.pair-iterator ≡ 2) × (windows_rest l.pair-iterator ≡ drop (length l.yielded) l.block)
+    × (l.hit ≡ false → (k : ℕ) → k < length l.yielded → suspect (get_or l.block k 0) (get_or l.block (k + 1) 0) ≡ false)

@@ -4,6 +4,7 @@ use borrow.Author.Rules.{rules}
 use Prim.Native.Nat.{◌+◌}
 use Rattle.base.proofs.Firsts.{free-start, free-join}
 use Rattle.encode_raw.specs.Cuts.{cut_at}
+use Rattle.encode_raw.proofs.Cuts.{uncut-block}
 use Rattle.encode_raw.proofs.skip_blocks.Goals as goal
 
 pub loop-i-init : goal.loop-i-init
@@ -13,4 +14,4 @@ pub loop-i-preserved : goal.loop-i-preserved
 loop-i-preserved c =
     let a = c.args in
     let l = c.loop-i in
-    (search rules, search rules, free-join (cut_at a.text.now) a.from l.i (l.i + 16) l.invariant.2 (c.has_suspect.ensures c.if-has_suspect.false))
+    (search rules, search rules, free-join (cut_at a.text.now) a.from l.i (l.i + 16) l.invariant.2 (uncut-block a.text.now l.i (search rules) (c.has_suspect.ensures c.if-has_suspect.false)))

@@ -76,4 +76,4 @@ loop-i-preserved c =
     gone-part a.notation a.quotes a.text.now l.invariant e.result (omega (arith, e.ensures.0)) e.ensures.1 e.ensures.3 _ y.result.replaced (given (goal.at.loop-i-preserved c).After-struct_known-1).0 y.ensures.1 y.ensures.2
 
 pub returns : goal.returns
-returns c = let a = c.args in gone-end a.notation a.quotes a.text.now c.loop-i.invariant c.loop-i-test.false
+returns c = rw c.whole.ensures (gone-end c.args.notation c.args.quotes c.args.text.now c.loop-i.invariant c.loop-i-test.false)

@@ -79,4 +79,4 @@ returns c =
     let a = c.args in
     let l = c.loop-i in
     let f = rw (encode-end (written_in a.notation a.quotes) a.text.now l.i c.loop-i-test.false) at l.invariant.1 in
-    (gone-end a.notation a.quotes a.text.now l.invariant.0 c.loop-i-test.false, filled-end f)
+    (rw c.whole.ensures (gone-end a.notation a.quotes a.text.now l.invariant.0 c.loop-i-test.false), filled-end f)

@@ -60,7 +60,7 @@ returns-then-is_copied c =
     let a = c.args in
     let t = c in
     let p = c.put in
-    (record { long = p.ensures.0 ∙ ap length (sym (stays (goal.at.returns-then-is_copied t).Then-is_copied)); reach = ap length (sym (encode-whole (written_in a.notation a.quotes) a.part.now)); many = sym (none (goal.at.returns-then-is_copied t).Then-is_copied); first = none_left a.notation a.quotes a.part.now }, rw (stays (goal.at.returns-then-is_copied t).Then-is_copied) p.ensures.1)
+    (rw c.whole.ensures (record { long = p.ensures.0 ∙ ap length (sym (stays (goal.at.returns-then-is_copied t).Then-is_copied)); reach = ap length (sym (encode-whole (written_in a.notation a.quotes) a.part.now)); many = sym (none (goal.at.returns-then-is_copied t).Then-is_copied); first = none_left a.notation a.quotes a.part.now }), rw (stays (goal.at.returns-then-is_copied t).Then-is_copied) p.ensures.1)
 
 pub write_bytes-written-requires : goal.write_bytes-written-requires
 write_bytes-written-requires c = c.requires.1
@@ -79,4 +79,4 @@ pub returns : goal.returns
 returns c =
     let a = c.args in
     let w = c.write_bytes-written in
-    (record { long = w.ensures.0; reach = ap length (sym (encode-whole (written_in a.notation a.quotes) a.part.now)); many = c.places.ensures ∙ (tells (goal.at.returns c).After-slice_known-2-1).1; first = none_left a.notation a.quotes a.part.now }, w.ensures.1)
+    (rw c.whole-2.ensures (record { long = w.ensures.0; reach = ap length (sym (encode-whole (written_in a.notation a.quotes) a.part.now)); many = c.places.ensures ∙ (tells (goal.at.returns c).After-slice_known-2-1).1; first = none_left a.notation a.quotes a.part.now }), w.ensures.1)

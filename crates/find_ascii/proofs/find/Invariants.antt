@@ -1,12 +1,10 @@
--- `find` meets its contract: what is passed has no hit, and the lowest bit of the first hits is at the first place.
+-- `find` meets its contract: what is left to cut is what is left from place i on, and the byte is at no place before.
 -- Assumes nothing.
-use Prim.Native.Nat.{◌-◌, ◌≤◌}
-use lib.ListN.{length}
+use Rattle.std.proofs.Common.{◌≡◌, ◌≤◌, length, drop}
+use Rattle.std.specs.Slice.Iter.{chunks_exact_rest, chunks_exact_size}
 use Rattle.base.specs.Places.{Absent}
 use Rattle.find_ascii.proofs.find.Given as goal
 
-abbrev pub invariant-loop-i : goal.invariant-loop-i
-invariant-loop-i l = (l.from ≤ l.i) × (l.i ≤ length l.text) × Absent l.text l.from l.i l.byte
-
-abbrev pub decreases-loop-i : goal.decreases-loop-i
-decreases-loop-i l = length l.text - l.i
+abbrev pub invariant-loop-block : goal.invariant-loop-block
+invariant-loop-block l =
+    (chunks_exact_size l.block-iterator ≡ 8) × (drop l.i l.text ≡ chunks_exact_rest l.block-iterator) × (l.from ≤ l.i) × (l.i ≤ length l.text) × Absent l.text l.from l.i l.byte

@@ -1,32 +1,22 @@
--- `find_near` meets its contract: the first eight bytes have none, or the lowest bit of their hits is at the first place, and so have the next eight (Lowest).
+-- `find_near` meets its contract: the first eight bytes have none, or the first of them is the first place, and so have the next eight (Lowest).
 -- Assumes nothing.
--- The byte is in the first eight,
-use Prim.Native.Nat.{◌+◌, ◌<◌}
-use native.Mathlib.Omega.{arith}
-use Rattle.base.specs.Places.{Nearest}
+use Rattle.std.proofs.Common.{◌+◌, refl, arith}
 use Rattle.base.proofs.Places.{nearest-after}
-use Rattle.find_ascii.proofs.Lowest.{index-near}
+use Rattle.find_ascii.proofs.Lowest.{eight-near, eight-absent, eight-ascii}
 use Rattle.find_ascii.proofs.find_near.Goals as goal
-use Rattle.find_ascii.proofs.find_near.Goals.{After-index, After-index-then-second-ne0}
 
-first : (c : After-index) → let a = c.args in Nearest a.text.now a.from a.byte (a.from + c.index.result) × (c.index.result < 8)
-first c = let a = c.args in index-near a.text.now a.from a.byte c.hits_at-first.result c.index.result c.hits_at-first.ensures c.if-first-ne0.true c.index.ensures
+pub first_of_eight-requires : goal.first_of_eight-requires
+first_of_eight-requires c = let t = c.args.text.now in (let q = eight-ascii t c.args.from (c.args.from + 8) refl (omega arith) c.requires.2 in (c.requires.0, q.0, q.1))
 
--- or in the next eight.
+pub returns-in-Some : goal.returns-in-Some
+returns-in-Some c = let a = c.args in (eight-near a.text.now a.from (a.from + 8) refl (omega arith) a.byte c.in-Some.j c.in-Some.ensures).0
 
-second : (c : After-index-then-second-ne0) → let a = c.args in Nearest a.text.now (a.from + 8) a.byte (a.from + 8 + c.index-then-second-ne0.result) × (c.index-then-second-ne0.result < 8)
-second c = let a = c.args in index-near a.text.now (a.from + 8) a.byte c.hits_at-second.result c.index-then-second-ne0.result c.hits_at-second.ensures c.if-second-ne0.true c.index-then-second-ne0.ensures
+pub first_of_eight-requires-then-text-from-ge16 : goal.first_of_eight-requires-then-text-from-ge16
+first_of_eight-requires-then-text-from-ge16 c = let t = c.args.text.now in (let q = eight-ascii t (c.args.from + 8) (c.args.from + 16) (omega arith) (omega arith) c.requires.2 in (c.requires.0, q.0, q.1))
 
-pub overflow_add-result : goal.overflow_add-result
-overflow_add-result c = omega (arith, (first (goal.at.overflow_add-result c).After-index).1)
-
-pub returns-then-first-ne0 : goal.returns-then-first-ne0
-returns-then-first-ne0 c = (first (goal.at.returns-then-first-ne0 c).After-index).0
-
-pub overflow_add-result-then-second-ne0-2 : goal.overflow_add-result-then-second-ne0-2
-overflow_add-result-then-second-ne0-2 c = omega (arith, (second (goal.at.overflow_add-result-then-second-ne0-2 c).After-index-then-second-ne0).1)
-
-pub returns-then-second-ne0 : goal.returns-then-second-ne0
-returns-then-second-ne0 c =
+pub returns-in-Some-first_of_eight : goal.returns-in-Some-first_of_eight
+returns-in-Some-first_of_eight c =
     let a = c.args in
-    nearest-after a.text.now a.from (a.from + 8) a.byte (a.from + 8 + c.index-then-second-ne0.result) (omega arith) (c.hits_at-first.ensures.0 c.if-first-ne0.false) (second (goal.at.returns-then-second-ne0 c).After-index-then-second-ne0).0
+    let j = c.in-Some-first_of_eight.j in
+    nearest-after a.text.now a.from (a.from + 8) a.byte (a.from + 8 + j) (omega arith) (eight-absent a.text.now a.from (a.from + 8) refl (omega arith) a.byte c.in_default.ensures)
+    (eight-near a.text.now (a.from + 8) (a.from + 16) (omega arith) (omega arith) a.byte j c.in-Some-first_of_eight.ensures).0

@@ -1,14 +1,9 @@
--- `word` meets its contract: the bytes of the number are those of the text.
+-- `word` meets its contract: the bytes of the number are those of the block.
 -- Assumes nothing.
-use mathlib.Core.Path.{◌≡◌, ap}
-use Prim.Native.Nat.{ℕ, ◌+◌}
-use native.Mathlib.Omega.{arith}
-use lib.ListN.{get_or}
+use Rattle.std.proofs.Common.{◌∙◌, ap, List, ℕ}
+use Rattle.find_ascii.specs.Words.{word_at}
+use Rattle.find_ascii.proofs.Lowest.{word-same}
 use Rattle.find_ascii.proofs.word.Goals as goal
 
 pub returns : goal.returns
-returns c =
-    let a = c.args in
-    let e : a.at + 0 ≡ a.at = omega arith in
-    let first : get_or a.text.now (a.at + 0) 0 ≡ get_or a.text.now a.at 0 = ap (λ (k : ℕ). get_or a.text.now k 0) e in
-    omega (arith, c.number.ensures, first)
+returns c = c.from_le_bytes.ensures ∙ word-same c.copy_from_slice.new.self ∙ ap (λ (l : List ℕ). word_at l 0 8) c.copy_from_slice.ensures.after

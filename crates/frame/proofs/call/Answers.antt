@@ -4,4 +4,4 @@ use mathlib.Core.Path.{◌∙◌}
 use Rattle.frame.proofs.call.Goals as goal
 
 pub returns : goal.returns
-returns c = (c.answer_of.ensures ∙ c.replied.ensures.0, c.replied.ensures.1)
+returns c = (c.from.ensures ∙ c.replied.ensures.0, c.replied.ensures.1)

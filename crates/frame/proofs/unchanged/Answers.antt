@@ -13,8 +13,7 @@ returns-then-borrows c =
 pub returns-then-output-text : goal.returns-then-output-text
 returns-then-output-text c =
     λ rule s. let a = c.args in
-    let l = same-room rule a.borrows a.text.now a.output.now s c.if-borrows.false c.if-output-text.true in
-    (c.refusal.ensures ∙ l.0, l.1)
+    same-room rule a.borrows a.text.now a.output.now s c.if-borrows.false c.if-output-text.true
 
 pub returns : goal.returns
 returns c =

@@ -5,4 +5,4 @@ use Rattle.rules.specs.Refusals.{checked}
 use Rattle.lintelrye.proofs.check.Goals as goal
 
 pub returns : goal.returns
-returns c = c.without_output.ensures ∙ ap checked (c.answer_of.ensures ∙ c.replied-reply.ensures.0)
+returns c = c.without_output.ensures ∙ ap checked (c.from.ensures ∙ c.replied-reply.ensures.0)

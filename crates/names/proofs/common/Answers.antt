@@ -1,32 +1,29 @@
--- Each of the common names is looked up in the table, by computing.
+-- `names::common` meets its contract: each of the common names is looked up in the table, by computing.
 -- Assumes nothing.
-use mathlib.Core.Path.{refl, sym, ◌∙◌}
-use native.Mathlib.Nat.{not-suc-le-zero}
+use mathlib.Core.Path.{refl}
+use native.Mathlib.Omega.{arith}
+use Rattle.std.proofs.lemmas.Slice.Eq.{text_from_reads}
 use Rattle.rules.specs.Bytes.{ascii}
 use Rattle.rules.specs.Names.{names}
-use Rattle.rules.specs.Answers.{unpack_to}
 use Rattle.names.proofs.Letters.{known}
 use Rattle.names.proofs.common.Goals as goal
 
-pub returns-then-same : goal.returns-then-same
+pub returns-in-lt : goal.returns-in-lt
 unfolding names
-returns-then-same c = λ h. known (ascii "lt") (unpack_to 6 0x3C) c.args.name.now refl (sym c.same.ensures ∙ c.if-same.true)
+returns-in-lt c = known (ascii "lt") _ c.args.name.now refl (text_from_reads _ (ascii "lt") (omega arith) (omega arith, (omega arith, tt)))
 
-pub returns-then-same-2 : goal.returns-then-same-2
+pub returns-in-gt : goal.returns-in-gt
 unfolding names
-returns-then-same-2 c = λ h. known (ascii "gt") (unpack_to 6 0x3E) c.args.name.now refl (sym c.same-2.ensures ∙ c.if-same-2.true)
+returns-in-gt c = known (ascii "gt") _ c.args.name.now refl (text_from_reads _ (ascii "gt") (omega arith) (omega arith, (omega arith, tt)))
 
-pub returns-then-same-3 : goal.returns-then-same-3
+pub returns-in-quot : goal.returns-in-quot
 unfolding names
-returns-then-same-3 c = λ h. known (ascii "quot") (unpack_to 6 0x22) c.args.name.now refl (sym c.same-3.ensures ∙ c.if-same-3.true)
+returns-in-quot c = known (ascii "quot") _ c.args.name.now refl (text_from_reads _ (ascii "quot") (omega arith) (omega arith, (omega arith, (omega arith, (omega arith, tt)))))
 
-pub returns-then-same-4 : goal.returns-then-same-4
+pub returns-in-apos : goal.returns-in-apos
 unfolding names
-returns-then-same-4 c = λ h. known (ascii "apos") (unpack_to 6 0x27) c.args.name.now refl (sym c.same-4.ensures ∙ c.if-same-4.true)
+returns-in-apos c = known (ascii "apos") _ c.args.name.now refl (text_from_reads _ (ascii "apos") (omega arith) (omega arith, (omega arith, (omega arith, (omega arith, tt)))))
 
-pub returns-then-same-5 : goal.returns-then-same-5
+pub returns-in-nbsp : goal.returns-in-nbsp
 unfolding names
-returns-then-same-5 c = λ h. known (ascii "nbsp") (unpack_to 6 0xA0C2) c.args.name.now refl (sym c.same-5.ensures ∙ c.if-same-5.true)
-
-pub returns : goal.returns
-returns c = λ h. absurd (not-suc-le-zero h)
+returns-in-nbsp c = known (ascii "nbsp") _ c.args.name.now refl (text_from_reads _ (ascii "nbsp") (omega arith) (omega arith, (omega arith, (omega arith, (omega arith, tt)))))

@@ -23,4 +23,4 @@ pub shape_of-output : goal.shape_of-output
 shape_of-output c = c.loop-n.invariant.filled.kept
 
 pub returns : goal.returns
-returns c = unpacked-end c.loop-n.invariant (unpacked-six c.loop-n.invariant (search rules))
+returns c = unpacked-six c.loop-n.invariant (search rules)

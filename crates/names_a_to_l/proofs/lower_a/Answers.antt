@@ -8,10 +8,10 @@ use Rattle.names_search.proofs.Lookups.{in-part}
 use Rattle.names_a_to_l.proofs.lower_a.Goals as goal
 
 pub returns-then-second-lt110 : goal.returns-then-second-lt110
-returns-then-second-lt110 c = c.lower_a_1.ensures ∙ in-part 1 0x00 0x6D (0x61 ∷ c.args.rest.now) (omega arith) (omega arith) lower-a
+returns-then-second-lt110 c = c.lower_a_1.ensures ∙ in-part 1 0x00 0x6D (0x61 ∷ c.args.rest.now) (omega (arith, c.byte_at-second.ensures)) (omega (arith, c.byte_at-second.ensures)) lower-a
 
 pub returns-then-second-lt112 : goal.returns-then-second-lt112
-returns-then-second-lt112 c = c.lower_a_2.ensures ∙ in-part 1 0x6E 0x6F (0x61 ∷ c.args.rest.now) (omega arith) (omega arith) lower-a
+returns-then-second-lt112 c = c.lower_a_2.ensures ∙ in-part 1 0x6E 0x6F (0x61 ∷ c.args.rest.now) (omega (arith, c.byte_at-second.ensures)) (omega (arith, c.byte_at-second.ensures)) lower-a
 
 pub returns : goal.returns
-returns c = c.lower_a_3.ensures ∙ in-part 1 0x70 0xFF (0x61 ∷ c.args.rest.now) (omega arith) (omega arith) lower-a
+returns c = c.lower_a_3.ensures ∙ in-part 1 0x70 0xFF (0x61 ∷ c.args.rest.now) (omega (arith, c.byte_at-second.ensures)) (omega (arith, c.byte_at-second.ensures)) lower-a

@@ -4,9 +4,6 @@ use Rattle.rules.specs.Names.{lower-b}
 use Rattle.names_search.specs.Listed.{listed}
 use Rattle.names_a_to_l.proofs.lower_b_3_1.Goals as goal
 
-pub find-requires : goal.find-requires
-find-requires c = tt
-
 pub returns : goal.returns
 unfolding lower-b listed
 returns c = c.find.ensures 0x62

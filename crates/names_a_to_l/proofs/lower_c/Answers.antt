@@ -8,13 +8,13 @@ use Rattle.names_search.proofs.Lookups.{in-part}
 use Rattle.names_a_to_l.proofs.lower_c.Goals as goal
 
 pub returns-then-second-lt105 : goal.returns-then-second-lt105
-returns-then-second-lt105 c = c.lower_c_1.ensures ∙ in-part 1 0x00 0x68 (0x63 ∷ c.args.rest.now) (omega arith) (omega arith) lower-c
+returns-then-second-lt105 c = c.lower_c_1.ensures ∙ in-part 1 0x00 0x68 (0x63 ∷ c.args.rest.now) (omega (arith, c.byte_at-second.ensures)) (omega (arith, c.byte_at-second.ensures)) lower-c
 
 pub returns-then-second-lt111 : goal.returns-then-second-lt111
-returns-then-second-lt111 c = c.lower_c_2.ensures ∙ in-part 1 0x69 0x6E (0x63 ∷ c.args.rest.now) (omega arith) (omega arith) lower-c
+returns-then-second-lt111 c = c.lower_c_2.ensures ∙ in-part 1 0x69 0x6E (0x63 ∷ c.args.rest.now) (omega (arith, c.byte_at-second.ensures)) (omega (arith, c.byte_at-second.ensures)) lower-c
 
 pub returns-then-second-lt117 : goal.returns-then-second-lt117
-returns-then-second-lt117 c = c.lower_c_3.ensures ∙ in-part 1 0x6F 0x74 (0x63 ∷ c.args.rest.now) (omega arith) (omega arith) lower-c
+returns-then-second-lt117 c = c.lower_c_3.ensures ∙ in-part 1 0x6F 0x74 (0x63 ∷ c.args.rest.now) (omega (arith, c.byte_at-second.ensures)) (omega (arith, c.byte_at-second.ensures)) lower-c
 
 pub returns : goal.returns
-returns c = c.lower_c_4.ensures ∙ in-part 1 0x75 0xFF (0x63 ∷ c.args.rest.now) (omega arith) (omega arith) lower-c
+returns c = c.lower_c_4.ensures ∙ in-part 1 0x75 0xFF (0x63 ∷ c.args.rest.now) (omega (arith, c.byte_at-second.ensures)) (omega (arith, c.byte_at-second.ensures)) lower-c

@@ -4,9 +4,6 @@ use Rattle.rules.specs.Names.{lower-e}
 use Rattle.names_search.specs.Listed.{listed}
 use Rattle.names_a_to_l.proofs.lower_e_2.Goals as goal
 
-pub find-requires : goal.find-requires
-find-requires c = tt
-
 pub returns : goal.returns
 unfolding lower-e listed
 returns c = c.find.ensures 0x65

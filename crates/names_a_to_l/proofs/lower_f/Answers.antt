@@ -8,7 +8,7 @@ use Rattle.names_search.proofs.Lookups.{in-part}
 use Rattle.names_a_to_l.proofs.lower_f.Goals as goal
 
 pub returns-then-second-lt114 : goal.returns-then-second-lt114
-returns-then-second-lt114 c = c.lower_f_1.ensures ∙ in-part 1 0x00 0x71 (0x66 ∷ c.args.rest.now) (omega arith) (omega arith) lower-f
+returns-then-second-lt114 c = c.lower_f_1.ensures ∙ in-part 1 0x00 0x71 (0x66 ∷ c.args.rest.now) (omega (arith, c.byte_at-second.ensures)) (omega (arith, c.byte_at-second.ensures)) lower-f
 
 pub returns : goal.returns
-returns c = c.lower_f_2.ensures ∙ in-part 1 0x72 0xFF (0x66 ∷ c.args.rest.now) (omega arith) (omega arith) lower-f
+returns c = c.lower_f_2.ensures ∙ in-part 1 0x72 0xFF (0x66 ∷ c.args.rest.now) (omega (arith, c.byte_at-second.ensures)) (omega (arith, c.byte_at-second.ensures)) lower-f

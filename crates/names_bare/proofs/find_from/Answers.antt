@@ -1,61 +1,47 @@
--- `names_bare::find_from` meets its contract: the first n bytes are those of the number, and no name shorter than n stands there.
+-- `names_bare::find_from` meets its contract: the first bytes are those of the number, and no shorter name stands there.
 -- Assumes nothing.
 use borrow.Author.Rules.{rules}
-use mathlib.Core.Path.{sym, ◌∙◌}
 use mathlib.Core.List.{List}
-use Prim.Native.Nat.{ℕ, ◌<◌}
+use mathlib.Core.Path.{◌≡◌}
+use Prim.Native.Nat.{ℕ, ◌≤◌, ◌<◌}
 use native.Mathlib.Omega.{arith}
-use lib.ListN.{length}
+use lib.ListN.{length, get_or}
 use Rattle.rules.specs.Bytes.{In}
 use Rattle.rules.specs.Bare.{bare}
 use Rattle.names_bare.proofs.Words.{spelled-more, found}
 use Rattle.names_bare.proofs.Heads.{at_least, at_most, stands-within, next}
 use Rattle.names_bare.proofs.find_from.Goals as goal
 
-pub loop-n-init : goal.loop-n-init
-loop-n-init c = (search rules, c.requires, λ name i l t. none-shorter name i l)
+pub loop-length-init : goal.loop-length-init
+loop-length-init c = (c.requires, λ name i l t. none-shorter name i l)
   where
     none-shorter : (name : List ℕ) → In name bare → length name < 2 → ⊥
     none-shorter name i l = let h = at_least name i in omega (arith, h, l)
 
-pub overflow_mul-word : goal.overflow_mul-word
-overflow_mul-word c = let l = c.loop-n in omega (arith, l.invariant.1.bounded.six (search rules))
+pub returns-in-Some : goal.returns-in-Some
+returns-in-Some c =
+    let l = c.loop-length in
+    let e = c.in-Some.ensures in
+    let f = found c.args.text.now l.length l.word l.invariant.0 c.in-Some.character e.0 (λ z. omega (arith, e.1, z)) (search rules) in
+    (l.invariant.0.within, f.0, f.1)
 
-pub overflow_add-word : goal.overflow_add-word
-overflow_add-word c = let l = c.loop-n in omega (arith, l.invariant.1.bounded.six (search rules))
-
-pub returns-then-character-ne0 : goal.returns-then-character-ne0
-returns-then-character-ne0 c =
+pub returns-in_err-get : goal.returns-in_err-get
+returns-in_err-get c =
     let t = c.args.text.now in
-    let l = c.loop-n in
-    let v = c.character-character in
-    let f = found t l.n l.word l.invariant.1 v.result (search rules) v.ensures c.if-character-ne0.true in
-    (l.invariant.1.within, f.0, f.1)
+    let l = c.loop-length in
+    let end : length t ≤ l.length = search rules in
+    rw c.from_residual.ensures
+    (λ name i s. next t l.length l.word l.invariant.1 l.invariant.0 c.in_default.ensures name i (let h = stands-within name t s in omega (arith, h)) s)
 
-pub returns-then-text-n : goal.returns-then-text-n
-returns-then-text-n c =
+pub loop-length-preserved : goal.loop-length-preserved
+loop-length-preserved c =
     let t = c.args.text.now in
-    let l = c.loop-n in
-    let none = sym c.if-character-ne0.false ∙ c.character-character.ensures in
-    λ name i s. next t l.n l.word l.invariant.2 l.invariant.1 none name i (let h = stands-within name t s in let k = c.if-text-n.true in omega (arith, h, k)) s
-
-pub overflow_mul-word-in-loop-n : goal.overflow_mul-word-in-loop-n
-overflow_mul-word-in-loop-n c = let l = c.loop-n in omega (arith, l.invariant.1.bounded.six (search rules))
-
-pub overflow_add-word-in-loop-n : goal.overflow_add-word-in-loop-n
-overflow_add-word-in-loop-n c = let l = c.loop-n in omega (arith, l.invariant.1.bounded.six (search rules), c.wide.ensures.1)
-
-pub loop-n-preserved : goal.loop-n-preserved
-loop-n-preserved c =
-    let t = c.args.text.now in
-    let l = c.loop-n in
-    let none = sym c.if-character-ne0.false ∙ c.character-character.ensures in (
-      search rules,
-      spelled-more t l.n l.word c.wide.result l.invariant.1 (search rules) c.wide.ensures.0 c.wide.ensures.1,
-      next t l.n l.word l.invariant.2 l.invariant.1 none,
-    )
+    let l = c.loop-length in
+    let byte = c.from.result in
+    let here : byte ≡ get_or t l.length 0 = search rules in
+    (spelled-more t l.length l.word byte l.invariant.0 (search rules) here (omega (arith, here, c.type_inv.text l.length)), next t l.length l.word l.invariant.1 l.invariant.0 c.in_default.ensures)
 
 pub returns : goal.returns
 returns c =
-    let l = c.loop-n in
-    λ name i s. l.invariant.2 name i (let h = at_most name i in omega (arith, h)) s
+    let l = c.loop-length in
+    λ name i s. l.invariant.1 name i (let h = at_most name i in omega (arith, h)) s

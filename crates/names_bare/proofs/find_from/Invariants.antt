@@ -1,7 +1,7 @@
--- `names_bare::find_from` meets its contract: the first n bytes are those of the number, and no name shorter than n stands there.
+-- `names_bare::find_from` meets its contract: the first bytes are those of the number, and no shorter name stands there.
 -- Assumes nothing.
 use mathlib.Core.List.{List}
-use Prim.Native.Nat.{ℕ, ◌-◌, ◌≤◌, ◌<◌}
+use Prim.Native.Nat.{ℕ, ◌<◌}
 use lib.Dec.{T}
 use lib.ListN.{length}
 use Rattle.rules.specs.Bytes.{In, stands}
@@ -9,8 +9,5 @@ use Rattle.rules.specs.Bare.{bare}
 use Rattle.names_bare.specs.Heads.{Spelled}
 use Rattle.names_bare.proofs.find_from.Given as goal
 
-abbrev pub invariant-loop-n : goal.invariant-loop-n
-invariant-loop-n l = (2 ≤ l.n) × Spelled l.text l.n l.word × ((name : List ℕ) → In name bare → length name < l.n → T (stands name l.text) → ⊥)
-
-abbrev pub decreases-loop-n : goal.decreases-loop-n
-decreases-loop-n l = 7 - l.n
+abbrev pub invariant-loop-length : goal.invariant-loop-length
+invariant-loop-length l = Spelled l.text l.length l.word × ((name : List ℕ) → In name bare → length name < l.length → T (stands name l.text) → ⊥)

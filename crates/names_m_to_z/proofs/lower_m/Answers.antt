@@ -8,7 +8,7 @@ use Rattle.names_search.proofs.Lookups.{in-part}
 use Rattle.names_m_to_z.proofs.lower_m.Goals as goal
 
 pub returns-then-second-lt115 : goal.returns-then-second-lt115
-returns-then-second-lt115 c = c.lower_m_1.ensures ∙ in-part 1 0x00 0x72 (0x6D ∷ c.args.rest.now) (omega arith) (omega arith) lower-m
+returns-then-second-lt115 c = c.lower_m_1.ensures ∙ in-part 1 0x00 0x72 (0x6D ∷ c.args.rest.now) (omega (arith, c.byte_at-second.ensures)) (omega (arith, c.byte_at-second.ensures)) lower-m
 
 pub returns : goal.returns
-returns c = c.lower_m_2.ensures ∙ in-part 1 0x73 0xFF (0x6D ∷ c.args.rest.now) (omega arith) (omega arith) lower-m
+returns c = c.lower_m_2.ensures ∙ in-part 1 0x73 0xFF (0x6D ∷ c.args.rest.now) (omega (arith, c.byte_at-second.ensures)) (omega (arith, c.byte_at-second.ensures)) lower-m

@@ -8,19 +8,19 @@ use Rattle.names_search.proofs.Lookups.{in-part}
 use Rattle.names_m_to_z.proofs.lower_n.Goals as goal
 
 pub returns-then-second-lt100 : goal.returns-then-second-lt100
-returns-then-second-lt100 c = c.lower_n_1.ensures ∙ in-part 1 0x00 0x63 (0x6E ∷ c.args.rest.now) (omega arith) (omega arith) lower-n
+returns-then-second-lt100 c = c.lower_n_1.ensures ∙ in-part 1 0x00 0x63 (0x6E ∷ c.args.rest.now) (omega (arith, c.byte_at-second.ensures)) (omega (arith, c.byte_at-second.ensures)) lower-n
 
 pub returns-then-second-lt108 : goal.returns-then-second-lt108
-returns-then-second-lt108 c = c.lower_n_2.ensures ∙ in-part 1 0x64 0x6B (0x6E ∷ c.args.rest.now) (omega arith) (omega arith) lower-n
+returns-then-second-lt108 c = c.lower_n_2.ensures ∙ in-part 1 0x64 0x6B (0x6E ∷ c.args.rest.now) (omega (arith, c.byte_at-second.ensures)) (omega (arith, c.byte_at-second.ensures)) lower-n
 
 pub returns-then-second-lt112 : goal.returns-then-second-lt112
-returns-then-second-lt112 c = c.lower_n_3.ensures ∙ in-part 1 0x6C 0x6F (0x6E ∷ c.args.rest.now) (omega arith) (omega arith) lower-n
+returns-then-second-lt112 c = c.lower_n_3.ensures ∙ in-part 1 0x6C 0x6F (0x6E ∷ c.args.rest.now) (omega (arith, c.byte_at-second.ensures)) (omega (arith, c.byte_at-second.ensures)) lower-n
 
 pub returns-then-second-lt115 : goal.returns-then-second-lt115
-returns-then-second-lt115 c = c.lower_n_4.ensures ∙ in-part 1 0x70 0x72 (0x6E ∷ c.args.rest.now) (omega arith) (omega arith) lower-n
+returns-then-second-lt115 c = c.lower_n_4.ensures ∙ in-part 1 0x70 0x72 (0x6E ∷ c.args.rest.now) (omega (arith, c.byte_at-second.ensures)) (omega (arith, c.byte_at-second.ensures)) lower-n
 
 pub returns-then-second-lt116 : goal.returns-then-second-lt116
-returns-then-second-lt116 c = c.lower_n_5.ensures ∙ in-part 1 0x73 0x73 (0x6E ∷ c.args.rest.now) (omega arith) (omega arith) lower-n
+returns-then-second-lt116 c = c.lower_n_5.ensures ∙ in-part 1 0x73 0x73 (0x6E ∷ c.args.rest.now) (omega (arith, c.byte_at-second.ensures)) (omega (arith, c.byte_at-second.ensures)) lower-n
 
 pub returns : goal.returns
-returns c = c.lower_n_6.ensures ∙ in-part 1 0x74 0xFF (0x6E ∷ c.args.rest.now) (omega arith) (omega arith) lower-n
+returns c = c.lower_n_6.ensures ∙ in-part 1 0x74 0xFF (0x6E ∷ c.args.rest.now) (omega (arith, c.byte_at-second.ensures)) (omega (arith, c.byte_at-second.ensures)) lower-n

@@ -4,9 +4,6 @@ use Rattle.rules.specs.Names.{lower-n}
 use Rattle.names_search.specs.Listed.{listed}
 use Rattle.names_m_to_z.proofs.lower_n_4.Goals as goal
 
-pub find-requires : goal.find-requires
-find-requires c = tt
-
 pub returns : goal.returns
 unfolding lower-n listed
 returns c = c.find.ensures 0x6E

@@ -8,10 +8,10 @@ use Rattle.names_search.proofs.Lookups.{in-part}
 use Rattle.names_m_to_z.proofs.lower_p.Goals as goal
 
 pub returns-then-second-lt108 : goal.returns-then-second-lt108
-returns-then-second-lt108 c = c.lower_p_1.ensures ∙ in-part 1 0x00 0x6B (0x70 ∷ c.args.rest.now) (omega arith) (omega arith) lower-p
+returns-then-second-lt108 c = c.lower_p_1.ensures ∙ in-part 1 0x00 0x6B (0x70 ∷ c.args.rest.now) (omega (arith, c.byte_at-second.ensures)) (omega (arith, c.byte_at-second.ensures)) lower-p
 
 pub returns-then-second-lt114 : goal.returns-then-second-lt114
-returns-then-second-lt114 c = c.lower_p_2.ensures ∙ in-part 1 0x6C 0x71 (0x70 ∷ c.args.rest.now) (omega arith) (omega arith) lower-p
+returns-then-second-lt114 c = c.lower_p_2.ensures ∙ in-part 1 0x6C 0x71 (0x70 ∷ c.args.rest.now) (omega (arith, c.byte_at-second.ensures)) (omega (arith, c.byte_at-second.ensures)) lower-p
 
 pub returns : goal.returns
-returns c = c.lower_p_3.ensures ∙ in-part 1 0x72 0xFF (0x70 ∷ c.args.rest.now) (omega arith) (omega arith) lower-p
+returns c = c.lower_p_3.ensures ∙ in-part 1 0x72 0xFF (0x70 ∷ c.args.rest.now) (omega (arith, c.byte_at-second.ensures)) (omega (arith, c.byte_at-second.ensures)) lower-p

@@ -4,9 +4,6 @@ use Rattle.rules.specs.Names.{lower-r}
 use Rattle.names_search.specs.Listed.{listed}
 use Rattle.names_m_to_z.proofs.lower_r_4.Goals as goal
 
-pub find-requires : goal.find-requires
-find-requires c = tt
-
 pub returns : goal.returns
 unfolding lower-r listed
 returns c = c.find.ensures 0x72

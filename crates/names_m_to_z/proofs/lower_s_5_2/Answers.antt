@@ -4,9 +4,6 @@ use Rattle.rules.specs.Names.{lower-s}
 use Rattle.names_search.specs.Listed.{listed}
 use Rattle.names_m_to_z.proofs.lower_s_5_2.Goals as goal
 
-pub find-requires : goal.find-requires
-find-requires c = tt
-
 pub returns : goal.returns
 unfolding lower-s listed
 returns c = c.find.ensures 0x73

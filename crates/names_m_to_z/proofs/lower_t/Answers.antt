@@ -8,7 +8,7 @@ use Rattle.names_search.proofs.Lookups.{in-part}
 use Rattle.names_m_to_z.proofs.lower_t.Goals as goal
 
 pub returns-then-second-lt111 : goal.returns-then-second-lt111
-returns-then-second-lt111 c = c.lower_t_1.ensures ∙ in-part 1 0x00 0x6E (0x74 ∷ c.args.rest.now) (omega arith) (omega arith) lower-t
+returns-then-second-lt111 c = c.lower_t_1.ensures ∙ in-part 1 0x00 0x6E (0x74 ∷ c.args.rest.now) (omega (arith, c.byte_at-second.ensures)) (omega (arith, c.byte_at-second.ensures)) lower-t
 
 pub returns : goal.returns
-returns c = c.lower_t_2.ensures ∙ in-part 1 0x6F 0xFF (0x74 ∷ c.args.rest.now) (omega arith) (omega arith) lower-t
+returns c = c.lower_t_2.ensures ∙ in-part 1 0x6F 0xFF (0x74 ∷ c.args.rest.now) (omega (arith, c.byte_at-second.ensures)) (omega (arith, c.byte_at-second.ensures)) lower-t

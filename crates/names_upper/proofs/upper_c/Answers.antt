@@ -8,7 +8,7 @@ use Rattle.names_search.proofs.Lookups.{in-part}
 use Rattle.names_upper.proofs.upper_c.Goals as goal
 
 pub returns-then-second-lt117 : goal.returns-then-second-lt117
-returns-then-second-lt117 c = c.upper_c_1.ensures ∙ in-part 1 0x00 0x74 (0x43 ∷ c.args.rest.now) (omega arith) (omega arith) upper-C
+returns-then-second-lt117 c = c.upper_c_1.ensures ∙ in-part 1 0x00 0x74 (0x43 ∷ c.args.rest.now) (omega (arith, c.byte_at-second.ensures)) (omega (arith, c.byte_at-second.ensures)) upper-C
 
 pub returns : goal.returns
-returns c = c.upper_c_2.ensures ∙ in-part 1 0x75 0xFF (0x43 ∷ c.args.rest.now) (omega arith) (omega arith) upper-C
+returns c = c.upper_c_2.ensures ∙ in-part 1 0x75 0xFF (0x43 ∷ c.args.rest.now) (omega (arith, c.byte_at-second.ensures)) (omega (arith, c.byte_at-second.ensures)) upper-C

@@ -4,9 +4,6 @@ use Rattle.rules.specs.Names.{upper-D}
 use Rattle.names_search.specs.Listed.{listed}
 use Rattle.names_upper.proofs.upper_d_3.Goals as goal
 
-pub find-requires : goal.find-requires
-find-requires c = tt
-
 pub returns : goal.returns
 unfolding upper-D listed
 returns c = c.find.ensures 0x44

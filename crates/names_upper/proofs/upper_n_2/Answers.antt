@@ -9,10 +9,10 @@ use Rattle.names_search.proofs.Lookups.{in-part}
 use Rattle.names_upper.proofs.upper_n_2.Goals as goal
 
 pub returns-then-fourth-lt76 : goal.returns-then-fourth-lt76
-returns-then-fourth-lt76 c = c.upper_n_2_1.ensures ∙ in-part 3 0x00 0x4B (0x4E ∷ c.args.rest.now) (omega (arith, c.fourth-fourth.ensures)) (omega (arith, c.fourth-fourth.ensures)) (having 1 (0x6F, 0x72) upper-N)
+returns-then-fourth-lt76 c = c.upper_n_2_1.ensures ∙ in-part 3 0x00 0x4B (0x4E ∷ c.args.rest.now) (omega (arith, c.byte_at-fourth.ensures)) (omega (arith, c.byte_at-fourth.ensures)) (having 1 (0x6F, 0x72) upper-N)
 
 pub returns-then-fourth-lt83 : goal.returns-then-fourth-lt83
-returns-then-fourth-lt83 c = c.upper_n_2_2.ensures ∙ in-part 3 0x4C 0x52 (0x4E ∷ c.args.rest.now) (omega (arith, c.fourth-fourth.ensures)) (omega (arith, c.fourth-fourth.ensures)) (having 1 (0x6F, 0x72) upper-N)
+returns-then-fourth-lt83 c = c.upper_n_2_2.ensures ∙ in-part 3 0x4C 0x52 (0x4E ∷ c.args.rest.now) (omega (arith, c.byte_at-fourth.ensures)) (omega (arith, c.byte_at-fourth.ensures)) (having 1 (0x6F, 0x72) upper-N)
 
 pub returns : goal.returns
-returns c = c.upper_n_2_3.ensures ∙ in-part 3 0x53 0xFF (0x4E ∷ c.args.rest.now) (omega (arith, c.fourth-fourth.ensures)) (omega (arith, c.fourth-fourth.ensures)) (having 1 (0x6F, 0x72) upper-N)
+returns c = c.upper_n_2_3.ensures ∙ in-part 3 0x53 0xFF (0x4E ∷ c.args.rest.now) (omega (arith, c.byte_at-fourth.ensures)) (omega (arith, c.byte_at-fourth.ensures)) (having 1 (0x6F, 0x72) upper-N)

@@ -9,9 +9,9 @@ use Rattle.page.proofs.fill_page.Goals as goal
 pub returns : goal.returns
 returns c =
     let a = c.args in
-    let l = c.loop-i in
+    let l = c.loop-index in
     let p = l.invariant in
-    let n : l.i ≡ length a.fields.now = omega (arith, p.0, c.loop-i-test.false, l.auto.fields) in
-    let e : after a.text.now a.fields.now a.output.now l.i ≡ page_of a.text.now a.fields.now a.output.now =
+    let n : l.index ≡ length a.fields.now = omega arith in
+    let e : after a.text.now a.fields.now a.output.now l.index ≡ page_of a.text.now a.fields.now a.output.now =
     ap (after a.text.now a.fields.now a.output.now) n ∙ after-all a.text.now a.fields.now a.output.now in
-    (p.3 ∙ ap (λ (q : Page). q.filled) e, p.1 ∙ ap (λ (q : Page). q.fields) e, p.2 ∙ ap (λ (q : Page). q.output) e)
+    (p.2 ∙ ap (λ (q : Page). q.filled) e, p.0 ∙ ap (λ (q : Page). q.fields) e, p.1 ∙ ap (λ (q : Page). q.output) e)

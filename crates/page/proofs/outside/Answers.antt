@@ -17,8 +17,7 @@ known Unknown n = absurd (n refl)
 pub returns-in_default : goal.returns-in_default
 returns-in_default c =
     let x = c.context_of in
-    c.refusal.ensures ∙ known x.result c.in_default.not-Unknown ∙ ap (λ (x : AnyContext). outside_at (rule_of Encode x)) x.ensures
+    known x.result c.in_default.not-Unknown ∙ ap (λ (x : AnyContext). outside_at (rule_of Encode x)) x.ensures
 
-pub returns : goal.returns
-returns c =
-    c.refusal-2.ensures ∙ ap (λ (x : AnyContext). outside_at (rule_of Encode x)) (sym c.in-Unknown.is ∙ c.context_of.ensures)
+pub returns-in-Unknown : goal.returns-in-Unknown
+returns-in-Unknown c = ap (λ (x : AnyContext). outside_at (rule_of Encode x)) (sym c.in-Unknown.is ∙ c.context_of.ensures)

@@ -15,8 +15,14 @@ use Rattle.page.proofs.single.Goals as goal
 pub overflow_add-end : goal.overflow_add-end
 overflow_add-end c = let a = c.args in omega (arith, part-ends a.text.now a.field c.in_text.result c.in_text.ensures c.if-in_text.true)
 
-pub slice_bounds-call-end : goal.slice_bounds-call-end
-slice_bounds-call-end c = let a = c.args in part-ends a.text.now a.field c.in_text.result c.in_text.ensures c.if-in_text.true
+pub slice_bounds-part-end : goal.slice_bounds-part-end
+slice_bounds-part-end c = let a = c.args in part-ends a.text.now a.field c.in_text.result c.in_text.ensures c.if-in_text.true
+
+pub returns-else-in_text : goal.returns-else-in_text
+returns-else-in_text c =
+    let a = c.args in
+    let l = outside-is a.text.now a.field a.free.now (sym c.in_text.ensures ∙ c.if-in_text.false) in
+    (c.from.ensures ∙ c.outside.ensures ∙ l.0, l.1)
 
 pub returns-then-in_text : goal.returns-then-in_text
 returns-then-in_text c =
@@ -27,9 +33,3 @@ returns-then-in_text c =
       c.call.ensures.0 ∙ ap (λ (t : List ℕ). answer_of Encode (context_of a.field.context) false t a.free.now) part ∙ sym l.0,
       c.call.ensures.1 ∙ ap (λ (t : List ℕ). out_of Encode (context_of a.field.context) false t a.free.now) part ∙ sym l.1,
     )
-
-pub returns : goal.returns
-returns c =
-    let a = c.args in
-    let l = outside-is a.text.now a.field a.free.now (sym c.in_text.ensures ∙ c.if-in_text.false) in
-    (c.outside.ensures ∙ l.0, l.1)

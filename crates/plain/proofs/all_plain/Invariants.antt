@@ -8,7 +8,7 @@ use Rattle.plain.specs.Plain.{special_at}
 use Rattle.plain.proofs.all_plain.Given as goal
 
 abbrev pub invariant-loop-done : goal.invariant-loop-done
-invariant-loop-done l = (l.last + l.size ≡ length l.text) × (l.done ≤ length l.text) × Free (special_at l.unquoted l.text) 0 l.done
+invariant-loop-done g l = (l.last + g.row.SIZE ≡ length l.text) × (l.done ≤ length l.text) × Free (special_at l.unquoted l.text) 0 l.done
 
 abbrev pub decreases-loop-done : goal.decreases-loop-done
-decreases-loop-done l = length l.text - l.done
+decreases-loop-done g l = length l.text - l.done

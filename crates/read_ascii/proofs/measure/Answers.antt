@@ -1,54 +1,59 @@
 -- `measure` meets its contract: what is counted so far, with what the rest of the text gives, is what the whole gives. The measure is what is left.
 -- Assumes nothing.
-use Rattle.read_ascii.proofs.Contents.{content-quiet, halted-at, read_here, read-within, read_left}
-use Rattle.base.proofs.Counted.{counted_start, counted-quiet, counted-swap, counted-measures}
-use Rattle.rules.proofs.Loops.{from_end, from-stop}
-use Rattle.rules.specs.declared.Escape.TheVariants.{Taken, Nothing}
-use Rattle.rules.specs.declared.Context.TheVariants.{InAscii}
+use mathlib.Core.List.{[]}
+use mathlib.Core.Path.{◌≡◌}
+use native.Mathlib.Omega.{arith}
+use Rattle.std.specs.Prelude.{None}
+use Rattle.rules.specs.Moves.{before, from}
 use Rattle.rules.specs.Reading.{read_step}
 use Rattle.rules.specs.Utf8.{utf8}
-use native.Mathlib.Omega.{arith}
+use Rattle.rules.specs.declared.Context.TheVariants.{InAscii}
+use Rattle.rules.proofs.Loops.{from_end, from-stop}
+use Rattle.base.proofs.Counted.{counted-quiet, counted-swap, counted-measures}
+use Rattle.read_ascii.proofs.Contents.{content-quiet, halted-at, read-within, read_left}
 use Rattle.read_ascii.proofs.measure.Goals as goal
-
-pub loop-i-init : goal.loop-i-init
-loop-i-init c = counted_start (read_step InAscii) c.args.text.now
-
-pub returns-then-e-i : goal.returns-then-e-i
-returns-then-e-i c = counted-measures c.loop-i.invariant 0 0 (from-stop (read_step InAscii) c.args.text.now c.loop-i.i (omega arith) (halted-at c.args.text.now (λ k. omega (arith, c.shared_slice_known-1.given k)) c.loop-i.i (omega arith) ((rw c.if-e-i.true at c.next_halt-e.ensures).here (omega arith)) c.if-text-i-ne38.true).1) (read_left c.args.text.now)
-
-pub overflow_sub-length : goal.overflow_sub-length
-overflow_sub-length c = c.next_halt-e.ensures.after
-
-pub overflow_add-length : goal.overflow_add-length
-overflow_add-length c = omega (arith, c.loop-i.invariant.most, c.next_halt-e.ensures.within, c.requires)
-
-pub loop-i-smaller-then-text-i-ne38 : goal.loop-i-smaller-then-text-i-ne38
-loop-i-smaller-then-text-i-ne38 c = omega (arith, c.next_halt-e.ensures.after, c.next_halt-e.ensures.within, c.if-e-i.false)
+use Rattle.read_ascii.proofs.measure.Goals.{else-loop-i-test, then-loop-i-test+then-text-i-ne38+then-e-i, then-loop-i-test+else-text-i-ne38+in_default}
 
 pub loop-i-preserved-then-text-i-ne38 : goal.loop-i-preserved-then-text-i-ne38
-loop-i-preserved-then-text-i-ne38 c = counted-quiet c.loop-i.invariant c.next_halt-e.result c.next_halt-e.ensures.after c.next_halt-e.ensures.within (content-quiet c.args.text.now (λ k. omega (arith, c.shared_slice_known-1.given k)) c.loop-i.i c.next_halt-e.result c.next_halt-e.ensures)
-
-pub read_unit-requires : goal.read_unit-requires
-read_unit-requires c = (omega arith, c.if-text-i-ne38.false)
-
-pub returns-in_default : goal.returns-in_default
-returns-in_default c = counted-measures c.loop-i.invariant 0 0 (from-stop (read_step InAscii) c.args.text.now c.loop-i.i (omega arith) (read_here c.args.text.now c.loop-i.i c.read_unit.result Nothing c.read_unit.ensures c.in_default.is).1) (read_left c.args.text.now)
+loop-i-preserved-then-text-i-ne38 c =
+    let e = c.next_halt-e in
+    counted-quiet c.loop-i.invariant e.result e.ensures.after e.ensures.within (content-quiet c.args.text.now (λ k. (c.type_inv.text k).fits) c.loop-i.i e.result e.ensures)
 
 pub overflow_add-length-in-loop-i : goal.overflow_add-length-in-loop-i
-overflow_add-length-in-loop-i c = let w = read-within c.args.text.now c.loop-i.i c.in-Taken.n c.in-Taken.c (omega arith) (read_here c.args.text.now c.loop-i.i c.read_unit.result (Taken c.in-Taken.n c.in-Taken.c) c.read_unit.ensures c.in-Taken.is) in omega (arith, c.loop-i.invariant.most, w.1, w.2, c.char_length-length.ensures.0, c.requires)
-
-pub overflow_add-read : goal.overflow_add-read
-overflow_add-read c = omega (arith, c.loop-i.invariant.few, c.loop-i.invariant.inside, c.requires)
+overflow_add-length-in-loop-i c =
+    let t = c.args.text.now in
+    let w = read-within t c.loop-i.i c.in-Some.unit (omega arith) (c.in-Some.ensures (before t c.loop-i.i)) in
+    omega (arith, c.loop-i.invariant.most, w.1, w.2, c.char_length-length.ensures.0, c.requires)
 
 pub overflow_add-i : goal.overflow_add-i
-overflow_add-i c = let w = read-within c.args.text.now c.loop-i.i c.in-Taken.n c.in-Taken.c (omega arith) (read_here c.args.text.now c.loop-i.i c.read_unit.result (Taken c.in-Taken.n c.in-Taken.c) c.read_unit.ensures c.in-Taken.is) in omega (arith, w.1, c.requires)
+overflow_add-i c =
+    let t = c.args.text.now in
+    omega (arith, (read-within t c.loop-i.i c.in-Some.unit (omega arith) (c.in-Some.ensures (before t c.loop-i.i))).1, c.requires)
 
 pub loop-i-smaller : goal.loop-i-smaller
-loop-i-smaller c = let w = read-within c.args.text.now c.loop-i.i c.in-Taken.n c.in-Taken.c (omega arith) (read_here c.args.text.now c.loop-i.i c.read_unit.result (Taken c.in-Taken.n c.in-Taken.c) c.read_unit.ensures c.in-Taken.is) in omega (arith, w.0, w.1)
+loop-i-smaller c =
+    let t = c.args.text.now in
+    let w = read-within t c.loop-i.i c.in-Some.unit (omega arith) (c.in-Some.ensures (before t c.loop-i.i)) in
+    omega (arith, w.0, w.1)
 
 pub loop-i-preserved : goal.loop-i-preserved
-loop-i-preserved c = let w = read-within c.args.text.now c.loop-i.i c.in-Taken.n c.in-Taken.c (omega arith) (read_here c.args.text.now c.loop-i.i c.read_unit.result (Taken c.in-Taken.n c.in-Taken.c) c.read_unit.ensures c.in-Taken.is) in
-    rw c.char_length-length.ensures.0 (counted-swap c.loop-i.invariant c.in-Taken.n (utf8 c.in-Taken.c) w.0 w.1 w.2 (read_here c.args.text.now c.loop-i.i c.read_unit.result (Taken c.in-Taken.n c.in-Taken.c) c.read_unit.ensures c.in-Taken.is).0)
+loop-i-preserved c =
+    let t = c.args.text.now in
+    let e = c.in-Some.unit in
+    let tells = c.in-Some.ensures (before t c.loop-i.i) in
+    let w = read-within t c.loop-i.i e (omega arith) tells in
+    rw c.char_length-length.ensures.0 (counted-swap c.loop-i.invariant e.taken (utf8 e.character) w.0 w.1 w.2 tells.0)
 
 pub returns : goal.returns
-returns c = counted-measures c.loop-i.invariant 0 0 (from_end (read_step InAscii) c.args.text.now c.loop-i.i (omega arith)) (read_left c.args.text.now)
+returns c =
+    let t = c.args.text.now in
+    let i = c.loop-i.i in
+    let rule = read_step InAscii in
+    let none : from rule t i ≡ [] =
+    elim c.loop-i-test.branch [
+      | else-loop-i-test w ↦ from_end rule t i (omega arith)
+      | then-loop-i-test+then-text-i-ne38+then-e-i w ↦
+          from-stop rule t i (omega arith) (halted-at t (λ k. (c.type_inv.text k).fits) i (omega arith) ((rw w.if-e-i.true at w.next_halt-e.ensures).here (omega arith)) w.if-text-i-ne38.true).1
+      | then-loop-i-test+else-text-i-ne38+in_default w ↦ from-stop rule t i (omega arith) (w.in_default.ensures (before t i)).1
+    ] in
+    rw c.whole.ensures (counted-measures c.loop-i.invariant None none (read_left t))

@@ -28,9 +28,6 @@ loop-i-init c =
 pub is_unit-requires : goal.is_unit-requires
 is_unit-requires c = (c.words_of-words.ensures, search rules)
 
-pub returns-then-not-is_unit : goal.returns-then-not-is_unit
-returns-then-not-is_unit c = λ z. let never : ◌≡◌ {A = ℕ} 0 1 = cc in absurd (omega arith)
-
 pub bounds-text-i : goal.bounds-text-i
 bounds-text-i c = omega (arith, (unit (goal.at.bounds-text-i c).Else-not-is_unit).ends)
 
@@ -68,4 +65,4 @@ returns c =
     let l = c.loop-i in
     let t = c.args.text.now in
     let end : l.i ≡ length t = omega (arith, l.invariant.0.inside, c.loop-i-test.false) in
-    λ z. told-end Unquoted t l.places l.i l.gain l.units (λ k b. l.invariant.5 k (omega (arith, b, end))) l.invariant.0 end l.invariant.2
+    told-end Unquoted t l.places l.i l.gain l.units (λ k b. l.invariant.5 k (omega (arith, b, end))) l.invariant.0 end l.invariant.2

@@ -8,7 +8,7 @@ use Rattle.base.proofs.Counted.{Counted}
 use Rattle.reader.proofs.measure.Given as goal
 
 abbrev pub invariant-loop-i : goal.invariant-loop-i
-invariant-loop-i l = Counted (byte_step l.c) l.text l.i l.length l.units
+invariant-loop-i l = Counted (byte_step l.fn.c) l.text l.i l.length l.units
 
 abbrev pub decreases-loop-i : goal.decreases-loop-i
 decreases-loop-i l = length l.text - l.i

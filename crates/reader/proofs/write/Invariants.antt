@@ -17,7 +17,7 @@ abbrev pub Rest : Context → List ℕ → ℕ → List ℕ
 Rest c t i = result (from (byte_step c) t i)
 
 abbrev pub invariant-loop-i : goal.invariant-loop-i
-invariant-loop-i l = Counted (byte_step l.c) l.text l.i l.at l.units × Filled (read_of l.c l.text) (Rest l.c l.text l.i) l.initial.output l.output l.at
+invariant-loop-i l = Counted (byte_step l.fn.c) l.text l.i l.at l.units × Filled (read_of l.fn.c l.text) (Rest l.fn.c l.text l.i) l.initial.output l.output l.at
 
 abbrev pub decreases-loop-i : goal.decreases-loop-i
 decreases-loop-i l = length l.text - l.i

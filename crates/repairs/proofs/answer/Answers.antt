@@ -1,6 +1,7 @@
 -- `answer` meets its contract: the field of the request is repaired, or there is no request.
 -- Assumes nothing.
 use mathlib.Core.Option.{Option}
+use Rattle.std.specs.Prelude.{Option as Maybe}
 use mathlib.Core.Path.{sym, ap, ◌∙◌, subst}
 use mathlib.Core.List.{List}
 use Prim.Native.Nat.{ℕ, ◌≤◌}
@@ -23,10 +24,10 @@ returns-in_default c =
     (sym (ap (call_at Read a.input.now) c.in_default.is) ∙ f.ensures.0 Read) r.ensures
 
 pub slice_bounds-repair-count : goal.slice_bounds-repair-count
-slice_bounds-repair-count c = subst (λ (l : Line). text_start l ≤ length c.args.input.now) c.in-Names.is c.find_text.ensures.1
+slice_bounds-repair-count c = subst (λ (l : Maybe Line). text_start l ≤ length c.args.input.now) c.in-Some.is c.find_text.ensures.1
 
 pub slice_bounds-repair-start : goal.slice_bounds-repair-start
-slice_bounds-repair-start c = subst (λ (l : Line). text_start l ≤ length c.args.input.now) c.in-Names.is c.find_text.ensures.1
+slice_bounds-repair-start c = subst (λ (l : Maybe Line). text_start l ≤ length c.args.input.now) c.in-Some.is c.find_text.ensures.1
 
 pub returns : goal.returns
 returns c =
@@ -34,5 +35,5 @@ returns c =
     let f = c.find_text in
     let w = c.repair in
     subst (λ (k : Option Call). Prints (repaired_by k) w.result a.output.now w.new.output)
-    (sym (ap (call_at Read a.input.now) c.in-Names.is) ∙ f.ensures.0 Read)
-    (subst (λ (t : List ℕ). Prints (repaired (context_of c.in-Names.context) t) w.result a.output.now w.new.output) (lent-rest c.in-Names.n a.input.now) w.ensures)
+    (sym (ap (call_at Read a.input.now) c.in-Some.is) ∙ f.ensures.0 Read)
+    (subst (λ (t : List ℕ). Prints (repaired (context_of c.in-Some.line.number) t) w.result a.output.now w.new.output) (lent-rest c.in-Some.line.length a.input.now) w.ensures)

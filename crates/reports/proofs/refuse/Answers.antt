@@ -1,6 +1,6 @@
 -- `refuse` meets its contract: nothing where the status is 0, else its line.
 -- Assumes nothing.
-use mathlib.Core.Path.{sym, ap, ◌∙◌}
+use mathlib.Core.Path.{refl, sym, ap, ◌∙◌}
 use mathlib.Core.List.{List}
 use Prim.Native.Nat.{ℕ}
 use native.Mathlib.Omega.{arith}
@@ -9,16 +9,13 @@ use Rattle.rules.specs.Bytes.{over}
 use Rattle.reports.proofs.Lines.{status_line, written-within, passes, refuses}
 use Rattle.reports.proofs.refuse.Goals as goal
 
-pub returns-then-status-eq0 : goal.returns-then-status-eq0
-returns-then-status-eq0 c =
-    let a = c.args in
-    let e = passes a.text.now c.status-status.result c.status-status.ensures c.if-status-eq0.true in
-    (ap length (sym e), ap (λ (w : List ℕ). over w a.output.now) (sym e), omega arith)
+pub returns-then-status-eq-PASSED : goal.returns-then-status-eq-PASSED
+returns-then-status-eq-PASSED c = (passes c.args.text.now c.status-status.result c.status-status.ensures c.if-status-eq-PASSED.true, refl)
 
 pub returns : goal.returns
 returns c =
     let a = c.args in
     let s = c.status-status in
     let p = c.put_field in
-    let e = sym (refuses a.text.now s.result s.ensures c.if-status-eq0.false) in
+    let e = sym (refuses a.text.now s.result s.ensures c.if-status-eq-PASSED.false) in
     (p.ensures.0 ∙ ap length e, p.ensures.1 ∙ ap (λ (w : List ℕ). over w a.output.now) e, written-within (status_line s.result) a.output.now p.new.output p.result p.ensures.0 p.ensures.1)

@@ -1,22 +1,27 @@
 -- `report` meets its contract: no reference stays, or the line of the first that does, and what comes after its `&`.
 -- Assumes nothing.
+use mathlib.Core.Path.{refl, ap, ◌∙◌}
+use mathlib.Core.List.{List}
+use Prim.Native.Nat.{ℕ}
 use native.Mathlib.Omega.{arith}
-use Rattle.reports.proofs.Lines.{none_left, one_left}
+use lib.ListN.{length}
+use Rattle.rules.specs.Bytes.{over}
+use Rattle.rules.specs.Program.{left_lines}
+use Rattle.reports.specs.Lines.{line_of}
+use Rattle.reports.proofs.Lines.{one_left}
 use Rattle.reports.proofs.report.Goals as goal
 
-pub returns-then-left-eq0 : goal.returns-then-left-eq0
-returns-then-left-eq0 c =
-    let s = c in
-    let l = c.next_left-left in
-    none_left s.args.text.now s.args.output.now s.args.from l.result.place l.result.reason s.requires l.ensures c.if-left-eq0.true
+pub returns-in_err-left : goal.returns-in_err-left
+returns-in_err-left c = rw c.from_residual.ensures (ap left_lines c.in_err-left.ensures, refl)
 
 pub overflow_add-result : goal.overflow_add-result
-overflow_add-result c = omega (arith, (c.next_left-left.ensures.some c.if-left-eq0.false).1)
+overflow_add-result c = omega (arith, c.in_ok-left.ensures.1)
 
 pub returns : goal.returns
 returns c =
-    let s = c in
-    let l = c.next_left-left in
+    let a = c.args in
     let p = c.put_line in
-    one_left s.args.text.now s.args.output.now p.new.output s.args.from l.result.place l.result.reason p.result l.ensures
-    c.if-left-eq0.false p.ensures.0 p.ensures.1
+    let l = c.in_ok-left in
+    let n = c.from.ensures in
+    one_left a.text.now a.output.now p.new.output a.from p.result l.left l.ensures
+    (p.ensures.0 ∙ ap (λ (r : ℕ). length (line_of l.left.place r)) n) (p.ensures.1 ∙ ap (λ (r : ℕ). over (line_of l.left.place r) a.output.now) n)

@@ -2,5 +2,5 @@
 -- Assumes nothing.
 use Rattle.requests.proofs.copying.Goals as goal
 
-pub returns : goal.returns
-returns c = rw c.in-Read.is c.read.ensures
+pub returns-in-Read : goal.returns-in-Read
+returns-in-Read c = rw c.in-Read.is c.read.ensures

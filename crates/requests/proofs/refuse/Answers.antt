@@ -11,4 +11,4 @@ pub returns : goal.returns
 returns c =
     let p = c.put_answer in
     subst (λ (a : Answer). Prints (printed a []) p.result c.args.output.now p.new.output)
-    c.refusal.ensures (p.ensures.0, p.ensures.1)
+    c.from.ensures (p.ensures.0, p.ensures.1)

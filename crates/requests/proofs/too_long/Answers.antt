@@ -7,4 +7,4 @@ pub returns-then-empty-eq-BAD_CONTEXT : goal.returns-then-empty-eq-BAD_CONTEXT
 returns-then-empty-eq-BAD_CONTEXT c = rw (eq-eqb _ _ c.if-empty-eq-BAD_CONTEXT.true)
 
 pub returns : goal.returns
-returns c = rw (ne_eqb _ _ c.if-empty-eq-BAD_CONTEXT.false) c.refusal.ensures
+returns c = rw (ne_eqb _ _ c.if-empty-eq-BAD_CONTEXT.false) c.from.ensures

@@ -1,6 +1,7 @@
 -- `with_context` meets its contract: the call that the header asks for is made, or there is none.
 -- Assumes nothing.
 use mathlib.Core.Option.{Option}
+use Rattle.std.specs.Prelude.{Option as Maybe}
 use mathlib.Core.Path.{sym, ap, ◌∙◌, subst}
 use mathlib.Core.List.{List}
 use Prim.Native.Nat.{ℕ, ◌≤◌}
@@ -21,10 +22,10 @@ returns-in_default c =
     (sym (ap (call_at a.operation a.rest.now) c.in_default.is) ∙ f.ensures.0 a.operation) r.ensures
 
 pub slice_bounds-converse-count : goal.slice_bounds-converse-count
-slice_bounds-converse-count c = subst (λ (l : Line). text_start l ≤ length c.args.rest.now) c.in-Names.is c.find_text.ensures.1
+slice_bounds-converse-count c = subst (λ (l : Maybe Line). text_start l ≤ length c.args.rest.now) c.in-Some.is c.find_text.ensures.1
 
 pub slice_bounds-converse-start : goal.slice_bounds-converse-start
-slice_bounds-converse-start c = subst (λ (l : Line). text_start l ≤ length c.args.rest.now) c.in-Names.is c.find_text.ensures.1
+slice_bounds-converse-start c = subst (λ (l : Maybe Line). text_start l ≤ length c.args.rest.now) c.in-Some.is c.find_text.ensures.1
 
 pub returns : goal.returns
 returns c =
@@ -32,5 +33,5 @@ returns c =
     let f = c.find_text in
     let w = c.converse in
     subst (λ (k : Option Call). Prints (printed_by k) w.result a.output.now w.new.output)
-    (sym (ap (call_at a.operation a.rest.now) c.in-Names.is) ∙ f.ensures.0 a.operation)
-    (subst (λ (t : List ℕ). Prints (printed_call (asked a.operation c.in-Names.context t 60074)) w.result a.output.now w.new.output) (lent-rest c.in-Names.n a.rest.now) w.ensures)
+    (sym (ap (call_at a.operation a.rest.now) c.in-Some.is) ∙ f.ensures.0 a.operation)
+    (subst (λ (t : List ℕ). Prints (printed_call (asked a.operation c.in-Some.line.number t 60074)) w.result a.output.now w.new.output) (lent-rest c.in-Some.line.length a.rest.now) w.ensures)

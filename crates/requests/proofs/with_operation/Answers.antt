@@ -27,18 +27,18 @@ returns-in_default c = let a = c.args in
 
 pub slice_bounds-with_context-count : goal.slice_bounds-with_context-count
 unfolding lines_of
-slice_bounds-with_context-count c = line-within (ascii "op=") (name_lines operation_names) c.args.input.now _ _ (sym (ap line_read c.in-Names.is) ∙ c.find_line.ensures)
+slice_bounds-with_context-count c = line-within (ascii "op=") (name_lines operation_names) c.args.input.now _ _ (sym (ap line_read c.in-Some.is) ∙ c.find_line.ensures)
 
 pub slice_bounds-with_context-start : goal.slice_bounds-with_context-start
 unfolding lines_of
-slice_bounds-with_context-start c = line-within (ascii "op=") (name_lines operation_names) c.args.input.now _ _ (sym (ap line_read c.in-Names.is) ∙ c.find_line.ensures)
+slice_bounds-with_context-start c = line-within (ascii "op=") (name_lines operation_names) c.args.input.now _ _ (sym (ap line_read c.in-Some.is) ∙ c.find_line.ensures)
 
 pub returns : goal.returns
 unfolding lines_of
 returns c = let a = c.args in
     let w = c.with_context in
-    let n = c.in-Names.n in
+    let n = c.in-Some.line.length in
     subst (λ (k : Option Call). Prints (printed_by k) w.result a.output.now w.new.output)
-    (sym (after_line (ascii "op=") a.input.now context_line Browse operation_names _ n (sym (ap line_read c.in-Names.is) ∙ c.find_line.ensures)))
-    (subst (λ (o : Operation). Prints (printed_by (context_line o (drop n a.input.now))) w.result a.output.now w.new.output) c.operation_of.ensures
-    (subst (λ (t : List ℕ). Prints (printed_by (context_line c.operation_of.result t)) w.result a.output.now w.new.output) (lent-rest n a.input.now) w.ensures))
+    (sym (after_line (ascii "op=") a.input.now context_line Browse operation_names _ n (sym (ap line_read c.in-Some.is) ∙ c.find_line.ensures)))
+    (subst (λ (o : Operation). Prints (printed_by (context_line o (drop n a.input.now))) w.result a.output.now w.new.output) c.operation_of-operation.ensures
+    (subst (λ (t : List ℕ). Prints (printed_by (context_line c.operation_of-operation.result t)) w.result a.output.now w.new.output) (lent-rest n a.input.now) w.ensures))

@@ -6,4 +6,4 @@ use Rattle.scripts.proofs.far.Goals as goal
 pub returns : goal.returns
 returns c =
     let a = c.args in
-    λ h. far_none a.letter a.dash a.a a.b a.c (rw (c.low-2.ensures, c.low-next.ensures, c.low.ensures) at h)
+    λ h. far_none a.letter a.dash a.a a.b a.c (rw (c.min-2.ensures, c.min-next.ensures, c.min.ensures) at h)

@@ -1,28 +1,32 @@
--- `scripts::has_mark` meets its contract. The invariant: the least so far is above 0 only if no byte that is passed begins a mark.
+-- The least so far is above 0 only if no byte that is passed begins a mark. What is left to cut is the block from the next window on.
 -- Assumes nothing.
-use borrow.Author.Rules.{rules}
-use mathlib.Core.Path.{◌≡◌}
-use Prim.Native.Nat.{◌+◌}
-use native.Mathlib.Omega.{arith}
+use Rattle.std.proofs.Common.{[], ◌∷◌, ◌∙◌, ap, arith, length, drop, length-append, length-drop}
 use borrow.Author.Tests.{eqb-false}
-use Rattle.scripts.specs.Marks.{mark_at}
+use lib.Seq.{drop-drop}
 use Rattle.base.proofs.Firsts.{free_step}
-use Rattle.plain.proofs.Xors.{lesser-most}
+use Rattle.scripts.specs.Marks.{mark_at}
+use Rattle.scripts.proofs.Ends.{mark-window}
 use Rattle.scripts.proofs.has_mark.Goals as goal
 
-pub loop-j-init : goal.loop-j-init
-loop-j-init c = (search rules, λ z k a b. absurd (omega arith))
-
-pub loop-j-preserved : goal.loop-j-preserved
-loop-j-preserved c =
+pub loop-three-preserved : goal.loop-three-preserved
+loop-three-preserved c =
     let a = c.args in
-    let l = c.loop-j in
-    let most = lesser-most l.m c.far.result in
-    let e : a.at + (l.j + 1) ≡ a.at + l.j + 1 = omega arith in
-    (search rules, λ z. rw e (free_step (mark_at a.letter a.dash a.text.now) a.at (a.at + l.j) (l.invariant.1 (omega (arith, z, most, c.low-m.ensures))) (c.far.ensures (omega (arith, z, most, c.low-m.ensures)))))
+    let l = c.loop-three in
+    let i = l.invariant in
+    let s = c.in-Some.ensures.steps in
+    let k = length l.yielded in
+    let t = a.block.now in
+    rw (length-append l.yielded (c.in-Some.three ∷ [])) (
+      s.0 ∙ i.0,
+      s.1.2 ∙ ap (drop 1) i.1 ∙ drop-drop 1 k t,
+      omega (arith, s.1.0, i.0, ap length i.1, length-drop k t),
+      λ z.
+          free_step (mark_at a.letter a.dash t) 0 k (i.3 (omega (arith, z, c.min-m.ensures)))
+          (mark-window a.letter a.dash t c.in-Some.three.now k (s.1.1 ∙ rw (i.0, i.1)) (c.far.ensures (omega (arith, z, c.min-m.ensures)))),
+    )
 
 pub returns : goal.returns
 returns c =
-    let l = c.loop-j in
-    let e : l.j ≡ 16 = omega arith in
-    λ z. rw e at (l.invariant.1 (omega (arith, eqb-false l.m 0 z)))
+    let i = c.loop-three.invariant in
+    let t = c.args.block.now in
+    λ z j h k. i.3 (omega (arith, eqb-false c.loop-three.m 0 z)) j h (omega (arith, k, c.in-None.ensures.steps.1.0, i.0, ap length i.1, length-drop (length c.loop-three.yielded) t))

@@ -1,12 +1,12 @@
--- `scripts::has_mark` meets its contract. The invariant: the least so far is above 0 only if no byte that is passed begins a mark.
+-- The least so far is above 0 only if no byte that is passed begins a mark. What is left to cut is the block from the next window on.
 -- Assumes nothing.
-use Prim.Native.Nat.{◌≤◌, ◌<◌, ◌+◌, ◌-◌}
+use Rattle.std.proofs.Common.{◌≡◌, ◌≤◌, ◌<◌, length, drop}
+use Rattle.std.specs.Slice.Iter.{windows_rest, windows_size}
 use Rattle.base.specs.First.{Free}
 use Rattle.scripts.specs.Marks.{mark_at}
 use Rattle.scripts.proofs.has_mark.Given as goal
 
-abbrev pub invariant-loop-j : goal.invariant-loop-j
-invariant-loop-j l = (l.j ≤ 16) × (0 < l.m → Free (mark_at l.letter l.dash l.text) l.at (l.at + l.j))
-
-abbrev pub decreases-loop-j : goal.decreases-loop-j
-decreases-loop-j l = 16 - l.j
+abbrev pub invariant-loop-three : goal.invariant-loop-three
+invariant-loop-three l =
+    (windows_size l.three-iterator ≡ 3) × (windows_rest l.three-iterator ≡ drop (length l.yielded) l.block) × (length l.yielded ≤ length l.block)
+    × (0 < l.m → Free (mark_at l.letter l.dash l.block) 0 (length l.yielded))

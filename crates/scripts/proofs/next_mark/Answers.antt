@@ -1,42 +1,23 @@
--- `scripts::next_mark` meets its contract. The invariant: behind the blocks that were skipped, no byte that is passed is a `<` or a dash. The measure is what is left of the text.
+-- `scripts::next_mark` meets its contract: behind the blocks that were skipped, no byte before the place is a `<` or a dash.
 -- Assumes nothing.
-use borrow.Author.Rules.{rules}
-use borrow.Author.Tests.{ne_eqb}
-use Rattle.base.proofs.Firsts.{free-start, free_step}
-use Rattle.scripts.specs.Marks.{stop_at}
-use Rattle.scripts.proofs.Ends.{passed-others}
+use Rattle.std.proofs.Common.{rules, ◌≡◌, ℕ, ◌+◌, ◌-◌, arith, length, take, drop}
+use borrow.Author.Tests.{tests}
+use Rattle.std.proofs.lemmas.Iterator.{IsFirst-from_position, YieldsList-from_slice}
+use Rattle.base.proofs.Part.{part_length}
+use Rattle.scripts.proofs.Ends.{passed-rest}
 use Rattle.scripts.proofs.next_mark.Goals as goal
 
-pub loop-i-init : goal.loop-i-init
-loop-i-init c = (search rules, c.skip_blocks-i.ensures.within, free-start (stop_at c.args.text.now) c.skip_blocks-i.result)
-
-pub returns-then-text-i-eq60 : goal.returns-then-text-i-eq60
-returns-then-text-i-eq60 c =
+pub returns-in-Some : goal.returns-in-Some
+returns-in-Some c =
     let a = c.args in
-    let l = c.loop-i in
-    let k = c.skip_blocks-i in
-    passed-others a.mode a.text.now a.from k.result l.i k.ensures l.invariant.0 l.invariant.1 l.invariant.2
+    let k = c.skip_blocks-start in
+    let q = IsFirst-from_position _ _ _ (λ (b : ℕ). Unit {0}) (λ (b : ℕ). (b ≡ 60 → ⊥) × (b ≡ 45 → ⊥)) c.in-Some.ensures.ran (YieldsList-from_slice _ c.iter.ensures.rest) (λ x q k. tt) (λ x q k. search (rules, tests)) in
+    passed-rest a.mode a.text.now a.from k.result c.in-Some.k k.ensures (omega (arith, q.0)) q.2
 
-pub returns-then-text-i-eq45 : goal.returns-then-text-i-eq45
-returns-then-text-i-eq45 c =
+pub returns-in-None : goal.returns-in-None
+returns-in-None c =
     let a = c.args in
-    let l = c.loop-i in
-    let k = c.skip_blocks-i in
-    passed-others a.mode a.text.now a.from k.result l.i k.ensures l.invariant.0 l.invariant.1 l.invariant.2
-
-pub loop-i-preserved : goal.loop-i-preserved
-loop-i-preserved c =
-    let a = c.args in
-    let l = c.loop-i in
-    let k = c.skip_blocks-i in (
-      search rules,
-      search rules,
-      free_step (stop_at a.text.now) k.result l.i l.invariant.2 (rw (ne_eqb _ 60 c.if-text-i-eq60.false) (ne_eqb _ 45 c.if-text-i-eq45.false)),
-    )
-
-pub returns : goal.returns
-returns c =
-    let a = c.args in
-    let l = c.loop-i in
-    let k = c.skip_blocks-i in
-    passed-others a.mode a.text.now a.from k.result l.i k.ensures l.invariant.0 l.invariant.1 l.invariant.2
+    let k = c.skip_blocks-start in
+    let t = a.text.now in
+    let e : k.result + length (take (length t - k.result) (drop k.result t)) ≡ length t = omega (arith, k.ensures.within, part_length t k.result (length t) k.ensures.within (omega arith)) in
+    rw e at (passed-rest a.mode t a.from k.result (length (take (length t - k.result) (drop k.result t))) k.ensures (omega arith) (IsFirst-from_position _ _ _ (λ (b : ℕ). Unit {0}) (λ (b : ℕ). (b ≡ 60 → ⊥) × (b ≡ 45 → ⊥)) c.in-None.ensures.ran (YieldsList-from_slice _ c.iter.ensures.rest) (λ x q k. tt) (λ x q k. search (rules, tests))))

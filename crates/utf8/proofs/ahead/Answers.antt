@@ -5,13 +5,13 @@ use borrow.Author.Rules.{rules}
 use Rattle.utf8.proofs.Texts.{ascii-text, text-part, text-more}
 use Rattle.utf8.proofs.ahead.Goals as goal
 
-pub returns-then-highs-eq0 : goal.returns-then-highs-eq0
-returns-then-highs-eq0 c =
+pub returns-then-is_ascii : goal.returns-then-is_ascii
+returns-then-is_ascii c =
     let a = c in
     let e = c.clip-e.result in (
       search rules,
       search rules,
-      text-part a.args.text.now a.args.i e (search rules) a.requires.1 (ascii-text _ (c.highs.ensures c.if-highs-eq0.true)),
+      text-part a.args.text.now a.args.i e (search rules) a.requires.1 (ascii-text _ (c.is_ascii.ensures c.if-is_ascii.true)),
     )
 
 pub returns-then-f-i-lt-WINDOWS_LEAST : goal.returns-then-f-i-lt-WINDOWS_LEAST

@@ -4,7 +4,6 @@ use mathlib.Core.Bool.{true}
 use mathlib.Core.Path.{◌≡◌, sym, ap, ◌∙◌}
 use Prim.Native.Nat.{ℕ, ◌-◌}
 use borrow.Author.Rules.{rules}
-use borrow.Author.Tests.{not-true, not-false}
 use lib.ListN.{take, drop, get_or}
 use Rattle.rules.specs.Bytes.{fits, inside}
 use Rattle.utf8.specs.Check.{is_start, tails_of}
@@ -15,18 +14,18 @@ use Rattle.utf8.proofs.is_cut.Goals.{Else-not-is_start}
 pub returns-then-a-lt128 : goal.returns-then-a-lt128
 returns-then-a-lt128 c =
     let k = c in
-    sym (cut-ascii k.args.rest.now (search rules) (k.shared_slice_known-2-1.given 0).fits c.if-a-lt128.true)
+    sym (cut-ascii k.args.rest.now (search rules) (k.type_inv.rest 0).fits c.if-a-lt128.true)
 
 pub returns-then-not-is_start : goal.returns-then-not-is_start
 returns-then-not-is_start c =
     let f = c.is_start in
     let k = c in
-    sym (cut-no-start k.args.rest.now (search rules) (k.shared_slice_known-2-1.given 0).fits (sym f.ensures ∙ not-true f.result c.if-not-is_start.true-raw))
+    sym (cut-no-start k.args.rest.now (search rules) (k.type_inv.rest 0).fits (sym f.ensures ∙ c.if-not-is_start.true))
 
 -- Past the two tests of the first byte.
 
 starts : (c : Else-not-is_start) → is_start (get_or c.args.rest.now 0 0) ≡ true
-starts c = let f = c.is_start in sym f.ensures ∙ not-false f.result c.if-not-is_start.false-raw
+starts c = let f = c.is_start in sym f.ensures ∙ c.if-not-is_start.false
 
 pub lead_ones-requires : goal.lead_ones-requires
 lead_ones-requires c = lead-byte (get_or c.args.rest.now 0 0) c.if-a-lt128.false (starts (goal.at.lead_ones-requires c).Else-not-is_start)
@@ -35,7 +34,7 @@ pub returns-then-lead_ones-rest : goal.returns-then-lead_ones-rest
 returns-then-lead_ones-rest c =
     let e = c in
     let k = e in
-    sym (cut-long k.args.rest.now (search rules) (k.shared_slice_known-2-1.given 0).fits (starts (goal.at.returns-then-lead_ones-rest e).Else-not-is_start) (rw (← c.lead_ones.ensures.0) c.if-lead_ones-rest.true))
+    sym (cut-long k.args.rest.now (search rules) (k.type_inv.rest 0).fits (starts (goal.at.returns-then-lead_ones-rest e).Else-not-is_start) (rw (← c.lead_ones.ensures.0) c.if-lead_ones-rest.true))
 
 pub returns-then-rest-eq1 : goal.returns-then-rest-eq1
 returns-then-rest-eq1 c =
@@ -44,7 +43,7 @@ returns-then-rest-eq1 c =
     let k = e in
     let s = k.args.rest.now in
     sym
-    (cut_short s (search rules) (k.shared_slice_known-2-1.given 0).fits (starts (goal.at.returns-then-rest-eq1 e).Else-not-is_start) (rw (← l.ensures.0) c.if-lead_ones-rest.false)
+    (cut_short s (search rules) (k.type_inv.rest 0).fits (starts (goal.at.returns-then-rest-eq1 e).Else-not-is_start) (rw (← l.ensures.0) c.if-lead_ones-rest.false)
     ∙ ap (λ (n : ℕ). fits inside (take (n - 1) (tails_of (get_or s 0 0))) (drop 1 s)) c.if-rest-eq1.true)
 
 pub returns : goal.returns
@@ -53,4 +52,4 @@ returns c =
     let e = c in
     let k = e in
     let s = k.args.rest.now in
-    c.has_tails.ensures ∙ sym (cut_short s (search rules) (k.shared_slice_known-2-1.given 0).fits (starts (goal.at.returns e).Else-not-is_start) (rw (← l.ensures.0) c.if-lead_ones-rest.false))
+    c.has_tails.ensures ∙ sym (cut_short s (search rules) (k.type_inv.rest 0).fits (starts (goal.at.returns e).Else-not-is_start) (rw (← l.ensures.0) c.if-lead_ones-rest.false))

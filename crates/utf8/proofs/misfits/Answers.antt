@@ -1,36 +1,30 @@
--- `misfits` meets its contract: while none is counted, each byte passed fits. The measure is what is left of the part.
+-- `misfits` meets its contract: while none is counted, each byte passed fits. What is left to cut is the part from the next window on.
 -- Assumes nothing.
-use mathlib.Core.Path.{sym, ◌∙◌}
-use native.Mathlib.Omega.{arith}
+use Rattle.std.proofs.Common.{[], ◌∷◌, sym, ◌∙◌, ap, arith, length, drop, length-append, length-drop}
 use borrow.Author.Count.{below_more}
 use borrow.Author.Rules.{rules}
-use borrow.Author.Tests.{not-false}
-use Rattle.utf8.proofs.Parts.{fits-here, all_fit}
+use lib.Seq.{drop-drop}
+use Rattle.utf8.proofs.Parts.{fits-window, all_fit}
 use Rattle.utf8.proofs.misfits.Goals as goal
-use Rattle.utf8.proofs.misfits.Goals.{then-not-is_fit, else-not-is_fit}
 
-pub returns-then-not-heads_fit : goal.returns-then-not-heads_fit
-returns-then-not-heads_fit c = λ e. absurd (omega arith)
-
-pub loop-k-init : goal.loop-k-init
-loop-k-init c = (search rules, search rules, λ e j h. absurd (omega arith))
-
-pub loop-k-preserved : goal.loop-k-preserved
-loop-k-preserved c =
-    let f = c.is_fit in
-    let l = c in
-    let s = l.args.part.now in
-    elim c.if-not-is_fit.branch [
-      | then-not-is_fit w ↦ (omega arith, omega arith, λ e j h. absurd (omega arith))
-      | else-not-is_fit w ↦ (
-        omega arith,
-        omega arith,
-        λ e. below_more _ _ (l.loop-k.invariant.2 (omega arith)) (fits-here s l.loop-k.k (sym f.ensures ∙ not-false f.result w.if-not-is_fit.false-raw)),
-      )
-    ]
+pub loop-four-preserved : goal.loop-four-preserved
+loop-four-preserved c =
+    let l = c.loop-four in
+    let i = l.invariant in
+    let s = c.in-Some.ensures.steps in
+    let k = length l.yielded in
+    let w = c.args.part.now in
+    rw (length-append l.yielded (c.in-Some.four ∷ [])) (
+      s.0 ∙ i.0,
+      s.1.2 ∙ ap (drop 1) i.1 ∙ drop-drop 1 k w,
+      omega (arith, s.1.0, i.0, ap length i.1, length-drop k w),
+      search rules,
+      λ e. below_more _ _ (i.4 e) (fits-window w c.in-Some.four.now k (s.1.1 ∙ rw (i.0, i.1)) (sym c.is_fit.ensures ∙ c.if-not-is_fit.false)),
+    )
 
 pub returns : goal.returns
 returns c =
-    let h = c in
-    λ e. all_fit h.args.part.now (search rules) (sym h.heads_fit.ensures ∙ not-false h.heads_fit.result c.if-not-heads_fit.false-raw)
-    (λ k h. c.loop-k.invariant.2 e k (omega arith))
+    let i = c.loop-four.invariant in
+    let w = c.args.part.now in
+    λ e. all_fit w (search rules) (sym c.heads_fit.ensures ∙ c.if-not-heads_fit.false)
+    (λ j h. i.4 e j (omega (arith, c.in-None.ensures.steps.1.0, i.0, ap length i.1, length-drop (length c.loop-four.yielded) w)))

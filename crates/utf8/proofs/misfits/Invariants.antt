@@ -1,13 +1,10 @@
--- `misfits` meets its contract: while none is counted, each byte passed fits. The measure is what is left of the part.
+-- `misfits` meets its contract: while none is counted, each byte passed fits. What is left to cut is the part from the next window on.
 -- Assumes nothing.
-use mathlib.Core.Path.{◌≡◌}
-use Prim.Native.Nat.{ℕ, ◌+◌, ◌-◌, ◌≤◌, ◌<◌}
-use lib.ListN.{length}
+use Rattle.std.proofs.Common.{◌≡◌, ℕ, ◌≤◌, ◌<◌, length, drop}
+use Rattle.std.specs.Slice.Iter.{windows_rest, windows_size}
 use Rattle.utf8.proofs.Parts.{FitsAt}
 use Rattle.utf8.proofs.misfits.Given as goal
 
-abbrev pub invariant-loop-k : goal.invariant-loop-k
-invariant-loop-k l = (l.k + 3 ≤ length l.part) × (l.n ≤ l.k) × (l.n ≡ 0 → (j : ℕ) → j < l.k → FitsAt l.part j)
-
-abbrev pub decreases-loop-k : goal.decreases-loop-k
-decreases-loop-k l = length l.part - l.k
+abbrev pub invariant-loop-four : goal.invariant-loop-four
+invariant-loop-four l =
+    (windows_size l.four-iterator ≡ 4) × (windows_rest l.four-iterator ≡ drop (length l.yielded) l.part) × (length l.yielded ≤ length l.part) × (l.n ≤ length l.yielded) × (l.n ≡ 0 → (j : ℕ) → j < length l.yielded → FitsAt l.part j)

@@ -1,21 +1,17 @@
--- `crate::find::walk` meets its contract. The invariant: the byte is at no place that is passed.
+-- `crate::find::walk` meets its contract: the first in what is left is the first from there on.
 -- Assumes nothing.
-use borrow.Author.Rules.{rules}
-use native.Mathlib.Omega.{arith}
-use Rattle.base.proofs.Places.{absent-step}
+use Rattle.std.proofs.Common.{rules, ◌≡◌, ◌≢◌, ℕ}
+use borrow.Author.Tests.{tests}
+use Rattle.std.proofs.lemmas.Iterator.{IsFirst-from_position, YieldsList-from_slice}
+use Rattle.base.proofs.Places.{nearest-found, nearest-none}
 use Rattle.base.proofs.find.walk.Goals as goal
 
-pub loop-i-init : goal.loop-i-init
-loop-i-init c = (search rules, search rules, λ k a b. absurd (omega arith))
+pub returns-in-Some : goal.returns-in-Some
+returns-in-Some c =
+    nearest-found c.args.text.now c.args.from c.args.byte c.requires c.in-Some.k
+    (IsFirst-from_position _ _ _ (λ (b : ℕ). b ≡ c.args.byte) (λ (b : ℕ). b ≢ c.args.byte) c.in-Some.ensures.ran (YieldsList-from_slice _ c.iter.ensures.rest) (λ x q k. search (rules, tests)) (λ x q k. search (rules, tests)))
 
-pub returns-then-text-i : goal.returns-then-text-i
-returns-then-text-i c = record { after = search rules; within = search rules; none = c.loop-i.invariant.2; here = λ h. c.if-text-i.true }
-
-pub loop-i-preserved : goal.loop-i-preserved
-loop-i-preserved c =
-    let a = c.args in
-    let l = c.loop-i in
-    (search rules, search rules, absent-step a.text.now a.from l.i a.byte l.invariant.2 c.if-text-i.false)
-
-pub returns : goal.returns
-returns c = record { after = search rules; within = search rules; none = c.loop-i.invariant.2; here = λ h. absurd (omega arith) }
+pub returns-in-None : goal.returns-in-None
+returns-in-None c =
+    nearest-none c.args.text.now c.args.from c.args.byte c.requires
+    (IsFirst-from_position _ _ _ (λ (b : ℕ). b ≡ c.args.byte) (λ (b : ℕ). b ≢ c.args.byte) c.in-None.ensures.ran (YieldsList-from_slice _ c.iter.ensures.rest) (λ x q k. search (rules, tests)) (λ x q k. search (rules, tests)))

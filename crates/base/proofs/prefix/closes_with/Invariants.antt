@@ -1,13 +1,9 @@
--- `closes_with` meets its contract: the name is left at what of the text is left exactly if the whole is at the whole. The measure is what is left of the name.
+-- `closes_with` meets its contract: the name is left at what of the text is left exactly if the whole is at the whole.
 -- Assumes nothing.
 use mathlib.Core.Path.{◌≡◌}
-use Prim.Native.Nat.{◌-◌, ◌≤◌}
-use lib.ListN.{length, drop}
+use lib.ListN.{drop}
 use Rattle.base.specs.Closing.{named}
 use Rattle.base.proofs.prefix.closes_with.Given as goal
 
 abbrev pub invariant-loop-i : goal.invariant-loop-i
-invariant-loop-i l = (l.i ≤ length l.name) × (named l.last l.name l.rest ≡ named l.last (drop l.i l.name) (drop l.i l.rest))
-
-abbrev pub decreases-loop-i : goal.decreases-loop-i
-decreases-loop-i l = length l.name - l.i
+invariant-loop-i l = named l.last l.name l.rest ≡ named l.last (drop l.i l.name) (drop l.i l.rest)

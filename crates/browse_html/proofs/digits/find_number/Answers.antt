@@ -1,29 +1,31 @@
 -- `browse_html::digits::find_number` meets its contract: the digits are hex after `x` or `X`, else decimal.
 -- Assumes nothing.
--- The base is one of the two.
-use mathlib.Core.Bool.{Bool, true, false, cond}
-use mathlib.Core.Logic.{◌⊎◌, inl, inr}
-use mathlib.Core.Path.{◌≡◌, refl, sym}
-use Prim.Native.Nat.{ℕ}
+use borrow.Author.Rules.{rules}
+use mathlib.Core.Logic.{inl, inr}
+use mathlib.Core.Path.{◌≡◌, refl, sym, ◌∙◌}
+use Prim.Native.Nat.{◌+◌, ◌<◌}
 use native.Mathlib.Omega.{arith}
-use Rattle.browse_html.proofs.Readings.{reads_none}
-use Rattle.browse_html.proofs.Runs.{counts-mark, hash-ends}
+use lib.ListN.{length, get_or}
+use Rattle.browse_html.proofs.Readings.{keeps_none}
+use Rattle.browse_html.proofs.Runs.{counts-hex, counts-decimal, hash-ends}
 use Rattle.browse_html.proofs.digits.find_number.Goals as goal
+use Rattle.browse_html.proofs.digits.find_number.Goals.{then-hex, else-hex}
 
-one_of : (hex : Bool) → (◌≡◌ {A = ℕ} (cond hex 16 10) 10) ⊎ (◌≡◌ {A = ℕ} (cond hex 16 10) 16)
-one_of true = inr refl
-one_of false = inl refl
-
-pub returns-then-at-text : goal.returns-then-at-text
-returns-then-at-text c = let a = c.args in λ kind. reads_none kind a.text.now a.start (omega (arith, c.requires.0)) c.requires.1 (hash-ends kind a.text.now a.start c.if-at-text.true c.requires.2)
-
-pub overflow_add-at-2 : goal.overflow_add-at-2
-overflow_add-at-2 c = omega (arith, c.mark_length.ensures.1)
+pub returns-in_err-get : goal.returns-in_err-get
+returns-in_err-get c =
+    let a = c.args in
+    let o = c.requires in
+    rw c.from_residual.ensures (λ kind. keeps_none kind a.text.now a.start (search rules) o.1 (hash-ends kind a.text.now a.start o.0 (search rules) o.2))
 
 pub find_digits-requires : goal.find_digits-requires
 find_digits-requires c =
     let a = c.args in
-    let hex = c.is_hex_mark-hex in
-    let base = c.base_of.ensures in
-    let mark = c.mark_length.ensures in
-    (c.requires.1, rw base (one_of hex.result), omega arith, omega (arith, mark.1), λ kind. rw (base, mark.0) (counts-mark kind a.text.now a.start (omega arith) c.requires.2 hex.result (sym hex.ensures)))
+    let t = a.text.now in
+    let o = c.requires in
+    let within : a.start + 2 < length t = search rules in
+    let here : c.in_ok-get.field-0.now ≡ get_or t (a.start + 2) 0 = search rules in
+    let mark = rw here at (sym c.is_hex_mark-hex.ensures) in
+    elim c.if-hex.branch [
+      | then-hex w ↦ rw w.base-is (o.1, inr refl, omega arith, omega arith, λ kind. counts-hex kind t a.start within o.2 (mark ∙ w.if-hex.true))
+      | else-hex w ↦ rw w.base-is (o.1, inl refl, omega arith, omega arith, λ kind. counts-decimal kind t a.start within o.2 (mark ∙ w.if-hex.false))
+    ]

@@ -4,15 +4,7 @@ use Rattle.decode_html.proofs.Bodies.{far_none, far_some}
 use Rattle.decode_html.proofs.entity.far_end.Goals as goal
 
 pub returns-then-end-amp : goal.returns-then-end-amp
-returns-then-end-amp c =
-    let a = c.args in
-    let amp = c.find_byte-amp in
-    let end = c.find_byte in
-    far_none a.text.now a.from amp.result end.result amp.ensures end.ensures c.if-end-amp.true
+returns-then-end-amp c = far_none c.args.text.now c.args.from c.find_byte-amp.result c.find_byte.result c.find_byte-amp.ensures c.find_byte.ensures c.if-end-amp.true
 
 pub returns : goal.returns
-returns c =
-    let a = c.args in
-    let amp = c.find_byte-amp in
-    let end = c.find_byte in
-    far_some a.text.now a.from amp.result end.result amp.ensures end.ensures c.if-end-amp.false
+returns c = far_some c.args.text.now c.args.from c.find_byte-amp.result c.find_byte.result c.find_byte-amp.ensures c.find_byte.ensures c.if-end-amp.false

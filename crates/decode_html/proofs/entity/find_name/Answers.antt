@@ -1,30 +1,31 @@
 -- `decode_html::entity::find_name` meets its contract: the body begins with a byte that does not end it, so its end is looked for from the next byte on.
 -- Assumes nothing.
-use borrow.Author.Rules.{rules}
-use Rattle.decode_html.proofs.Readings.{begun-nobody, begun-name}
+use Rattle.std.proofs.lemmas.Option.{MatchOption-at_none, MatchOption-at_some}
+use Rattle.std.proofs.lemmas.Result.{err_from_is_err_and}
+use Rattle.rules.specs.declared.Reason.TheVariants.{NoEnd, UnknownName}
+use Rattle.decode_html.proofs.Readings.{refused, begun-nobody, name-gives, name-stays}
 use Rattle.decode_html.proofs.entity.find_name.Goals as goal
 
-pub returns-then-end-text : goal.returns-then-end-text
-returns-then-end-text c =
-    let o = c in
-    let a = o.args in
-    let e = c.body_end-end in
-    begun-nobody a.text.now a.start e.result o.requires.0 o.requires.1 e.ensures c.if-end-text.true
+pub returns-in_err-end : goal.returns-in_err-end
+returns-in_err-end c =
+    let a = c.args in
+    let h = c.in_err-end.ensures in
+    let e = refused c.body_end.result c.in_err-end.field-0.0 NoEnd h.value h.ok_part in
+    let p = err_from_is_err_and c.from_residual.result c.from_residual.ensures.1 in
+    rw (p.1, p.2, e) (begun-nobody a.text.now a.start c.requires.0 c.requires.1 (MatchOption-at_none _ _ h.ok_part c.body_end.ensures))
 
-pub returns-in_default : goal.returns-in_default
-returns-in_default c =
-    let o = c in
-    let a = o.args in
-    let e = c.body_end-end in
-    let m = c.decode_named_entity in
-    let r = begun-name a.text.now a.start e.result o.requires.0 o.requires.1 e.ensures o.requires.2 (search rules) in
-    rw c.in_default.is at (r m.result m.ensures)
+pub returns-in_err-value : goal.returns-in_err-value
+returns-in_err-value c =
+    let a = c.args in
+    let h = c.in_err-value.ensures in
+    let e = refused c.decode_named_entity.result c.in_err-value.field-0.0 UnknownName h.value h.ok_part in
+    let end = MatchOption-at_some _ _ _ c.in_ok-end.ensures.ok_part c.body_end.ensures in
+    let p = err_from_is_err_and c.from_residual-in_err-value.result c.from_residual-in_err-value.ensures.1 in
+    rw (p.1, p.2, e) (name-stays a.text.now a.start c.requires.0 c.requires.1 c.in_ok-end.end end c.requires.2 (rw h.ok_part at c.decode_named_entity.ensures))
 
 pub returns : goal.returns
 returns c =
-    let o = c in
-    let a = o.args in
-    let e = c.body_end-end in
-    let m = c.decode_named_entity in
-    let r = begun-name a.text.now a.start e.result o.requires.0 o.requires.1 e.ensures o.requires.2 (search rules) in
-    rw c.in-Value.is at (r m.result m.ensures)
+    let a = c.args in
+    let end = MatchOption-at_some _ _ _ c.in_ok-end.ensures.ok_part c.body_end.ensures in
+    let m = rw c.in_ok-value.ensures.ok_part at c.decode_named_entity.ensures in
+    name-gives a.text.now a.start c.requires.0 c.requires.1 c.in_ok-end.end end c.requires.2 c.in_ok-value.value m

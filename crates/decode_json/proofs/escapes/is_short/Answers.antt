@@ -1,10 +1,5 @@
--- `is_short` meets its contract: one test, computed for every byte.
+-- `is_short` meets its contract: a bit of a word, computed for every byte.
 -- Assumes nothing.
--- src/escapes.rt:30:19
--- src/escapes.rt:30:37
--- src/escapes.rt:30:37
--- src/escapes.rt:30:19
--- src/escapes.rt:27:1
 use borrow.Author.Rules.{rules}
 use Rattle.decode_json.proofs.Told.{short-test}
 use Rattle.decode_json.proofs.escapes.is_short.Goals as goal

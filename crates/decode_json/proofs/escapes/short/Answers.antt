@@ -1,17 +1,13 @@
--- `short` meets its contract: a character, or none.
+-- `short` meets its contract: the byte itself or four bits of a word, computed for every byte.
 -- Assumes nothing.
--- src/escapes.rt:48:8
--- src/escapes.rt:49:9
-use mathlib.Core.Path.{sym, ◌∙◌}
-use Rattle.decode_json.proofs.Told.{short-zero}
+use Rattle.std.proofs.Common.{sym, ◌∙◌}
+use borrow.Author.Rules.{rules}
+use borrow.Author.Tests.{lt-ltb, le-ltb}
+use Rattle.decode_json.proofs.Told.{short-value}
 use Rattle.decode_json.proofs.escapes.short.Goals as goal
 
-pub meaning-requires : goal.meaning-requires
-meaning-requires c = sym c.is_short.ensures ∙ c.if-is_short.true
-
--- src/escapes.rt:49:9
-
--- src/escapes.rt:45:1
+pub returns-then-b-lt98 : goal.returns-then-b-lt98
+returns-then-b-lt98 c = rw (← short-value c.args.b (search rules) (sym c.is_short.ensures ∙ c.if-not-is_short.false), lt-ltb c.args.b 98 c.if-b-lt98.true)
 
 pub returns : goal.returns
-returns c = short-zero c.args.b (sym c.is_short.ensures ∙ c.if-is_short.false)
+returns c = rw (← short-value c.args.b (search rules) (sym c.is_short.ensures ∙ c.if-not-is_short.false), le-ltb c.args.b 98 c.if-b-lt98.false)

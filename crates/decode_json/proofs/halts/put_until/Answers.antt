@@ -17,15 +17,15 @@ use Rattle.decode_json.proofs.halts.put_until.Goals as goal
 use Rattle.decode_json.proofs.halts.put_until.Goals.{After-next_halt-far, Else-near-end}
 
 whole : (c : Else-near-end) → let a = c.args in let p = c.put_near-near in length (take (p.result - a.from) (drop a.from a.text.now)) ≡ p.result - a.from
-whole c = let a = c.args in let p = c.put_near-near in part_length a.text.now a.from p.result p.ensures.0.after (omega (arith, p.ensures.0.within, c.min.ensures.0))
+whole c = let a = c.args in let p = c.put_near-near in part_length a.text.now a.from p.result p.ensures.0.after (omega (arith, p.ensures.0.within, c.min.ensures))
 
 kept : (c : Else-near-end) → let a = c.args in let p = c.put_near-near in (p.result ≤ a.from + length a.output.now) × (length p.new.output ≡ length a.output.now)
 kept c =
     let whole-here : let a = c.args in let p = c.put_near-near in length (take (p.result - a.from) (drop a.from a.text.now)) ≡ p.result - a.from =
-    let a = c.args in let p = c.put_near-near in part_length a.text.now a.from p.result p.ensures.0.after (omega (arith, p.ensures.0.within, c.min.ensures.0)) in
+    let a = c.args in let p = c.put_near-near in part_length a.text.now a.from p.result p.ensures.0.after (omega (arith, p.ensures.0.within, c.min.ensures)) in
     let a = c.args in
     let p = c.put_near-near in
-    let r = c.requires.1 p.result p.ensures.0.after (omega (arith, p.ensures.0.within, c.min.ensures.0)) p.ensures.0.none in
+    let r = c.requires.1 p.result p.ensures.0.after (omega (arith, p.ensures.0.within, c.min.ensures)) p.ensures.0.none in
     (r, ap length p.ensures.1 ∙ over-length (take (p.result - a.from) (drop a.from a.text.now)) a.output.now (omega (arith, whole-here, r)))
 
 -- What is far has no such byte either, so that there is room for both.
@@ -54,7 +54,7 @@ room c =
 pub returns-then-near-end : goal.returns-then-near-end
 returns-then-near-end c =
     let p = c.put_near-near.ensures in
-    (record { after = p.0.after; within = omega (arith, p.0.within, c.min.ensures.0); none = p.0.none; here = λ h. p.0.here c.if-near-end.true }, p.1)
+    (record { after = p.0.after; within = omega (arith, p.0.within, c.min.ensures); none = p.0.none; here = λ h. p.0.here c.if-near-end.true }, p.1)
 
 -- src/halts.rt:111:9
 

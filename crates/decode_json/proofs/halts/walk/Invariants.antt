@@ -1,13 +1,8 @@
--- `walk` meets its contract: what has been passed so far has no such byte. The measure is what is left.
+-- `walk` meets its contract: none of the bytes so far is such a byte.
 -- Assumes nothing.
-use Prim.Native.Nat.{◌-◌, ◌≤◌}
-use lib.ListN.{length}
 use Rattle.base.specs.First.{Free}
 use Rattle.decode_json.specs.Escapes.{halt_at}
 use Rattle.decode_json.proofs.halts.walk.Given as goal
 
 abbrev pub invariant-loop-i : goal.invariant-loop-i
-invariant-loop-i l = (l.from ≤ l.i) × (l.i ≤ length l.text) × Free (halt_at l.text) l.from l.i
-
-abbrev pub decreases-loop-i : goal.decreases-loop-i
-decreases-loop-i l = length l.text - l.i
+invariant-loop-i l = Free (halt_at l.text) l.from l.i

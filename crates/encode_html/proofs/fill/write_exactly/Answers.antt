@@ -9,13 +9,13 @@ use Rattle.encode_html.proofs.fill.write_exactly.Goals as goal
 
 pub write_bytes-n-requires : goal.write_bytes-n-requires
 write_bytes-n-requires c =
-    let s = c in record { w_value = s.requires.w_value.0; text_in_bounds = omega (arith, encode-six (InHtml s.args.h) tt s.args.text.now, s.requires.w_value.1) }
+    let s = c in omega (arith, encode-six (InHtml s.args.w.html) tt s.args.text.now, s.requires.w_value)
 
 pub slice_bounds-buffer-end : goal.slice_bounds-buffer-end
 slice_bounds-buffer-end c =
     let s = c in
     let p = c.write_bytes-n in
-    omega (arith, p.ensures.value, p.auto.output, encode-six (InHtml s.args.h) tt s.args.text.now, s.requires.w_value.1)
+    omega (arith, p.ensures.value, p.auto.output, encode-six (InHtml s.args.w.html) tt s.args.text.now, s.requires.w_value)
 
 pub slice_bounds-put-end : goal.slice_bounds-put-end
 slice_bounds-put-end c =

@@ -12,7 +12,7 @@ use Rattle.encode_html.proofs.gains.three.Goals as goal
 pub overflow_add-result : goal.overflow_add-result
 overflow_add-result c =
     let s = c in
-    omega (arith, small s.args.h s.args.g s.requires)
+    omega (arith, small s.args.g.html 62 _ s.args.g.right.2)
 
 pub returns : goal.returns
 returns c =
@@ -20,5 +20,5 @@ returns c =
     let a = s.args in
     let x = c.when in
     let y = c.when-2 in
-    let sum : x.result + y.result ≡ cond (eqb a.b 60) 1 0 + cond (eqb a.b 62) (grows a.h 62) 0 = rw (x.ensures.0, y.ensures.0, s.requires) in
-    few a.h 3 a.b _ (sum ∙ three-is a.h a.b s.ranges.b.fits)
+    let sum : x.result + y.result ≡ cond (eqb a.b 60) 1 0 + cond (eqb a.b 62) (grows a.g.html 62) 0 = rw (x.ensures.0, y.ensures.0, a.g.right.2) in
+    few a.g.html 3 a.b _ (sum ∙ three-is a.g.html a.b s.ranges.b.fits)

@@ -1,15 +1,12 @@
--- The parts so far grow by what is counted and have so many places replaced, and with what is left they are the whole; if none was counted as high, every byte so far is ASCII.
+-- What is counted so far, with what is left, is the whole; if none was counted as high, the text is ASCII if what is left is.
 -- Assumes nothing.
-use mathlib.Core.Path.{◌≡◌}
-use Prim.Native.Nat.{ℕ, ◌-◌, ◌≤◌, ◌<◌}
-use lib.ListN.{length, get_or}
-use Rattle.encode_html.specs.Gains.{Ascii}
-use Rattle.encode_html.proofs.Growth.{Grown, Hit}
+use Rattle.std.proofs.Common.{◌≡◌}
+use Rattle.std.specs.Slice.Iter.{chunks_rest, chunks_size}
+use Rattle.encode_html.specs.Gains.{Ascii, Each}
+use Rattle.encode_html.proofs.Growth.{GrownTo, HitTo}
 use Rattle.encode_html.proofs.look.count.Given as goal
 
-abbrev pub invariant-loop-i : goal.invariant-loop-i
-invariant-loop-i l =
-    Grown l.h l.text l.i l.n × Hit l.h l.text l.i l.hits × (l.high_bytes ≤ l.i) × (l.high_bytes ≡ 0 → (k : ℕ) → k < l.i → Ascii (get_or l.text k 0))
-
-abbrev pub decreases-loop-i : goal.decreases-loop-i
-decreases-loop-i l = length l.text - l.i
+abbrev pub invariant-loop-part : goal.invariant-loop-part
+invariant-loop-part l =
+    (chunks_size l.part-iterator ≡ 224) × GrownTo l.g.html l.text (chunks_rest l.part-iterator) l.all.grow × HitTo l.g.html l.text (chunks_rest l.part-iterator) l.all.replaced
+    × (l.all.high ≡ 0 → Each Ascii (chunks_rest l.part-iterator) → Each Ascii l.text)

@@ -1,14 +1,10 @@
--- No byte of the parts so far is special; the answer true comes only after the last, and then every byte is unchanged (Unchanged).
+-- If no byte of what is left is special, none of the text is.
 -- Assumes nothing.
-use mathlib.Core.Bool.{false}
-use mathlib.Core.Path.{◌≡◌}
-use Prim.Native.Nat.{ℕ, ◌-◌, ◌≤◌, ◌<◌}
-use lib.ListN.{length, get_or}
+use Rattle.std.proofs.Common.{false, ◌≡◌, ℕ}
+use Rattle.std.specs.Slice.Iter.{chunks_rest}
+use Rattle.encode_html.specs.Gains.{Each}
 use Rattle.encode_html.specs.Keys.{special}
 use Rattle.encode_html.proofs.look.is_unchanged.Given as goal
 
-abbrev pub invariant-loop-i : goal.invariant-loop-i
-invariant-loop-i l = (l.i ≤ length l.text) × ((j : ℕ) → j < l.i → special l.k (get_or l.text j 0) ≡ false)
-
-abbrev pub decreases-loop-i : goal.decreases-loop-i
-decreases-loop-i l = length l.text - l.i
+abbrev pub invariant-loop-part : goal.invariant-loop-part
+invariant-loop-part l = Each (λ (b : ℕ). special l.k b ≡ false) (chunks_rest l.part-iterator) → Each (λ (b : ℕ). special l.k b ≡ false) l.text

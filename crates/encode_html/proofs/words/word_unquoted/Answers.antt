@@ -5,18 +5,17 @@ use borrow.Author.Tests.{lt-ltb, le-ltb}
 use Rattle.base.specs.Words.{word_of}
 use Rattle.encode_html.proofs.Choices.{choice_of_all, word-all}
 use Rattle.encode_html.proofs.words.word_unquoted.Goals as goal
+use Rattle.encode_html.proofs.words.word_unquoted.Goals.{then-b-gt127-via-then-b-gt127, then-b-gt127-via-else-b-gt127+then-is_letter_or_digit}
 
 pub returns-then-b-gt127 : goal.returns-then-b-gt127
 unfolding choice_of_all
-returns-then-b-gt127 c = let s = c in
-    c.plain.ensures ∙ rw (lt-ltb 127 _ c.if-b-gt127.true) at (word-all s.args.b s.ranges.b.fits)
-
-pub returns-then-is_letter_or_digit : goal.returns-then-is_letter_or_digit
-unfolding choice_of_all
-returns-then-is_letter_or_digit c = let s = c in
-    c.plain-then-is_letter_or_digit.ensures
-    ∙ rw (le-ltb 127 _ c.if-b-gt127.false, ← c.is_letter_or_digit.ensures, c.if-is_letter_or_digit.true)
-    at (word-all s.args.b s.ranges.b.fits)
+returns-then-b-gt127 c =
+    let w = word-all c.args.b c.ranges.b.fits in
+    c.plain.ensures
+    ∙ elim c.then-b-gt127.branch [
+      | then-b-gt127-via-then-b-gt127 t ↦ rw (lt-ltb 127 _ t.if-b-gt127.true) at w
+      | then-b-gt127-via-else-b-gt127+then-is_letter_or_digit t ↦ rw (le-ltb 127 _ t.if-b-gt127.false, ← t.is_letter_or_digit.ensures, t.if-is_letter_or_digit.true) at w
+    ]
 
 pub returns : goal.returns
 unfolding choice_of_all word_of

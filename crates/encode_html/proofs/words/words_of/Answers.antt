@@ -1,34 +1,35 @@
 -- In each context the four words are computed from what is written for `>`, `"`, `'` and `/`.
 -- Assumes nothing.
+use Rattle.std.proofs.Common.{refl}
 use Rattle.rules.specs.Encoding.{encode_step}
 use Rattle.base.specs.Words.{word_of}
 use Rattle.encode_html.specs.Written.{written}
 use Rattle.encode_html.proofs.words.words_of.Goals as goal
 
-pub returns-in-TextMinimal : goal.returns-in-TextMinimal
+pub new-requires : goal.new-requires
 unfolding word_of written encode_step
-returns-in-TextMinimal c = rw c.in-TextMinimal.is c.new.ensures
+new-requires c = rw c.in-TextMinimal.is (refl, refl, refl, refl, refl, refl)
 
-pub returns-in-Text : goal.returns-in-Text
+pub new-requires-in-Text : goal.new-requires-in-Text
 unfolding word_of written encode_step
-returns-in-Text c = rw c.in-Text.is c.new-in-Text.ensures
+new-requires-in-Text c = rw c.in-Text.is (refl, refl, refl, refl, refl, refl)
 
-pub returns-in-DoubleQuoted : goal.returns-in-DoubleQuoted
+pub new-requires-in-DoubleQuoted : goal.new-requires-in-DoubleQuoted
 unfolding word_of written encode_step
-returns-in-DoubleQuoted c = rw c.in-DoubleQuoted.is c.new-in-DoubleQuoted.ensures
+new-requires-in-DoubleQuoted c = rw c.in-DoubleQuoted.is (refl, refl, refl, refl, refl, refl)
 
-pub returns-in-SingleQuoted : goal.returns-in-SingleQuoted
+pub new-requires-in-SingleQuoted : goal.new-requires-in-SingleQuoted
 unfolding word_of written encode_step
-returns-in-SingleQuoted c = rw c.in-SingleQuoted.is c.new-in-SingleQuoted.ensures
+new-requires-in-SingleQuoted c = rw c.in-SingleQuoted.is (refl, refl, refl, refl, refl, refl)
 
-pub returns-in-Quoted : goal.returns-in-Quoted
+pub new-requires-in-Quoted : goal.new-requires-in-Quoted
 unfolding word_of written encode_step
-returns-in-Quoted c = rw c.in-Quoted.is c.new-in-Quoted.ensures
+new-requires-in-Quoted c = rw c.in-Quoted.is (refl, refl, refl, refl, refl, refl)
 
-pub returns-in-Safe : goal.returns-in-Safe
+pub new-requires-in-Safe : goal.new-requires-in-Safe
 unfolding word_of written encode_step
-returns-in-Safe c = rw c.in-Safe.is c.new-in-Safe.ensures
+new-requires-in-Safe c = rw c.in-Safe.is (refl, refl, refl, refl, refl, refl)
 
-pub returns-in-Unquoted : goal.returns-in-Unquoted
+pub new-requires-in-Unquoted : goal.new-requires-in-Unquoted
 unfolding word_of written encode_step
-returns-in-Unquoted c = rw c.in-Unquoted.is c.new-in-Unquoted.ensures
+new-requires-in-Unquoted c = rw c.in-Unquoted.is (refl, refl, refl, refl, refl, refl)

@@ -1,10 +1,10 @@
 -- `encode_strings::escapes::escape` meets its contract: at every byte but E2 the tests say what the rule says, and at E2 `separator` decides.
 -- Assumes nothing.
+use Rattle.std.specs.Prelude.{Some}
 use mathlib.Core.Path.{◌≡◌}
 use native.Mathlib.Omega.{arith}
 use lib.ListN.{get_or}
 use Rattle.rules.specs.declared.Replacement.TheVariants.{Slashed, Hex}
-use Rattle.rules.specs.declared.Replaced.TheVariants.{By}
 use Rattle.encode_strings.specs.Strings.{single_key, double_key, hex_by, quotes_in}
 use Rattle.encode_strings.proofs.Finds.{found-ruled, found_plain, found-quote, ruled-control, ruled-double, ruled-single, ruled-less, ruled-slash, letter-bounds, hex-held}
 use Rattle.encode_strings.proofs.escapes.escape.Goals as goal
@@ -22,7 +22,7 @@ returns-then-b-lt32 c =
     let a = c₀.args in
     let b = get_or a.rest.now 0 0 in
     let h = c.if-b-lt32.true in
-    rw c.hex_by.ensures (found-ruled a.notation a.quotes a.rest.now (By (hex_by a.notation b)) c₀.requires (λ e. omega arith) (ruled-control a.notation (quotes_in a.notation a.quotes) b (omega arith)), hex-held a.notation b a.rest.now c₀.requires)
+    rw c.hex_by.ensures (found-ruled a.notation a.quotes a.rest.now (Some (hex_by a.notation b)) c₀.requires (λ e. omega arith) (ruled-control a.notation (quotes_in a.notation a.quotes) b (omega arith)), hex-held a.notation b a.rest.now c₀.requires)
 
 pub returns-then-b-le33 : goal.returns-then-b-le33
 returns-then-b-le33 c =
@@ -48,14 +48,14 @@ returns-in-60 c =
     let c₀ = c in
     let a = c₀.args in
     let k : get_or a.rest.now 0 0 ≡ 0x3C = c.in-60.is in
-    (found-ruled a.notation a.quotes a.rest.now (By Hex) c₀.requires (λ e. omega arith) (rw k (ruled-less a.notation (quotes_in a.notation a.quotes))), c₀.requires)
+    (found-ruled a.notation a.quotes a.rest.now (Some Hex) c₀.requires (λ e. omega arith) (rw k (ruled-less a.notation (quotes_in a.notation a.quotes))), c₀.requires)
 
 pub returns-in-92 : goal.returns-in-92
 returns-in-92 c =
     let c₀ = c in
     let a = c₀.args in
     let k : get_or a.rest.now 0 0 ≡ 0x5C = c.in-92.is in
-    (found-ruled a.notation a.quotes a.rest.now (By Slashed) c₀.requires (λ e. omega arith) (rw k (ruled-slash a.notation (quotes_in a.notation a.quotes))), c₀.requires)
+    (found-ruled a.notation a.quotes a.rest.now (Some Slashed) c₀.requires (λ e. omega arith) (rw k (ruled-slash a.notation (quotes_in a.notation a.quotes))), c₀.requires)
 
 pub returns-in-226 : goal.returns-in-226
 returns-in-226 c = (c.separator.ensures.0 _, c.separator.ensures.1)

@@ -2,20 +2,16 @@
 -- what is left of the part.
 -- Assumes nothing.
 use mathlib.Core.Path.{◌≡◌}
-use Prim.Native.Nat.{◌+◌, ◌-◌, ◌≤◌}
-use lib.ListN.{length, drop}
+use Prim.Native.Nat.{◌+◌, ◌≤◌}
+use lib.ListN.{drop}
 use Rattle.encode_strings.specs.Strings.{escaped_of, hexed_of, same_of, total}
 use Rattle.encode_strings.proofs.growth.weigh.Given as goal
 
-abbrev pub invariant-loop-i : goal.invariant-loop-i
-invariant-loop-i l =
-    (l.i ≤ length l.part)
-    × (l.escaped + total (escaped_of l.single l.double) (drop l.i l.part) ≡ total (escaped_of l.single l.double) l.part)
-    × (l.hexed + total hexed_of (drop l.i l.part) ≡ total hexed_of l.part)
-    × (l.n + total (same_of l.odd) (drop l.i l.part) ≡ total (same_of l.odd) l.part)
-    × (l.escaped ≤ l.i)
-    × (l.hexed ≤ l.i)
-    × (l.n ≤ l.i)
-
-abbrev pub decreases-loop-i : goal.decreases-loop-i
-decreases-loop-i l = length l.part - l.i
+abbrev pub invariant-loop-b : goal.invariant-loop-b
+invariant-loop-b l =
+    (l.escaped + total (escaped_of l.single l.double) (drop l.b-index l.part) ≡ total (escaped_of l.single l.double) l.part)
+    × (l.hexed + total hexed_of (drop l.b-index l.part) ≡ total hexed_of l.part)
+    × (l.n + total (same_of l.odd) (drop l.b-index l.part) ≡ total (same_of l.odd) l.part)
+    × (l.escaped ≤ l.b-index)
+    × (l.hexed ≤ l.b-index)
+    × (l.n ≤ l.b-index)

@@ -7,8 +7,8 @@ use Rattle.jobs.specs.Jobs.{rule_by}
 use Rattle.jobs.proofs.Found.{ascii-moves}
 use Rattle.jobs.proofs.work.settled.Goals as goal
 
-pub returns-then-scan-eq0 : goal.returns-then-scan-eq0
+pub returns-in-EncodeAscii : goal.returns-in-EncodeAscii
 unfolding rule_by
-returns-then-scan-eq0 c =
+returns-in-EncodeAscii c =
     let a = c.args in
     rw c.in-EncodeAscii.is (λ t seen. (sym (ascii-moves t a.scan.high seen.0 (search rules)), seen))

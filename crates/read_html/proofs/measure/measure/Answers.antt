@@ -17,7 +17,7 @@ use Rattle.read_units.specs.Units.{length_of, UnitAt}
 use Rattle.read_units.proofs.Turns.{affirmed, before-end, count_next, told-end}
 use Rattle.read_html.proofs.Clearing.{clear-ascii, clear-counts}
 use Rattle.read_html.proofs.measure.measure.Goals as goal
-use Rattle.read_html.proofs.measure.measure.Goals.{After-find_near-mark, Else-not-is_unit}
+use Rattle.read_html.proofs.measure.measure.Goals.{After-find_near-mark, Else-not-is_unit, else-loop-i-test, then-loop-i-test+then-mark-text}
 
 -- Up to the next `&` all is counted,
 
@@ -35,19 +35,8 @@ loop-i-init c = (counted_start _ _, omega arith, λ k l. absurd (omega arith), �
 pub find_near-mark-requires : goal.find_near-mark-requires
 find_near-mark-requires c = let a = c.args in (omega arith, c.loop-i.invariant.0.inside, clear-ascii a.h a.text.now c.requires.1)
 
-pub overflow_sub-result : goal.overflow_sub-result
-overflow_sub-result c = omega (arith, c.loop-i.invariant.1, c.loop-i.invariant.0.inside)
-
-pub returns-then-mark-text : goal.returns-then-mark-text
-returns-then-mark-text c =
-    let a = c.args in
-    λ z. told-end a.h a.text.now c.loop-i.places c.find_near-mark.result c.loop-i.gain c.loop-i.units (clear-ascii a.h a.text.now c.requires.1) (near (goal.at.returns-then-mark-text c).After-find_near-mark) c.if-mark-text.true c.loop-i.invariant.2
-
 pub is_unit-requires : goal.is_unit-requires
 is_unit-requires c = (c.words_of-words.ensures, c.find_near-mark.ensures.within)
-
-pub returns-then-not-is_unit : goal.returns-then-not-is_unit
-returns-then-not-is_unit c = λ z. let never : ◌≡◌ {A = ℕ} 0 1 = cc in absurd (omega arith)
 
 pub keep-requires : goal.keep-requires
 keep-requires c = let h = before-end c.find_near-mark.result (length c.args.text.now) c.find_near-mark.ensures.within c.if-mark-text.false in omega (arith, h, c.requires.0)
@@ -86,11 +75,17 @@ loop-i-preserved c =
       ap length kept ∙ length-set l.places l.units mark ∙ l.invariant.4,
     )
 
-pub overflow_sub-result-2 : goal.overflow_sub-result-2
-overflow_sub-result-2 c = omega (arith, c.loop-i.invariant.1, c.loop-i.invariant.0.inside)
+pub overflow_sub-length : goal.overflow_sub-length
+overflow_sub-length c = omega (arith, c.loop-i.invariant.1, c.loop-i.invariant.0.inside)
 
 pub returns : goal.returns
 returns c =
     let a = c.args in
+    let t = a.text.now in
     let l = c.loop-i in
-    λ z. told-end a.h a.text.now l.places l.i l.gain l.units (clear-ascii a.h a.text.now c.requires.1) l.invariant.0 (omega (arith, l.invariant.0.inside, c.loop-i-test.false)) l.invariant.2
+    elim c.loop-i-test.branch [
+      | else-loop-i-test w ↦ told-end a.h t l.places l.i l.gain l.units (clear-ascii a.h t c.requires.1) l.invariant.0 (omega (arith, l.invariant.0.inside, w.loop-i-test.false)) l.invariant.2
+      | then-loop-i-test+then-mark-text w ↦
+          told-end a.h t l.places w.find_near-mark.result l.gain l.units (clear-ascii a.h t c.requires.1)
+          (clear-counts a.h t c.requires.1 l.i l.gain l.units w.find_near-mark.result l.invariant.0 l.invariant.1 w.find_near-mark.ensures) w.if-mark-text.true l.invariant.2
+    ]

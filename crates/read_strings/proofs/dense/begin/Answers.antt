@@ -1,7 +1,6 @@
 -- `begin` meets its contract: the sums so far are those of the places that are passed, and with no wrong one they are what a loop from backslash to
 -- backslash counts (Starts). The measure is what is left of the text.
 -- Assumes nothing.
-use mathlib.Core.Bool.{true, false}
 use mathlib.Core.Path.{◌≡◌, refl, sym, subst}
 use mathlib.Core.List.{List}
 use Prim.Native.Nat.{ℕ, ◌+◌, ◌-◌, ◌*◌}
@@ -14,7 +13,7 @@ use Rattle.read_strings.proofs.dense.begin.Goals as goal
 pub returns-then-listed-gt0 : goal.returns-then-listed-gt0
 returns-then-listed-gt0 c =
     let a = c.args in
-    ready-none a.language a.quotes a.text.now c.requires.2 a.listed c.none.result c.none.ensures.0 c.none.ensures.1 c.none.ensures.2
+    ready-none a.language a.quotes a.text.now c.requires.2 a.listed c.start.result c.start.ensures.0 c.start.ensures.1 c.start.ensures.2
 
 pub loop-i-init : goal.loop-i-init
 loop-i-init c = (omega arith, refl, refl, refl, refl, refl, omega arith, omega arith, omega arith)
@@ -43,15 +42,10 @@ loop-i-preserved c =
       omega (arith, l.invariant.8),
     )
 
-pub returns-then-wrong-gt0 : goal.returns-then-wrong-gt0
-returns-then-wrong-gt0 c =
-    let never : false ≡ true → ⊥ = λ z. let n : ◌≡◌ {A = ℕ} 0 1 = cc in omega arith in
-    (omega arith, λ z. refl, λ z. absurd (never z), λ r p. (omega arith, omega arith, λ z. absurd (never z)))
-
 pub returns-then-units-eq0 : goal.returns-then-units-eq0
 returns-then-units-eq0 c =
     let a = c.args in
-    ready-none a.language a.quotes a.text.now c.requires.2 a.listed c.none-then-units-eq0.result c.none-then-units-eq0.ensures.0 c.none-then-units-eq0.ensures.1 c.none-then-units-eq0.ensures.2
+    ready-none a.language a.quotes a.text.now c.requires.2 a.listed c.start-then-units-eq0.result c.start-then-units-eq0.ensures.0 c.start-then-units-eq0.ensures.1 c.start-then-units-eq0.ensures.2
 
 pub returns : goal.returns
 returns c =
@@ -63,11 +57,11 @@ returns c =
     let right = subst (λ (ks : List ℕ). sum_to (wrong_at a.language ks t) l.i ≡ 0) c.requires.0 (omega (arith, l.invariant.5, c.if-wrong-gt0.false)) in (
       l.invariant.0,
       λ z. absurd (omega (arith, z, c.if-listed-gt0.false)),
-      λ z y. absurd (c.if-units-eq0.false y),
+      λ y. absurd (c.if-units-eq0.false y),
       λ r p.
           let (g, k) = counted-near a.language a.quotes t c.requires.2 (λ k. (c.shared_slice_known-1.given k).fits) l.i r (subst (λ (x : ℕ). Nearest t (l.i + x) 92 r) l.invariant.1 p) right in (
             omega (arith, g, u, v),
             omega (arith, k.few, u),
-            λ z. recount a.language a.quotes t r (r - (sum_to (start_at t) l.i + sum_to (longer_at t) l.i * 2)) (r - (l.units + l.longer * 2)) (sum_to (start_at t) l.i) l.units (λ j. r - (sym u j + sym v j * 2)) (sym u) k,
+            recount a.language a.quotes t r (r - (sum_to (start_at t) l.i + sum_to (longer_at t) l.i * 2)) (r - (l.units + l.longer * 2)) (sum_to (start_at t) l.i) l.units (λ j. r - (sym u j + sym v j * 2)) (sym u) k,
           ),
     )

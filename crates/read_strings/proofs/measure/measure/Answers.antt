@@ -8,7 +8,7 @@ use Prim.Native.Nat.{ℕ, ◌+◌, ◌-◌, ◌≤◌, ◌<◌}
 use native.Mathlib.Omega.{arith}
 use lib.ListN.{length-set, length}
 use Rattle.rules.proofs.Loops.{from_end}
-use Rattle.rules.specs.Answers.{Measures}
+use Rattle.rules.specs.Answers.{Measures, whole}
 use Rattle.rules.specs.Contexts.{string_of}
 use Rattle.rules.specs.Moves.{through}
 use Rattle.rules.specs.Reading.{read_step}
@@ -25,25 +25,25 @@ use Rattle.read_strings.proofs.Starts.{none_kept}
 use Rattle.read_strings.proofs.Turns.{ruleless, count_next}
 use Rattle.read_strings.proofs.measure.measure.Goals as goal
 
-pub begin-begun-requires : goal.begin-begun-requires
-begin-begun-requires c = (c.keys_of-keys.ensures, c.requires.0, c.requires.1)
+pub begin-requires : goal.begin-requires
+begin-requires c = (c.keys_of-keys.ensures, c.requires.0, c.requires.1)
 
 pub next_mark-i-requires : goal.next_mark-i-requires
-next_mark-i-requires c = (c.begin-begun.ensures.0, λ k b. (c.requires.1 k b).0)
+next_mark-i-requires c = (c.in_ok-begun.ensures.0, λ k b. (c.requires.1 k b).0)
 
 pub loop-i-init : goal.loop-i-init
 loop-i-init c =
     let a = c.args in
     let t = a.text.now in
-    let b = c.begin-begun.result in
-    let e = c.begin-begun.ensures in
+    let b = c.in_ok-begun.begun in
+    let e = c.in_ok-begun.ensures in
     let p = c.next_mark-i.ensures in
     let r = c.next_mark-i.result in
     let f = e.3 r p in (
       λ z. (
-        f.2 z,
+        f.2,
         λ k h s. absurd (omega (arith, h, e.1 (omega arith))),
-        λ y. let u = none_kept b.units (length a.places.now) e.1 y in subst (λ (u : ℕ). Nearest t (start_of length_of t a.places.now u) 92 r) (sym u) (subst (λ (s : ℕ). Nearest t s 92 r) (e.2 z u) p),
+        λ y. let u = none_kept b.units (length a.places.now) e.1 y in subst (λ (u : ℕ). Nearest t (start_of length_of t a.places.now u) 92 r) (sym u) (subst (λ (s : ℕ). Nearest t s 92 r) (e.2 u) p),
       ),
       f.0,
       f.1,
@@ -54,9 +54,6 @@ loop-i-init c =
 
 pub is_unit-whole-requires : goal.is_unit-whole-requires
 is_unit-whole-requires c = (c.keys_of-keys.ensures, c.loop-i-test.true, c.loop-i.invariant.4 c.loop-i-test.true)
-
-pub returns-then-text-i : goal.returns-then-text-i
-returns-then-text-i c = λ z. let never : ◌≡◌ {A = ℕ} 0 1 = cc in absurd (omega arith)
 
 pub next_mark-i-requires-in-loop-i : goal.next_mark-i-requires-in-loop-i
 next_mark-i-requires-in-loop-i c = (omega arith, λ k b. (c.requires.1 k b).0)
@@ -97,9 +94,8 @@ returns c =
     let t = a.text.now in
     let end : l.i ≡ length t = omega (arith, l.invariant.3, c.loop-i-test.false) in
     let none = from_end (byte_step (string_of a.language a.quotes)) t l.i (omega arith) in
-    λ z.
-    let (counted, marked, near) = l.invariant.0 z in (
-      subst (λ (i : ℕ). Measures (record { length = i - l.gain; place = i; replaced = l.units; left = 0; reason = 0 }) (through (read_step (string_of a.language a.quotes)) t)) end
+    let (counted, marked, near) = l.invariant.0 c.if-not-whole.false in (
+      subst (λ (i : ℕ). Measures (whole (i - l.gain) i l.units) (through (read_step (string_of a.language a.quotes)) t)) end
           (read-measures (string_of a.language a.quotes) (ruleless a.language a.quotes) t l.i (l.i - l.gain) l.units (clear-valid a.language a.quotes t c.requires.1) counted none),
       sym (counted-end counted none).2 ∙ end,
       marked,

@@ -8,6 +8,8 @@ use Rattle.rules.specs.Operations.{read_of}
 use Rattle.rules.specs.declared.Context.TheVariants.{InHtml}
 use Rattle.utf8.proofs.Texts.{ascii-valid}
 use Rattle.reader.proofs.Bytewise.{byte-result}
+use Rattle.marks.proofs.Kept.{marked-take}
+use Rattle.read_units.specs.Units.{length_of}
 use Rattle.read_units.specs.Marks.{Rest}
 use Rattle.read_units.proofs.fill.write.Goals as goal
 use Rattle.read_units.proofs.fill.write.Goals.{Start}
@@ -30,7 +32,7 @@ pub returns-then-output-count : goal.returns-then-output-count
 returns-then-output-count c = c.write_steps.ensures ∙ whole (goal.at.returns-then-output-count c).Start
 
 pub write_kept-requires : goal.write_kept-requires
-write_kept-requires c = (c.requires.0, c.requires.1, c.min.ensures.1, λ k l s. c.requires.2 k (omega (arith, l, c.min.ensures.0)) s, size (goal.at.write_kept-requires c).Start)
+write_kept-requires c = (c.requires.0, c.requires.1, marked-take length_of 38 c.args.text.now c.args.places.now _ _ (omega (arith, c.min-kept.ensures)) c.requires.2, size (goal.at.write_kept-requires c).Start)
 
 pub returns : goal.returns
 returns c = c.write_kept.ensures ∙ whole (goal.at.returns c).Start

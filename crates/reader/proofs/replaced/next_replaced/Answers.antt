@@ -12,9 +12,6 @@ use Rattle.base.proofs.Firsts.{free-join, free_step}
 use Rattle.reader.proofs.Scanning.{out-plain, part-plain, whole-replaced}
 use Rattle.reader.proofs.replaced.next_replaced.Goals as goal
 
-pub find-i-requires : goal.find-i-requires
-find-i-requires c = (c.requires.0, search rules)
-
 pub loop-i-init : goal.loop-i-init
 loop-i-init c = (c.find-i.ensures.after, c.find-i.ensures.within, out-plain c.args.leads.now c.args.text.now c.args.from c.find-i.result c.find-i.ensures.none, c.find-i.ensures.here)
 
@@ -26,9 +23,6 @@ returns-then-is_whole c =
     let a = c.args in
     let l = c.loop-i in
     record { after = l.invariant.0; within = l.invariant.1; none = l.invariant.2; here = λ h. whole-replaced a.leads.now a.text.now l.i (l.invariant.3 h) (rw (← lent-rest l.i a.text.now) (sym c.is_whole.ensures ∙ c.if-is_whole.true)) }
-
-pub find-i-requires-in-loop-i : goal.find-i-requires-in-loop-i
-find-i-requires-in-loop-i c = (c.requires.0, search rules)
 
 pub loop-i-preserved : goal.loop-i-preserved
 loop-i-preserved c =

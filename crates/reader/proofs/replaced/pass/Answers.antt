@@ -2,7 +2,6 @@
 -- Assumes nothing.
 use native.Mathlib.Omega.{arith}
 use borrow.Author.Rules.{rules}
-use Rattle.base.proofs.Part.{part_length}
 use Rattle.reader.specs.Replaced.{begins_at}
 use Rattle.base.proofs.Firsts.{free-join}
 use Rattle.reader.proofs.Scanning.{out-part}
@@ -11,18 +10,15 @@ use Rattle.reader.proofs.replaced.pass.Goals as goal
 pub loop-i-init : goal.loop-i-init
 loop-i-init c = (search rules, search rules, λ k h l. absurd (omega arith))
 
-pub count-requires : goal.count-requires
-count-requires c = rw (part_length c.args.text.now c.loop-i.i c.clip-e.result (omega arith) (omega arith)) (search rules)
-
-pub returns-then-count-ne0 : goal.returns-then-count-ne0
-returns-then-count-ne0 c = c.loop-i.invariant
+pub returns-then-has_lead : goal.returns-then-has_lead
+returns-then-has_lead c = c.loop-i.invariant
 
 pub loop-i-preserved : goal.loop-i-preserved
 loop-i-preserved c =
     let a = c.args in
     let l = c.loop-i in
     let clip = c.clip-e in
-    (search rules, search rules, free-join (begins_at a.leads.now a.text.now) a.from l.i clip.result l.invariant.2 (out-part a.leads.now a.text.now l.i clip.result (omega arith) (omega arith) (c.count.ensures c.if-count-ne0.false)))
+    (search rules, search rules, free-join (begins_at a.leads.now a.text.now) a.from l.i clip.result l.invariant.2 (out-part a.leads.now a.text.now l.i clip.result (omega arith) (omega arith) (c.has_lead.ensures c.if-has_lead.false)))
 
 pub returns : goal.returns
 returns c = c.loop-i.invariant

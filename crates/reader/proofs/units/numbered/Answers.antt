@@ -1,24 +1,15 @@
 -- `numbered` meets its contract: the value that is read is that of a byte which is written so, or of none.
 -- Assumes nothing.
-use mathlib.Core.Path.{sym, ◌∙◌}
-use native.Mathlib.Omega.{arith}
-use borrow.Author.Rules.{rules}
-use Rattle.reader.proofs.Narrow.{other-small, finds-other, finds-no-other}
+use Rattle.std.proofs.Common.{◌≡◌, sym, ◌∙◌}
+use Rattle.reader.proofs.Narrow.{finds-other, finds-no-other}
 use Rattle.reader.proofs.units.numbered.Goals as goal
 
-pub packed-requires : goal.packed-requires
-packed-requires c = (search rules, omega (arith, other-small c.hex_between-v.result (sym c.is_other.ensures ∙ c.if-is_other.true)))
+pub returns-in_err-b-clause-finds : goal.returns-in_err-b-clause-finds
+returns-in_err-b-clause-finds c = rw c.from_residual.ensures (finds-no-other c.args.rest.now (λ v e. cc c.in_err-b.ensures))
 
-pub returns-then-is_other : goal.returns-then-is_other
-returns-then-is_other c =
-    let hex-between = c.hex_between-v in
-    let a = c.args in
-    let v = hex-between in
-    let e = sym c.is_other.ensures ∙ c.if-is_other.true in
-    rw c.packed.ensures (finds-other a.rest.now v.result v.ensures.0 e, omega (arith, other-small v.result e))
+pub returns-then-not-is_other-clause-finds : goal.returns-then-not-is_other-clause-finds
+returns-then-not-is_other-clause-finds c =
+    finds-no-other c.args.rest.now (λ v e. let b : c.in_ok-b.b ≡ v = cc c.in_ok-b.ensures in rw (← b) (sym c.is_other.ensures ∙ c.if-not-is_other.true))
 
-pub returns : goal.returns
-returns c =
-    let a = c.args in
-    let hex-between = c.hex_between-v in
-    (finds-no-other a.rest.now hex-between.result hex-between.ensures.0 (sym c.is_other.ensures ∙ c.if-is_other.false), omega arith)
+pub returns-clause-finds : goal.returns-clause-finds
+returns-clause-finds c = finds-other c.args.rest.now c.in_ok-b.b (sym c.in_ok-b.ensures) (sym c.is_other.ensures ∙ c.if-not-is_other.false)

@@ -1,20 +1,21 @@
--- `least` meets its contract. The invariant: the least so far is above 0 only if no byte that is passed is a key. The measure is what is left of the sixteen.
+-- `least` meets its contract. The invariant: where the number is above 0 so far, each byte passed is none of them.
 -- Assumes nothing.
+use Prim.Native.Nat.{◌<◌}
 use native.Mathlib.Omega.{arith}
-use borrow.Author.Rules.{rules}
 use borrow.Author.Count.{below_more}
+use lib.Seq.{length-take-le}
+use Rattle.std.proofs.lemmas.List.{get_or-take}
 use Rattle.plain.proofs.Xors.{lesser-some}
 use Rattle.strings_ahead.proofs.cold.least.Goals as goal
 
-pub loop-i-init : goal.loop-i-init
-loop-i-init c = (search rules, λ e x l. absurd (omega arith))
-
-pub loop-i-preserved : goal.loop-i-preserved
-loop-i-preserved c =
-    let l = c.loop-i in
-    let m = c.low-m in
-    let f = c.far in
-    (search rules, λ e. let both = lesser-some l.m f.result (rw m.ensures at e) in below_more _ _ (l.invariant.1 both.0) (rw f.ensures at both.1))
+pub loop-b-preserved : goal.loop-b-preserved
+loop-b-preserved c =
+    let a = c.args in
+    let l = c.loop-b in
+    let few : l.b-index < 16 = omega (arith, length-take-le 16 a.text.now c.requires) in
+    λ e.
+    let both = lesser-some l.m c.far.result (rw c.min-m.ensures at e) in
+    below_more _ _ (l.invariant both.0) (rw (c.far.ensures, get_or-take 16 a.text.now l.b-index 0 few) at both.1)
 
 pub returns : goal.returns
-returns c = let l = c.loop-i in λ e x h. l.invariant.1 e x (omega arith)
+returns c = λ e x h. c.loop-b.invariant e x (omega (arith, length-take-le 16 c.args.text.now c.requires))

@@ -1,8 +1,0 @@
--- `index` meets its contract: there are at most 64 zeros.
--- Assumes nothing.
-use native.Mathlib.Omega.{arith}
-use lib.Count.{trailing_le}
-use Rattle.find_ascii.proofs.index.Goals as goal
-
-pub overflow_cast-result : goal.overflow_cast-result
-overflow_cast-result c = omega (arith, trailing_le 64 c.args.hits)

@@ -1,7 +1,0 @@
--- Each call is the lesser of two, as in the definition.
--- Assumes nothing.
-use Rattle.plain.proofs.far.Goals as goal
-
-pub returns : goal.returns
-returns c =
-    rw (c.low-7.ensures, c.low-6.ensures, c.low-5.ensures, c.low-4.ensures, c.low-3.ensures, c.low-2.ensures, c.low.ensures)
