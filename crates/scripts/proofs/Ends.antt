@@ -108,13 +108,6 @@ mark-stays Twice a b c at s e =
     let (l, d) = or_off (eqb a 60 && ((eqb b 47 || eqb b 83) || eqb b 47)) ((eqb a 45 && eqb b 45) && eqb c 62) e in
     λ i. end_from (cond (no-end-tag a b c s 47 l i) Once (cond (no-escape-end a b c s d i) Plain Twice)) (at + 1) (b ∷ c ∷ s)
 
--- A mark at the head of a window of three bytes is one at its place in the text.
-pub mark-window : (letter dash : ℕ) (t w : List ℕ) (k : ℕ) → w ≡ take 3 (drop k t) → mark letter dash (get_or w 0 0) (get_or w 1 0) (get_or w 2 0) ≡ false → mark_at letter dash t k ≡ false
-mark-window letter dash t w k e f = rw (at 0 k (omega arith) (omega arith), at 1 (k + 1) (omega arith) (omega arith), at 2 (k + 2) (omega arith) (omega arith)) at f
-  where
-    at : (j p : ℕ) → j < 3 → k + j ≡ p → get_or w j 0 ≡ get_or t p 0
-    at j p l q = ap (λ (x : List ℕ). get_or x j 0) e ∙ get_or-take 3 (drop k t) j 0 l ∙ get_or-drop k t j 0 ∙ ap (λ (n : ℕ). get_or t n 0) q
-
 -- Where none begins in a block, none does in the text there.
 pub marks-in-block : (letter dash : ℕ) (t : List ℕ) (i n : ℕ) → i + n ≤ length t → Free (mark_at letter dash (take n (drop i t))) 0 (n - 2) → Free (mark_at letter dash t) i (i + (n - 2))
 marks-in-block letter dash t i n h f k x y = rw (at (k - i) k (omega arith) (omega arith), at (k - i + 1) (k + 1) (omega arith) (omega arith), at (k - i + 2) (k + 2) (omega arith) (omega arith)) at (f (k - i) (omega arith) (omega arith))

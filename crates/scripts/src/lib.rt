@@ -3,7 +3,7 @@
 // A tag's name is compared letter by letter in either case: std's comparison without case takes slices of one length, and the text may be shorter.
 #![tactic(auto)]
 
-ghost use Rattle.std.specs.Prelude.{false, ◌&&◌, cond, ◌≡◌, ◌-◌, ◌≤◌, ◌<◌, length};
+ghost use Rattle.std.specs.Prelude.{false, ◌&&◌, cond, ◌≡◌, ◌≤◌, ◌<◌, length};
 ghost use Rattle.rules.specs.Bytes.{is};
 ghost use Rattle.rules.specs.ScriptData.{lower, ends_name, spells, ends, dashed, turn, closing_tag};
 ghost use Rattle.rules.specs.Closings.{closing_at, closing_of};
@@ -72,14 +72,15 @@ fn far(letter: u8, dash: u8, a: u8, b: u8, c: u8) -> u8
     ((a ^ b'<') | next).min((a ^ dash) | (b ^ b'-') | (c ^ b'>'))
 }
 
-// Reports whether the mode may change, or the element end, at one of the bytes of a block but its last two. The loop has no early exit, so that it becomes
-// vector code.
+// Reports whether the mode may change, or the element end, at one of the first sixteen bytes of a block, which has two more. The loop has no early exit and
+// as many turns for every block, so that it becomes vector code.
 fn has_mark(block: &[u8], letter: u8, dash: u8) -> bool
-    ensures { result ≡ false → Free (mark_at letter dash block.now) 0 (length block.now - 2) }
+    requires { 18 ≤ length block.now }
+    ensures { result ≡ false → Free (mark_at letter dash block.now) 0 16 }
 {
     let mut m: u8 = 255;
-    for three in block.windows(3) {
-        m = m.min(far(letter, dash, three[0], three[1], three[2]));
+    for j in 0..BLOCK {
+        m = m.min(far(letter, dash, block[j], block[j + 1], block[j + 2]));
     }
     m == 0
 }

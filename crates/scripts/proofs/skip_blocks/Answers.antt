@@ -32,7 +32,7 @@ loop-i-preserved c =
       search rules,
       search rules,
       (λ h. search rules),
-      free-join (mark_at letter dash a.text.now) a.from l.i (l.i + 16) l.invariant.3 (marks-in-block letter dash a.text.now l.i 18 (omega arith) (λ k h m. rw e at (c.has_mark.ensures c.if-has_mark.false k h (omega (arith, m, long))))),
+      free-join (mark_at letter dash a.text.now) a.from l.i (l.i + 16) l.invariant.3 (marks-in-block letter dash a.text.now l.i 18 (omega arith) (λ k h m. rw e at (c.has_mark.ensures c.if-has_mark.false k h m))),
     )
 
 pub returns : goal.returns
@@ -40,3 +40,9 @@ returns c =
     let a = c.args in
     let l = c.loop-i in
     passed-marks a.mode a.text.now _ _ a.from l.i c.letter_of-letter.ensures c.dash_of-dash.ensures l.invariant.0 l.invariant.1 l.invariant.2 l.invariant.3
+
+pub has_mark-requires : goal.has_mark-requires
+has_mark-requires c =
+    let t = c.args.text.now in
+    let l = c.loop-i in
+    omega (arith, length-take-le (l.i + 16 + 2 - l.i) (drop l.i t) (omega (arith, length-drop l.i t)))
