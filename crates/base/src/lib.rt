@@ -11,7 +11,7 @@ ghost use Rattle.std.specs.Prelude.{IfSome, cond, ◌≡◌, ℕ, ◌+◌, ◌�
 ghost use Rattle.rules.specs.Bytes.{over, inside};
 ghost use Rattle.rules.specs.Tables.{letter_or_digit, hex_digit};
 ghost use Rattle.rules.specs.References.{digit, hex_digit_at};
-ghost use Rattle.base.specs.Digits.{found_as, upper_digit, under};
+ghost use Rattle.base.specs.Digits.{found_as, upper_digit, under, upper_of, letter_of, value_with, of_sixteen};
 
 // Copies `bytes` to the start of `output`, leaves the bytes after them as they were, and returns how many they are.
 pub fn put(bytes: &[u8], output: &mut [u8]) -> usize
@@ -119,31 +119,60 @@ pub fn hex_digit(n: u8) -> u8
     if n < 10 { b'0' + n } else { b'A' + (n - 10) }
 }
 
+// Returns a byte 32 lower if it is `a` or above, so that lower-case letters become upper-case ones.
+fn to_upper(byte: u8) -> u8
+    ensures { result ≡ upper_of byte }
+{
+    if b'a' <= byte { byte - 32 } else { byte }
+}
+
+// Returns the value of an upper-case letter that is a hex digit, 255 for any other byte. `A` is 55 + 10.
+fn letter_value(byte: u8) -> u8
+    ensures { result ≡ letter_of byte }
+{
+    if is_within(b'A', b'F', byte) {
+        return byte - 55;
+    }
+    255
+}
+
+// Returns the value of a decimal digit or of an upper-case letter that is a hex digit, 255 for any other byte. It looks for a letter in any case, so that no
+// branch has to guess.
+fn upper_value(byte: u8) -> u8
+    ensures { result ≡ value_with byte byte }
+{
+    let letter = letter_value(byte);
+    if is_within(b'0', b'9', byte) {
+        return byte - b'0';
+    }
+    letter
+}
+
+// Returns a value that is below 16, None for any other.
+fn of_sixteen(value: u8) -> Option<u8>
+    ensures { result ≡ of_sixteen value }
+{
+    if value < 16 { Some(value) } else { None }
+}
+
 // Returns the value of an upper-case hex digit, None for any other byte.
-#[tactic(auto, unfolding(crate::specs::Digits::upper_digit))]
 pub fn upper_digit_value(byte: u8) -> Option<u8>
     ensures value { result ≡ upper_digit byte }
     ensures small { IfSome result (λ n. n < 16) }
 {
-    match byte {
-        b'0'..=b'9' => Some(byte - b'0'),
-        b'A'..=b'F' => Some(byte - b'A' + 10),
-        _ => None,
-    }
+    of_sixteen(upper_value(byte))
 }
 
-// Returns the value of a hex digit of either letter case, None for any other byte.
+// Returns the value of a hex digit of either letter case, None for any other byte. Most are decimal, which one branch tells; which letter it is takes none.
 pub fn digit_value(byte: u8) -> Option<u8>
     ensures value { result ≡ found_as (hex_digit_at byte) }
     ensures decimal { under 10 result ≡ digit byte }
     ensures small { IfSome result (λ n. n < 16) }
 {
-    match byte {
-        b'0'..=b'9' => Some(byte - b'0'),
-        b'A'..=b'F' => Some(byte - b'A' + 10),
-        b'a'..=b'f' => Some(byte - b'a' + 10),
-        _ => None,
+    if is_within(b'0', b'9', byte) {
+        return Some(byte - b'0');
     }
+    of_sixteen(letter_value(to_upper(byte)))
 }
 
 // Returns 1 if a number is at least `least`, else 0.

@@ -5,9 +5,9 @@ ghost use Rattle.rules.specs.Utf8.{utf8};
 ghost use Rattle.rules.specs.References.{renumbering, stands_for, browse_char};
 ghost use Rattle.rules.specs.Browsing.{end_at};
 ghost use Rattle.rules.specs.declared.Kind.{Kind};
-ghost use Rattle.browse_html.specs.Finding.{Finds, Counts};
+ghost use Rattle.browse_html.specs.Finding.{Finds, Counts, entity_at};
 
-use rules::{DecodedEntity, DecodedEntityValue};
+use crate::Single;
 
 // Returns the number of the character that browse gives for a numeric reference. The two tests come first, since nearly every number ends there.
 fn stands_for(number: u32) -> u32
@@ -76,26 +76,25 @@ fn past_end(text: &[u8], at: usize) -> usize
 }
 
 // Reads the number whose digits begin at `from`, behind the `&` at `start` and the mark of its base.
-fn find_digits(base: u32, text: &[u8], start: usize, from: usize) -> Option<DecodedEntity>
+fn find_digits(base: u32, text: &[u8], start: usize, from: usize) -> Option<Single>
     requires { (get_or text.now start 0 ≡ 38) × ((base ≡ 10) ⊎ (base ≡ 16)) × (start < from) × (from ≤ length text.now) × ((kind : Kind) → Counts kind base text.now start from) }
-    ensures { (kind : Kind) → Finds kind text.now start result }
+    ensures { (kind : Kind) → Finds kind text.now start (entity_at start result) }
 {
     let run = decode_html::digits::read_run(base, &text[from..]);
     if run.length == 0 {
         return None;
     }
     let character = browsed(run.number);
-    Some(DecodedEntity {
-        start,
+    Some(Single {
         end: past_end(text, from + run.length),
-        value: DecodedEntityValue::Character(character),
+        character,
     })
 }
 
 // Reads the number behind the `&#` at `start`: hex digits after `x` or `X`, else decimal digits. One call reads both, so that it is compiled in line.
-pub fn find_number(text: &[u8], start: usize) -> Option<DecodedEntity>
+pub fn find_number(text: &[u8], start: usize) -> Option<Single>
     requires { (start + 1 < length text.now) × (get_or text.now start 0 ≡ 38) × (get_or text.now (start + 1) 0 ≡ 35) }
-    ensures { (kind : Kind) → Finds kind text.now start result }
+    ensures { (kind : Kind) → Finds kind text.now start (entity_at start result) }
 {
     let at = start + 2;
     let hex = decode_html::digits::is_hex_mark(*text.get(at)?);

@@ -9,11 +9,18 @@ ghost use Rattle.rules.specs.Browsing.{goes_on, browse_step};
 ghost use Rattle.rules.specs.Answers.{Measures};
 ghost use Rattle.rules.specs.declared.Kind.{Kind};
 ghost use Rattle.decode_html.specs.Taking.{Gives};
-ghost use Rattle.browse_html.specs.Finding.{Named, Unended, Finds, blocked_in};
+ghost use Rattle.browse_html.specs.Finding.{Named, Unended, Finds, entity_at, blocked_in};
 
 mod digits;
 
 use rules::{DecodedEntity, DecodedEntityValue, Kind, Measured};
+
+// A number or a name without `;`, which stand for one character: where it ends, and the number of the character.
+#[derive(Clone, Copy)]
+pub struct Single {
+    pub end: usize,
+    pub character: u32,
+}
 
 // Reports whether `=` or an ASCII letter or digit stands at an offset.
 fn goes_on(text: &[u8], at: usize) -> bool
@@ -58,9 +65,9 @@ fn find_ended(text: &[u8], start: usize) -> Option<DecodedEntity>
 }
 
 // Reads the name without `;` behind the `&` at `start`, where no name with its `;` stands.
-fn find_bare(kind: Kind, text: &[u8], start: usize) -> Option<DecodedEntity>
+fn find_bare(kind: Kind, text: &[u8], start: usize) -> Option<Single>
     requires { (start < length text.now) × (get_or text.now start 0 ≡ 38) × Named (drop (start + 1) text.now) }
-    ensures { Finds kind text.now start result }
+    ensures { Finds kind text.now start (entity_at start result) }
 {
     let first = start + 1;
     let name = names_bare::find(&text[first..])?;
@@ -68,17 +75,16 @@ fn find_bare(kind: Kind, text: &[u8], start: usize) -> Option<DecodedEntity>
     if is_blocked(kind, text, end) {
         return None;
     }
-    Some(DecodedEntity {
-        start,
+    Some(Single {
         end,
-        value: DecodedEntityValue::Character(name.character),
+        character: name.character,
     })
 }
 
 // Reads the number or the name without `;` behind the `&` at `start`, where no name with its `;` stands.
-fn find_single(kind: Kind, text: &[u8], start: usize) -> Option<DecodedEntity>
+fn find_single(kind: Kind, text: &[u8], start: usize) -> Option<Single>
     requires { (start < length text.now) × (get_or text.now start 0 ≡ 38) × Unended text.now start }
-    ensures { Finds kind text.now start result }
+    ensures { Finds kind text.now start (entity_at start result) }
 {
     match text.get(start + 1) {
         Some(b'#') => digits::find_number(text, start),
@@ -94,7 +100,14 @@ fn find_reference(kind: Kind, text: &[u8], start: usize) -> Option<DecodedEntity
 {
     match find_ended(text, start) {
         Some(found) => Some(found),
-        None => find_single(kind, text, start),
+        None => {
+            let single = find_single(kind, text, start)?;
+            Some(DecodedEntity {
+                start,
+                end: single.end,
+                value: DecodedEntityValue::Character(single.character),
+            })
+        }
     }
 }
 

@@ -23,11 +23,14 @@ pub fn digit(base: u32, byte: u8) -> Option<u32>
     }
 }
 
-// Returns a number, or the ceiling if it is above.
+// Returns a number, or the ceiling if it is above. By a test, which is guessed right, and not by `min`, for which each digit would wait.
 pub fn ceiling(number: u32) -> u32
     ensures { result ≡ ceiling_of number }
 {
-    number.min(CEILING)
+    if number <= 0x10FFFF {
+        return number;
+    }
+    CEILING
 }
 
 // The digits at the head of some bytes: their number, which stays at the ceiling once it is above the last character, and how many they are.

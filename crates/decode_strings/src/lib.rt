@@ -28,7 +28,8 @@ fn closes_element(language: Language, rest: &[u8]) -> bool
 }
 
 // Reads one of the two escapes of older pages, which count after a `<` in the input: `\!--` yields `!` for the `\!`, and `\/` yields `/` before the
-// element's name and a terminator.
+// element's name and a terminator. In line, since most bytes before an escape are no `<`.
+#[inline(always)]
 fn after_less(language: Language, before: u8, rest: &[u8]) -> Option<Escape>
     ensures { (escape_move rest.now result ≡ after_less (name_of language) before rest.now) × Within result rest.now }
 {

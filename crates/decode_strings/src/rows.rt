@@ -58,7 +58,8 @@ pub fn is_hexed(language: Language, v: u32) -> bool
     }
 }
 
-// Reads the hex escape at the start of `rest`, if the string writes its byte so.
+// Reads the hex escape at the start of `rest`, if the string writes its byte so. In line where it is called, so that what was read stays in registers.
+#[inline(always)]
 pub fn hex_row(language: Language, rest: &[u8]) -> Option<Escape>
     ensures { Finds (hex_rows language) rest.now result }
 {

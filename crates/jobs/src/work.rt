@@ -12,7 +12,7 @@ ghost use Rattle.jobs.specs.Jobs.{rule_by, counted_for, Fits, Low, Seen, Judged}
 use crate::job::Job;
 use encode_html::Scan;
 use readers::general;
-use rules::{Html, Left, Measured};
+use rules::{Html, Language, Left, Measured, Notation};
 
 // How a call on a valid text passes: nothing is replaced, with the first reference that stays; or
 // the result is to be written. Two ways to pass, no Option: neither is an absence.
@@ -127,11 +127,24 @@ fn measure(job: Job, scan: Scan, text: &[u8]) -> Measured
 {
     match job {
         Job::EncodeHtml(_) => { Measured::whole(text.len() + scan.grow, text.len(), scan.replaced) }
-        Job::EncodeString(notation, quotes) => encode_strings::measure(notation, quotes, text),
+        Job::EncodeString(Notation::Script, quotes) => {
+            encode_strings::measure(Notation::Script, quotes, text)
+        }
+        Job::EncodeString(Notation::Style, quotes) => {
+            encode_strings::measure(Notation::Style, quotes, text)
+        }
+        Job::EncodeString(Notation::Json, quotes) => {
+            encode_strings::measure(Notation::Json, quotes, text)
+        }
         Job::EncodeRaw => by_ones(encode_raw::measure(text), text.len()),
         Job::EncodeAscii => encode_ascii::measure(text),
         Job::DecodeReferences => decode_html::measure(text),
-        Job::DecodeString(language, quotes) => decode_strings::measure(language, quotes, text),
+        Job::DecodeString(Language::Script, quotes) => {
+            decode_strings::measure(Language::Script, quotes, text)
+        }
+        Job::DecodeString(Language::Style, quotes) => {
+            decode_strings::measure(Language::Style, quotes, text)
+        }
         Job::DecodeJson => decode_json::measure(text),
         Job::BrowseReferences(kind) => browse_html::measure(kind, text),
         Job::Read(context) => general::measure_read(context, text),
@@ -174,14 +187,23 @@ pub fn write(job: Job, scan: Scan, text: &[u8], output: &mut [u8]) -> Measured
             let length = encode_html::write(h, text, scan.grow, output);
             Measured::whole(length, text.len(), scan.replaced)
         }
-        Job::EncodeString(notation, quotes) => {
-            strings_ahead::write(notation, quotes, text, output)
+        Job::EncodeString(Notation::Script, quotes) => {
+            strings_ahead::write(Notation::Script, quotes, text, output)
+        }
+        Job::EncodeString(Notation::Style, quotes) => {
+            strings_ahead::write(Notation::Style, quotes, text, output)
+        }
+        Job::EncodeString(Notation::Json, quotes) => {
+            strings_ahead::write(Notation::Json, quotes, text, output)
         }
         Job::EncodeRaw => by_ones(encode_raw::write(text, output), text.len()),
         Job::EncodeAscii => encode_ascii::write(text, output),
         Job::DecodeReferences => decode_html::write(text, output),
-        Job::DecodeString(language, quotes) => {
-            decode_strings::write(language, quotes, text, output)
+        Job::DecodeString(Language::Script, quotes) => {
+            decode_strings::write(Language::Script, quotes, text, output)
+        }
+        Job::DecodeString(Language::Style, quotes) => {
+            decode_strings::write(Language::Style, quotes, text, output)
         }
         Job::DecodeJson => decode_json::write(text, output),
         Job::BrowseReferences(kind) => browse_html::write(kind, text, output),

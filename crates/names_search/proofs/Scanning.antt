@@ -1,19 +1,19 @@
 -- A name is looked up in a lent table row by row, by the rows that are left of it.
 -- Assumes nothing.
-use mathlib.Core.Bool.{true, false, ◌&&◌}
+use mathlib.Core.Bool.{true, false, ◌&&◌, true≢false}
 use mathlib.Core.Logic.{◌⊎◌, inl, inr}
 use mathlib.Core.Option.{none, some}
 use mathlib.Core.Path.{◌≡◌, refl, sym, ◌∙◌, subst}
 use mathlib.Core.List.{List, [], ◌∷◌}
-use Prim.Native.Nat.{ℕ, ◌≤◌}
+use Prim.Native.Nat.{ℕ, ◌-◌, ◌≤◌}
 use lib.Dec.{T, leb, eqb, leb→le}
-use lib.ListN.{length, take, drop}
+use lib.ListN.{length, take, drop, get_or}
 use lib.Pointwise.{pointwise}
 use native.Mathlib.Omega.{arith}
 use borrow.Author.Tests.{eq-eqb}
 use Rattle.rules.specs.Bytes.{first, same_bytes}
 use Rattle.rules.specs.References.{lookup}
-use Rattle.rules.proofs.Tests.{and_left, and_right}
+use Rattle.rules.proofs.Tests.{is_false, and_left, and_right, same_bytes_lem}
 use Rattle.names_search.specs.Lent.{code_bytes, rows_of, is_table}
 
 -- What `==` says of two slices is what `same_bytes` does.
@@ -22,6 +22,13 @@ pointwise-same [] [] = refl
 pointwise-same [] (y ∷ b) = refl
 pointwise-same (x ∷ a) [] = refl
 pointwise-same (x ∷ a) (y ∷ b) = rw (pointwise-same a b)
+
+-- Two names of which one is longer, or that end with other bytes, are not the same.
+pub unlike : (a b : List ℕ) → false ≡ (eqb (length a) (length b) && eqb (get_or a (length b - 1) 0) (get_or b (length b - 1) 0)) → false ≡ pointwise eqb a b
+unlike a b d = sym (pointwise-same a b ∙ is_false (same_bytes a b) (λ t. true≢false (sym (end (same_bytes_lem a b t)))))
+  where
+    end : a ≡ b → false ≡ true
+    end e = rw (e, eq-eqb (length b) (length b) refl, eq-eqb (get_or b (length b - 1) 0) (get_or b (length b - 1) 0) refl) at d
 
 -- The rows passed are not the name's; those that are left have the bytes `rest`, the lengths ls and the values vs.
 pub record Scanned (name bytes lengths values rest ls vs : List ℕ) : Type 0 where

@@ -2,7 +2,7 @@
 // number of the value of each. The names of one table begin with the same byte, which it does not have.
 #![tactic(auto)]
 
-ghost use Rattle.std.specs.Prelude.{◌≡◌, ◌∷◌, ℕ, ◌≤◌, get_or, IsTrue};
+ghost use Rattle.std.specs.Prelude.{◌≡◌, ◌∷◌, ℕ, ◌≤◌, ◌-◌, ◌&&◌, eqb, length, get_or, IsTrue};
 ghost use Rattle.rules.specs.References.{lookup};
 ghost use Rattle.rules.specs.Answers.{value_bytes, meaning_bytes};
 ghost use Rattle.names_search.specs.Lent.{code_bytes, rows_of, is_table};
@@ -30,6 +30,16 @@ pub fn byte_at(part: &[u8], place: usize) -> u8
     }
 }
 
+// Reports whether two names have as many bytes and the same last one. Names of one table often begin alike and seldom end alike, so that nearly every row
+// that is not the name fails here, before `==` is asked, which may call the library.
+#[inline(always)]
+fn ends_alike(other: &[u8], name: &[u8]) -> bool
+    ensures { result ≡ (eqb (length other.now) (length name.now) && eqb (get_or other.now (length name.now - 1) 0) (get_or name.now (length name.now - 1) 0)) }
+{
+    let last = name.len().saturating_sub(1);
+    other.len() == name.len() && byte_at(other, last) == byte_at(name, last)
+}
+
 // Returns the value that a table has as a number of two bytes: the number of a character, that of one above FFFF hex less so much that it fits, or that
 // of a listed value. With the list in line `find` is too long to be compiled into each of its callers.
 fn value_of(code: u16) -> DecodedEntityValue
@@ -53,7 +63,7 @@ impl Table<'_> {
         let mut rest = self.names;
         for (length, value) in self.lengths.iter().zip(self.values) {
             let (other, later) = rest.split_at(*length as usize);
-            if other == name {
+            if ends_alike(other, name) && other == name {
                 return Some(value_of(*value));
             }
             rest = later;

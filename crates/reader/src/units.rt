@@ -107,7 +107,8 @@ fn html_unit(h: Html, set: &[u64; 4], text: &[u8], at: usize) -> Option<Escape>
     Some(unit)
 }
 
-// Reads the unit of a script or style string at the start of `rest`.
+// Reads the unit of a script or style string at the start of `rest`. In line in the loops that read units, where what a call gives would go through memory.
+#[inline(always)]
 fn row_at(language: Language, quotes: Quotes, rest: &[u8]) -> Option<Escape>
     ensures { Finds (rows (string_of language quotes)) rest.now result }
 {
@@ -134,7 +135,8 @@ fn json_hex(rest: &[u8]) -> Option<Escape>
     })
 }
 
-// Reads the unit of a JSON string at the start of `rest`.
+// Reads the unit of a JSON string at the start of `rest`, in line as `row_at` is.
+#[inline(always)]
 fn json_row(rest: &[u8]) -> Option<Escape>
     ensures { Finds (rows InJson) rest.now result }
 {

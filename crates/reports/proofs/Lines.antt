@@ -94,6 +94,23 @@ line-room i r =
       digits-length 20 r,
     )
 
+-- No reference stays from place i on: there is no line, and from a place within the text a report of no bytes that goes on to the text's end says so.
+pub none_left : (t out : List ℕ) (i : ℕ) → lefts_in reference_step i (drop i t) ≡ [] → (lines_from t i ≡ []) × (i < size t → Reported t i 0 (size t) out out)
+none_left t out i none = (
+  ap left_lines none,
+  λ h.
+      let ended : lefts_in reference_step (size t) (drop (size t) t) ≡ [] = rw (drop_of_length-le t {i = size t} (omega arith)) in
+      record {
+        lines = [];
+        splits = ap left_lines none ∙ sym (ap left_lines ended);
+        long = refl;
+        holds = refl;
+        fits = omega arith;
+        on = h;
+        within = omega arith;
+      },
+)
+
 -- A reference stays: its line, and then those from behind its `&` on.
 pub one_left : (t out₀ out : List ℕ) (i k : ℕ) (l : Left) → NextLeft t i l → k ≡ size (line_of l.place (reason_number l.reason))
     → out ≡ over (line_of l.place (reason_number l.reason)) out₀ → Reported t i k (l.place + 1) out₀ out

@@ -13,7 +13,6 @@ ghost use Rattle.encode_strings.specs.Strings.{single_key, double_key};
 ghost use Rattle.strings_ahead.specs.Ahead.{copies, Table, Reached};
 
 use crate::cold::least;
-use crate::words;
 use encode_strings::{escapes, rule};
 use rules::{Measured, Notation, Quotes};
 
@@ -23,27 +22,26 @@ const PART: usize = 16;
 // Bytes of a text that are left to the exact way: as many as a turn takes, and as it overwrites.
 const LEFT: usize = 40;
 
-// What is written for each byte of a string: its notation and its quotes, the quotes that it escapes one by one, and the words of all bytes. A call on a long
-// text makes it once.
+// What is written for each byte of a string: its notation and its quotes, the quotes that it escapes one by one, and the words of all bytes, a table that is
+// lent. A call on a long text makes it once.
 #[derive(Clone, Copy)]
-pub struct Words {
+pub struct Words<'a> {
     pub notation: Notation,
     pub quotes: Quotes,
     pub single: u8,
     pub double: u8,
-    pub table: [u64; 256],
+    pub table: &'a [u64; 256],
     ghost single_right: { single ≡ single_key notation quotes },
     ghost double_right: { double ≡ double_key notation quotes },
-    ghost table_right: { Table notation quotes table },
+    ghost table_right: { Table notation quotes table.now },
 }
 
-impl Words {
-    // Returns those of a string.
-    pub fn of(notation: Notation, quotes: Quotes) -> Words
+impl<'a> Words<'a> {
+    // Returns those of a string, whose table is lent.
+    pub fn of(notation: Notation, quotes: Quotes, table: &'a [u64; 256]) -> Words<'a>
+        requires { Table notation quotes table.now }
         ensures { (result.notation ≡ notation) × (result.quotes ≡ quotes) }
     {
-        let mut table: [u64; 256] = [0x0100_0000_0000_0000; 256];
-        words::fill(notation, quotes, &mut table);
         Words {
             notation,
             quotes,

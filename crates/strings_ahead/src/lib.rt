@@ -19,13 +19,23 @@ use rules::{Measured, Notation, Quotes};
 // A text above this length is written by a table of the words of all bytes, which takes longer to make than it saves on a shorter one.
 const LONG: usize = 4096;
 
+// Does the same as `write` for a long text: the table of words stands here, and is lent.
+fn write_long(notation: Notation, quotes: Quotes, text: &[u8], output: &mut [u8]) -> Measured
+    requires { (16 ≤ length text.now) × (length text.now ≤ 65536) × (length (encode_of (written_in notation quotes) text.now) ≤ length output.old) }
+    ensures { Measures result (through (encode_step (written_in notation quotes)) text.now) × (output.new ≡ over (encode_of (written_in notation quotes) text.now) output.old) }
+{
+    let mut table: [u64; 256] = [0x0100_0000_0000_0000; 256];
+    words::fill(notation, quotes, &mut table);
+    Words::of(notation, quotes, &table).write(text, output)
+}
+
 // Writes the escaped text to the start of `output`, leaves the bytes after it as they were, and returns what `encode_strings::measure` does.
 pub fn write(notation: Notation, quotes: Quotes, text: &[u8], output: &mut [u8]) -> Measured
     requires { (length text.now ≤ 65536) × (length (encode_of (written_in notation quotes) text.now) ≤ length output.old) }
     ensures { Measures result (through (encode_step (written_in notation quotes)) text.now) × (output.new ≡ over (encode_of (written_in notation quotes) text.now) output.old) }
 {
     if LONG < text.len() {
-        return Words::of(notation, quotes).write(text, output);
+        return write_long(notation, quotes, text, output);
     }
     encode_strings::write(notation, quotes, text, output)
 }

@@ -6,13 +6,12 @@ use Prim.Native.Nat.{ℕ}
 use native.Mathlib.Omega.{arith}
 use lib.ListN.{length}
 use Rattle.rules.specs.Bytes.{over}
-use Rattle.rules.specs.Program.{left_lines}
 use Rattle.reports.specs.Lines.{line_of}
-use Rattle.reports.proofs.Lines.{one_left}
+use Rattle.reports.proofs.Lines.{none_left, one_left}
 use Rattle.reports.proofs.report.Goals as goal
 
 pub returns-in_err-left : goal.returns-in_err-left
-returns-in_err-left c = rw c.from_residual.ensures (ap left_lines c.in_err-left.ensures, refl)
+returns-in_err-left c = rw c.from_residual.ensures ((none_left c.args.text.now c.args.output.now c.args.from c.in_err-left.ensures).0, refl)
 
 pub overflow_add-result : goal.overflow_add-result
 overflow_add-result c = omega (arith, c.in_ok-left.ensures.1)
