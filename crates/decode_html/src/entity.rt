@@ -1,6 +1,6 @@
 // The reader of the reference at an `&`.
 // Text and the offset of the `&` stand in each contract: a caller has them from its cursor, for one call each.
-ghost use Rattle.std.specs.Prelude.{cond, ◌≡◌, ◌+◌, ◌≤◌, ◌<◌, IfSome, MatchResult, length, get_or};
+ghost use Rattle.std.specs.Prelude.{cond, ◌≡◌, ◌≢◌, ◌+◌, ◌≤◌, ◌<◌, MatchResult, length, get_or};
 ghost use Rattle.rules.specs.References.{reference_step};
 ghost use Rattle.decode_html.specs.Taking.{Gives, Stays};
 ghost use Rattle.decode_html.specs.Bodies.{Begun, EndsAt, Known, known_value};
@@ -31,14 +31,14 @@ fn length_if(test: bool, size: usize) -> usize
     0
 }
 
-// Returns the length of the reference at `start` if it is `&lt;`, `&gt;` or `&amp;`, the most frequent ones. It searches neither the `;` nor the table,
-// and adds two products of tests instead of branching, so that text full of references costs no wrongly guessed branch.
-fn known_length(text: &[u8], start: usize) -> Option<usize>
+// Returns the length of the reference at `start` if it is `&lt;`, `&gt;` or `&amp;`, the most frequent ones, else 0. It searches neither the `;` nor the table,
+// and adds two products of tests instead of branching, so that text full of references costs no wrongly guessed branch: an Option made here costs two.
+fn known_length(text: &[u8], start: usize) -> usize
     requires { start ≤ length text.now }
-    ensures { IfSome result (Known text.now start) }
+    ensures { result ≢ 0 → Known text.now start result }
 {
     if text.len() - start < 5 {
-        return None;
+        return 0;
     }
     let a = text[start + 1];
     let b = text[start + 2];
@@ -46,11 +46,7 @@ fn known_length(text: &[u8], start: usize) -> Option<usize>
     let d = text[start + 4];
     let angle = ((a == b'l') | (a == b'g')) & ((b == b't') & (c == b';'));
     let ampersand = (a == b'a') & ((b == b'm') & ((c == b'p') & (d == b';')));
-    let length = length_if(angle, 4) + length_if(ampersand, 5);
-    if length == 0 {
-        return None;
-    }
-    Some(length)
+    length_if(angle, 4) + length_if(ampersand, 5)
 }
 
 // Returns the packed value of such a reference by the first letter of its name.
@@ -132,9 +128,10 @@ fn find_body(text: &[u8], start: usize) -> Result<DecodedEntity, Reason>
     if letter == b'#' {
         return find_number(text, start);
     }
-    let Some(length) = known_length(text, start) else {
+    let length = known_length(text, start);
+    if length == 0 {
         return find_name(text, start);
-    };
+    }
     Ok(DecodedEntity {
         start,
         end: start + length,

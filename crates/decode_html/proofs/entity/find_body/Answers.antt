@@ -4,4 +4,6 @@ use Rattle.decode_html.proofs.Known.{known-gives}
 use Rattle.decode_html.proofs.entity.find_body.Goals as goal
 
 pub returns : goal.returns
-returns c = rw c.known_value.ensures (known-gives c.args.text.now c.args.start c.in-Some.length c.requires.0 c.in-Some.ensures)
+returns c =
+    let n = c.known_length-length in
+    rw c.known_value.ensures (known-gives c.args.text.now c.args.start n.result c.requires.0 (n.ensures c.if-length-eq0.false))
